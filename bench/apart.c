@@ -1,6 +1,6 @@
-/* Trustees apart beside the one call, in one run, as timing.h says.
+/* A trustee on its own machine compared with the single call, in one run, as timing.h says.
  *     apart K D N    prints microseconds of jugy_trustees for 3 trustees, of one trustee's rounds 0 to R, and of levels
- * A trustee does R + 1 calls, each with all its tests, so its share costs more than a third of the one call. */
+ * A trustee makes R + 1 calls, each with all its tests, so its work costs more than a third of the single call. */
 #include "jury.h"
 #include "../tests/library_c/dealing.h"
 #include "timing.h"
@@ -22,7 +22,7 @@ static size_t together(void) {
                          JUGY_TRUSTEES_ANSWER);
 }
 
-/* Trustee p, with the sums that the one call left: a sum that is not due yet is not looked at. */
+/* Trustee p, with the sums that the single call left: a sum that is not due yet is not read. */
 static size_t alone(size_t p) {
     size_t answer[JUGY_LEVELS_ANSWER];
     const uint8_t *mine = dealt + 3 * j.marks * p;

@@ -1,4 +1,4 @@
-/* Times a run for 64 juries beside as many calls of jugy_run, one a jury, in one process. Every call makes all its
+/* Times a run for 64 juries against 64 calls of jugy_run, one for each jury, in one process. Every call makes all its
  * tests and empties its wire table. Packing the juries into numbers is not counted: it is done before.
  *   batch    K D N GATES BATCH_NS SINGLES_NS RATIO a line, as timing.h says; the ratio says how many times faster the
  *            batch is

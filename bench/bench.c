@@ -1,5 +1,5 @@
-/* Times write, test, run and count of the core beside the same work in C (core.c), in one run.
- *   bench same    compares the results of both at every graded shape there is
+/* Times write, test, run and count of the core against the same work in C (core.c), in one run.
+ *   bench same    compares the results of both for every graded shape
  *   bench times   OP K D N GATES CORE_NS C_NS RATIO a line, as timing.h says
  *   bench counts  one call each between callgrind's dumps, labelled OP-K-D-N-WHO
  * Each pair's results are compared first. */

@@ -74,13 +74,6 @@ static uint32_t chain(struct writer *w, uint32_t kind, uint32_t last, uint32_t a
     return last;
 }
 
-static uint32_t each(struct writer *w, uint32_t kind, uint32_t x, uint32_t digits) {
-    uint32_t n = (uint32_t)w->wire;
-    for (uint32_t i = 0; i < digits; i++)
-        emit(w, kind, x + i, 0, 0);
-    return n;
-}
-
 static uint32_t choose(struct writer *w, uint32_t f, uint32_t x, uint32_t y, uint32_t digits) {
     uint32_t n = (uint32_t)w->wire;
     for (uint32_t i = 0; i < digits; i++)
@@ -106,9 +99,9 @@ static uint32_t level(struct writer *w, uint32_t s, uint32_t at, uint32_t stride
 
 static uint32_t adders_of(uint32_t count, uint32_t e) { return (count + e + 1) / 2; }
 
-static uint32_t counter(struct writer *w, uint32_t at, uint32_t stride, uint32_t count, uint32_t extra,
-                        uint32_t levels) {
-    uint32_t sums[MOST_DIGITS];
+/* `sums` are the wires of the digits. */
+static void count_levels(struct writer *w, uint32_t at, uint32_t stride, uint32_t count, uint32_t extra,
+                         uint32_t levels, uint32_t *sums) {
     for (uint32_t i = 0; i < levels; i++, extra /= 2) {
         uint32_t n = (uint32_t)w->wire;
         sums[i] = level(w, at, at + stride, stride, extra % 2, count - 1);
@@ -117,39 +110,43 @@ static uint32_t counter(struct writer *w, uint32_t at, uint32_t stride, uint32_t
         count = adders_of(count - 1, extra % 2);
     }
     sums[levels] = at;
-    return side_by_side(w, sums, levels + 1);
 }
 
-static uint32_t accumulator(struct writer *w, uint32_t word, uint32_t at, uint32_t stride, uint32_t count,
-                            uint32_t levels) {
-    uint32_t sums[MOST_DIGITS];
-    for (uint32_t i = 0; i < levels; i++) {
-        uint32_t n = (uint32_t)w->wire;
-        sums[i] = level(w, word + i, at, stride, 0, count);
-        at = n + 2;
-        stride = 3;
-        count = adders_of(count, 0);
-    }
-    sums[levels] = chain(w, XOR, word + levels, at, stride, count);
-    return side_by_side(w, sums, levels + 1);
+/* A word of the key: low digits of one kind, a top digit of the other. */
+static void key_word(struct writer *w, const uint32_t *sums, uint32_t digits, uint32_t low, uint32_t top) {
+    for (uint32_t i = 0; i < digits; i++)
+        emit(w, low, sums[i], 0, 0);
+    emit(w, top, sums[digits], 0, 0);
 }
 
-/* A candidate's running sums, and its key: of each sum the low digits, and whether the median grade is worse. */
+/* What a running sum counts: wires a stride apart. */
+struct row {
+    uint32_t at, stride;
+};
+
+/* A row of sums modulo 2: whether a ballot gives one of these grades, since it gives one grade. */
+static struct row next_row(struct writer *w, struct row before, uint32_t bits, uint32_t stride, uint32_t n) {
+    struct row next = {(uint32_t)w->wire, 1};
+    for (uint32_t i = 0; i < n; i++)
+        emit(w, XOR, before.at + i * before.stride, bits + i * stride, 0);
+    return next;
+}
+
+/* A candidate's running sums, and its key: of each sum the low digits, and whether the median grade is worse. The last
+ * sum is told by the worst grade's count. */
 static uint32_t candidate(struct writer *w, const struct plan *p, uint32_t c) {
-    const uint32_t bits = c * p->d, stride = p->k * p->d, digits = p->digits;
-    uint32_t sums[MOST_GRADES];
-    sums[0] = counter(w, bits, stride, p->n, p->offset, digits);
-    for (uint32_t g = 1; g < p->d - 2; g++)
-        sums[g] = accumulator(w, sums[g - 1], bits + g, stride, p->n, digits);
-    if (p->d > 2) {
-        uint32_t worst = counter(w, bits + p->d - 1, stride, p->n, p->worst, digits);
-        sums[p->d - 2] = each(w, NOT, worst, digits + 1);
-    }
+    const uint32_t bits = c * p->d, stride = p->k * p->d, digits = p->digits, last = p->d - 2;
+    uint32_t sums[MOST_GRADES][MOST_DIGITS];
+    struct row rows[MOST_GRADES] = {{bits, stride}};
+    for (uint32_t g = 1; g < last; g++)
+        rows[g] = next_row(w, rows[g - 1], bits + g, stride, p->n);
+    for (uint32_t g = 0; g < last; g++)
+        count_levels(w, rows[g].at, rows[g].stride, p->n, p->offset, digits, sums[g]);
+    count_levels(w, bits + p->d - 1, stride, p->n, p->worst, digits, sums[last]);
     uint32_t key = (uint32_t)w->wire;
-    for (uint32_t g = 0; g < p->d - 1; g++) {
-        each(w, COPY, sums[g], digits);
-        emit(w, NOT, sums[g] + digits, 0, 0);
-    }
+    for (uint32_t g = 0; g < last; g++)
+        key_word(w, sums[g], digits, COPY, NOT);
+    key_word(w, sums[last], digits, NOT, COPY);
     return key;
 }
 
@@ -373,8 +370,8 @@ static void circuit(struct writer *w, const struct plan *p) {
 }
 
 /* G alone, for the test of the table's length. */
-static size_t counter_gates(uint32_t count, uint32_t extra, uint32_t levels) {
-    size_t gates = levels + 1;
+static size_t levels_gates(uint32_t count, uint32_t extra, uint32_t levels) {
+    size_t gates = 0;
     for (uint32_t i = 0; i < levels; i++, extra /= 2) {
         count = adders_of(count - 1, extra % 2);
         gates += 3 * count;
@@ -382,21 +379,10 @@ static size_t counter_gates(uint32_t count, uint32_t extra, uint32_t levels) {
     return gates;
 }
 
-static size_t accumulator_gates(uint32_t count, uint32_t levels) {
-    size_t gates = levels + 1;
-    for (uint32_t i = 0; i < levels; i++) {
-        count = adders_of(count, 0);
-        gates += 3 * count;
-    }
-    return gates + count;
-}
-
 static size_t candidate_gates(const struct plan *p) {
-    size_t gates = counter_gates(p->n, p->offset, p->digits) + key_gates(p);
-    if (p->d > 2)
-        gates += (p->d - 3) * accumulator_gates(p->n, p->digits) + counter_gates(p->n, p->worst, p->digits)
-                 + p->digits + 1;
-    return gates;
+    size_t rows = p->d == 2 ? 0 : p->d - 3;
+    return rows * p->n + (p->d - 2) * levels_gates(p->n, p->offset, p->digits)
+           + levels_gates(p->n, p->worst, p->digits) + key_gates(p);
 }
 
 static size_t versus_gates(uint32_t digits) { return 3 * digits - 2; }

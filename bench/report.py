@@ -10,18 +10,18 @@ import textwrap
 
 HERE = pathlib.Path(__file__).parent
 OPS = ["write", "test", "run", "count"]
-# The most that a time ratio should be.
+# The largest time ratios that we accept.
 GOALS = {"write": 2.0, "test": 1.1, "run": 1.1, "count": 1.1}
 URN_GOAL = 1.2
 TEXT_GOAL = 1.1
-# Of eight juries in rounds of 4,096 gates, beside undivided runs.
+# The same for eight juries in rounds of 4,096 gates, compared with undivided runs.
 DISPATCH_GOAL = (4096, 1.1)
 # How many times faster 64 juries at once should be; request 2.11 asks for 8.
 BATCH_GOAL, BATCH_ASKED = 32, 8
 
 
 def read_times(folder, words):
-    """By the first words of a line: gates, the least times, the middle ratio, and the middle of whatever follows.
+    """By the first words of a line: gates, the least times, the median ratio, and the median of whatever follows.
 
     Each line is there once for each place of the code.
     """
@@ -52,7 +52,7 @@ def read_counts(folder):
 
 
 def table_of(columns, rows, found=None, what="Time ratios above their goal"):
-    """A table, its first columns words and the others numbers; below it a sentence that names what misses its goal."""
+    """A table whose first columns are words and the others numbers, and a sentence that names what misses its goal."""
     words, numbers = columns
     head, *body = ["| " + " | ".join(map(str, line)) + " |" for line in [[*words, *numbers], *rows]]
     text = "\n".join([head, "|" + "---|" * len(words) + "--:|" * len(numbers), *body])
@@ -71,7 +71,7 @@ INSTRUCTIONS = ["core, instructions", "C, instructions", "ratio"]
 
 
 def calls_table(times, counts):
-    """Write, test, run and count beside C."""
+    """Write, test, run and count compared with C."""
     rows, above = [], []
     for (op, *numbers), (gates, core, c, ratio) in sorted(times.items(), key=lambda row: OPS.index(row[0][0])):
         a, b, shape = counts[op, tuple(numbers), "core"], counts[op, tuple(numbers), "c"], shape_of(numbers)
@@ -98,7 +98,7 @@ def urn_table(folder):
 
 
 def urn_run_table(folder):
-    """The run on an urn, and the run on the same ballots, both beside the run on an urn in C."""
+    """The run on an urn, and the run on the same ballots, both compared with the run on an urn in C."""
     rows, above = [], []
     for numbers, (gates, core, c, ratio, plain) in read_times(folder, 3).items():
         rows.append([shape_of(numbers), gates, micro(core), micro(c), f"{ratio:.2f}", URN_GOAL, f"{plain:.2f}"])
@@ -128,12 +128,12 @@ def trustees_table(folder):
     for (trustees, *numbers), (gates, core, c, ratio) in times.items():
         growth = [f"{core / times[(2, *numbers)][1]:.2f}", f"{trustees / 2:.2f}"]
         rows.append([shape_of(numbers), gates, trustees, micro(core), micro(c), f"{ratio:.2f}", *growth])
-    columns = ["shape"], ["gates", "trustees", "core, µs", "C, µs", "time ratio", "time beside 2", "trustees beside 2"]
+    columns = ["shape"], ["gates", "trustees", "core, µs", "C, µs", "time ratio", "time / time of 2", "trustees / 2"]
     return table_of(columns, rows)
 
 
 def dispatch_table(folder):
-    """Eight juries in rounds beside their undivided runs, and whether the goal is met."""
+    """Eight juries in rounds compared with undivided runs, and whether the goal is met."""
     share, goal = DISPATCH_GOAL
     rows, above = [], []
     for (gates_per_round,), (gates, core, undivided, ratio) in read_times(folder, 1).items():
@@ -146,7 +146,7 @@ def dispatch_table(folder):
 
 
 def batch_table(folder):
-    """A run for 64 juries beside 64 single runs of the same library, and whether the goal is met everywhere."""
+    """A run for 64 juries compared with 64 single runs of the same library, and whether the goal is met everywhere."""
     rows, below = [], []
     for numbers, (gates, batch, singles, faster) in read_times(folder, 3).items():
         rows.append([shape_of(numbers), gates, micro(batch), micro(singles), f"{faster:.1f}", BATCH_GOAL, BATCH_ASKED])
@@ -217,7 +217,7 @@ def machine():
 
 
 def commit():
-    """The commit measured, so that figures of lists that have changed since can be told from today's."""
+    """The commit that was measured, since lists may have changed after it."""
     described = subprocess.run(
         ["git", "describe", "--always", "--dirty"], cwd=HERE, capture_output=True, text=True, check=False
     )
@@ -227,21 +227,21 @@ def commit():
 INTRODUCTION = """\
 # The core against the same work in C
 
-Made by `bench/run` on {machine}, at commit {commit}. C is `bench/core.c` by
-`gcc -O2`, with the same tests made.
+Made by `bench/run` on {machine}, at commit {commit}. C is `bench/core.c`,
+compiled by `gcc -O2`; it makes the same tests.
 
 - A time is the processor time of one call, the least over 201 short rounds of many calls each.
-- The time ratio is the middle one of the rounds' ratios: both take turns round by round, so that a slow stretch of the
-  machine meets both. It may differ a little from the quotient of the two least times.
-- All of this is done at four places of the library's code, 16 bytes apart, since a loop's time depends on where it
-  stands: the times are the least, the ratio lies in the middle of the four. So are all tables below.
-- The goal is the most that the time ratio should be. Writing may take twice the time of C. The core first works out
-  how long the list will be, so that a refusal alters nothing: of a graded list by adding up the spans of its parts, as
-  C does by a formula; of a ranked one by writing it into an empty table.
-- Instructions are those of one call, counted by callgrind, and repeat.
+- The time ratio is the median of the rounds' ratios. Core and C take turns round by round, so that a slow stretch of
+  the machine slows both. The ratio may differ a little from the quotient of the two least times.
+- A loop's time depends on its address. So each program is linked with the library at four addresses, 16 bytes apart:
+  times are the least of the four, ratios the median. This holds for all tables below.
+- The goal is the largest time ratio that we accept. Writing may take twice the time of C, because the core first works
+  out how long the list will be, so that a refusal changes nothing: for a graded list it adds up the sizes of its
+  parts; a ranked one it writes into an empty table.
+- Instructions are those of one call, counted by callgrind. They are the same in every run.
 """
 
-# Title, what is to be said, and the name of the table.
+# Title, text, and the name of the table.
 SECTIONS = [
     (
         "The urn",
@@ -251,27 +251,27 @@ SECTIONS = [
     ),
     (
         "The run on an urn",
-        "C is `bench/urn_run.c`. The urn is full but for one slot. The last column is `run` on the same ballots, "
-        "beside the same C.",
+        "C is `bench/urn_run.c`. The urn has one free slot. The last column is the ratio of `run` on the same ballots "
+        "to the same C.",
         "urn_run",
     ),
     ("Lists as text", "C is `bench/text.c`. Shapes with 0 grades are rankings.", "text"),
-    ("Trustees", "C is `bench/trustees.c`. The dealing is made before, and tested in every call.", "trustees"),
+    ("Trustees", "C is `bench/trustees.c`. The dealing is made beforehand, and tested in every call.", "trustees"),
     (
         "A trustee on its own machine",
-        "One of three trustees, all its rounds together, beside the one call for all three. A round goes through the "
-        "whole list, so it takes longer to compute; what it saves is a message for each gate.",
+        "All rounds of one of three trustees, compared with the single call for all three. A round goes through the "
+        "whole list, so this takes longer to compute; what it saves is a message for each gate.",
         "apart",
     ),
     (
         "Eight juries in rounds",
-        "Beside eight undivided runs of the same library. The shapes are in `bench/dispatch.c`.",
+        "Compared with eight undivided runs of the same library. The shapes are in `bench/dispatch.c`.",
         "dispatch",
     ),
     (
         "The run for 64 juries",
-        "Beside 64 single runs of the same library. Every call makes all its tests and empties its wire table. Packing "
-        "the juries into numbers is not counted: the fair draws them packed. Shapes with 0 grades are rankings.",
+        "Compared with 64 single runs of the same library. Every call makes all its tests and empties its wire table. "
+        "Packing the juries into numbers is not timed: the fair draws them packed. Shapes with 0 grades are rankings.",
         "batch",
     ),
 ]

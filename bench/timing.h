@@ -1,6 +1,6 @@
-/* Times and instruction counts for the benchmark's programs. There are several ways to do one piece of work, way 0 being what the
- * others are measured by. A time is processor time, the least of many short rounds. The ways take turns round by round, and a ratio
- * is the middle one of the rounds' ratios, so that a slow stretch of the machine meets all of them. */
+/* Times and instruction counts for the benchmark's programs. There are several ways to do one piece of work; the
+ * others are compared with way 0. A time is processor time, the least of many short rounds. The ways take turns round
+ * by round, and a ratio is the median of the rounds' ratios, so that a slow stretch of the machine slows all. */
 #ifndef TIMING_H
 #define TIMING_H
 
@@ -14,7 +14,7 @@ enum { MOST_WAYS = 4, MOST_ROUNDS = 201 };
 /* Does the work once, one way; what it returns is 0, or the call was refused. */
 typedef size_t work(int way);
 
-/* Of one way: the least time of a call, in seconds, and the ratio to way 0. */
+/* One way's least time of a call, in seconds, and its ratio to way 0. */
 struct timing {
     double least, ratio;
 };
@@ -40,7 +40,7 @@ static inline int by_size(const void *a, const void *b) {
     return (x > y) - (x < y);
 }
 
-/* Each round has as many calls of each way as way 0 makes in so many seconds, and at least one. */
+/* Each round has as many calls of each way as way 0 makes in this many seconds, and at least one. */
 static inline void take_turns(work *call, int ways, int rounds, double length, struct timing *timings) {
     double took[MOST_WAYS][MOST_ROUNDS], ratios[MOST_WAYS][MOST_ROUNDS];
     size_t calls = (size_t)(length / (timed(call, 0, 3) + 1e-8)) + 1;
@@ -56,7 +56,7 @@ static inline void take_turns(work *call, int ways, int rounds, double length, s
     }
 }
 
-/* Behind the words that say what was done: how many gates, the least times in nanoseconds, and the ratio. */
+/* Prints, after the words that say what was done, the gates, the least times in nanoseconds, and the ratio. */
 static inline void print_times(size_t gates, double time, double other, double ratio) {
     printf(" %zu %.1f %.1f %.4f", gates, 1e9 * time, 1e9 * other, ratio);
 }

@@ -1,8 +1,8 @@
-/* Times the calls on an urn beside the tests' reference in C, in one run.
+/* Times the calls on an urn against the tests' reference in C, in one run.
  *   urn times    OP K D SLOTS BALLOTS CORE_NS C_NS RATIO a line, as timing.h says
  *   urn counts   one call each between callgrind's dumps, labelled OP-K-D-SLOTS-WHO
- * Answers and urns of both are compared first. Half of the slots hold ballots; the juror withdrawn is the last of the chain. What a call
- * altered is put back after it, which is three slots, in both alike. */
+ * Answers and urns of both are compared first. Half of the slots hold ballots; the juror withdrawn is the last of the
+ * chain. After each call the three slots that it may have changed are restored, for both alike. */
 #include "../c/jugyvaros.h"
 #include "../tests/library_c/urn_reference.h"
 #include "timing.h"

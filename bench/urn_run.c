@@ -1,15 +1,15 @@
-/* Times a run on an urn beside the same work in C, in one run.
- *     urn_run    K D N GATES CORE_NS C_NS RATIO RUN_RATIO a line, as timing.h says, the last of jugy_run on the same
- *                ballots beside the same C
- * Wire tables and boards of all are compared first. The urn is full but for one slot, and its chain goes through the slots
- * backwards. The file core.c is taken in whole, for its tests and its gates. */
+/* Times a run on an urn against the same work in C, in one run.
+ *     urn_run    K D N GATES CORE_NS C_NS RATIO RUN_RATIO a line, as timing.h says; the last is the ratio of jugy_run
+ *                on the same ballots to the same C
+ * Wire tables and boards of all are compared first. The urn has one free slot, and its chain goes through the slots
+ * backwards. The file core.c is included whole, for its tests and its gates. */
 #include "core.c"
 #include "jury.h"
 #include "timing.h"
 
 static const size_t shapes[][3] = {{2, 3, 3}, {3, 4, 10}, {5, 5, 31}, {5, 6, 100}, {8, 7, 254}};
 
-/* The number of ballots in the urn, or 256 where it is not sound. */
+/* The number of ballots in the urn, or 256 if it is not sound. */
 static size_t ballots_in(size_t k, size_t d, const uint8_t *urn, size_t length) {
     size_t size = 2 + k * d, slots = length / size, met = 0, ballots = 0;
     uint8_t marks[256] = {0}, jurors[256] = {0};

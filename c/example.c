@@ -6,7 +6,7 @@
 #include <sys/random.h>
 #include "jugyvaros.h"
 
-/* Ends the program where a call was not accepted. */
+/* Ends the program if a call was refused. */
 static void accepted(const char *call, size_t status, const size_t *answer) {
     if (status == 0)
         return;

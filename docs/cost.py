@@ -1,7 +1,7 @@
 """Makes the cost sheet, docs/COST.md, and its plot, docs/cost.svg, from the lists that the core writes.
 
-    python3 docs/cost.py          builds the library where a source is newer, and writes both
-    python3 docs/cost.py --check  fails where the two files are not what the library makes
+    python3 docs/cost.py          builds the library if a source is newer, and writes both
+    python3 docs/cost.py --check  fails if the two files are out of date
 """
 import math
 import pathlib
@@ -27,7 +27,7 @@ def measure(shape):
 
 
 def bound(k, d, n):
-    """The bound on G, with what request 2.1 adds; of a ranking, that of request 2.2."""
+    """The bound on G, with what request 2.1 adds; for a ranking, that of request 2.2."""
     w = n.bit_length()
     if d == 0:
         return 2 * k * k * n * w + k**3 * (12 * w + 4) + k * k * (20 * w + 20) + 2
@@ -55,21 +55,22 @@ def lent(shape, costs):
 
 HEAD = """# What a jury costs
 
-Made by `python3 docs/cost.py` from the lists that the core writes; `tests/library` fails where this page is another.
-Each conditional gate costs the sealing layer one opening, so C is the price of a jury, and the rounds, the longest
-chain of conditional gates, say how often its openings wait for each other.
+`python3 docs/cost.py` makes this page from the lists that the core writes, and `tests/library` fails if it is out of
+date. Each conditional gate costs the sealing layer one opening, so C is the price of a jury. Rounds are the
+multiplicative depth, the longest chain of conditional gates: gates of one depth can be opened together. The
+[glossary](../README.md#words) has the other letters.
 """
 NOTES = """
 - **Bound on G**: 2kdnw + kd(30w + 20) + k²(20w + 6d + 20) + 2 + kd(400w + 400).
-- **CGY's gates**: Cortier, Gaudry and Yang (A toolbox for verifiable tally-hiding e-voting systems, 2021), figure 3,
-  price their majority judgment under ElGamal at 60nkda + 40kmda(10 + d) exponentiations with a authorities, and a
-  conditional gate at 20a (figure 9): 3nkd + 2kmd(10 + d) conditional gates, m being the width w. These are the leading
-  terms.
-- **CGY's rounds**: the same row's communications, read as the sum m(m + 1) + d(6m + 2 log k log m); the first term is
-  the aggregation's.
-- **A run is lent**: 16 G bytes of list, I of ballots, C of tape, I + G of wires, C + k of board.
+- **CGY's gates**: Cortier, Gaudry and Yang (A toolbox for verifiable tally-hiding e-voting systems, 2021) evaluate
+  majority judgment under ElGamal encryption. With a authorities it costs them 60nkda + 40kmda(10 + d) exponentiations
+  (figure 3), where m is our width w, and a conditional gate costs 20a (figure 9). So it costs as much as
+  3nkd + 2kmd(10 + d) conditional gates. They give leading terms only.
+- **CGY's rounds**: the communications in the same row, read as the sum m(m + 1) + d(6m + 2 log k log m). The first
+  term is for the aggregation.
+- **A run is lent** 16 G bytes of list, I of ballots, C of tape, I + G of wires and C + k of board.
 
-Rankings, d = 0, by Schulze's rule:
+Rankings (d = 0), by Schulze's rule:
 """
 END = """
 - **Bound on G**: 2k²nw + k³(12w + 4) + k²(20w + 20) + 2.
@@ -89,7 +90,7 @@ def head(columns):
 
 
 def own_cells(shape, cost):
-    """What the own list of a shape costs, beside the bound on its gates."""
+    """What the own list of a shape costs, and the bound on its gates."""
     gates, conditional, inputs, rounds = cost
     numbers = [gates, conditional, rounds, inputs, 16 * gates, lent(shape, cost), bound(*shape)]
     return [" ".join(map(str, shape)), *(f"{x:,}" for x in numbers), f"{100 * gates / bound(*shape):.0f} %"]

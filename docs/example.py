@@ -71,24 +71,26 @@ def page():
 
 TEXT = """# An example: two blends, two grades, one juror
 
-Made by `python3 docs/example.py` from the list that the core writes; the gate fails where this page is another.
+`python3 docs/example.py` makes this page from the list that the core writes, and `tests/library` fails if it is out of
+date.
 
-The shape is 2 2 1: k = 2 candidates, d = 2 grades, n = 1 ballot. A ballot is two rows of two bytes, so there are I = {inputs} ballot
-bytes, wires w0 to w{last}: w0 is 1 if blend 0 has the better grade, w1 if it has the worse one, and w2, w3 say the same of
-blend 1. Gate g makes wire w{inputs} + g.
+The shape is 2 2 1: k = 2 candidates, d = 2 grades, n = 1 ballot. A ballot is two rows of two bytes, so there are
+I = {inputs} ballot bytes. They are the wires w0 to w{last}: w0 is 1 if blend 0 has the better grade, w1 if it has the worse one;
+w2 and w3 say the same about blend 1. Gate g makes wire {inputs} + g.
 
 ## The own list
 
-The core generates a circuit of G = {count} gates, of which C = {conditional} {are} conditional; its depth is {levels} {rounds}. On the left
-stands the text that `tools/list` prints: the kind, then the operands that it uses. On the right are the wires of two juries:
-A, whose juror likes both blends (ballot {first}), and B, whose juror likes neither ({second}). In both the blends are equal, so both win.
+The core generates a circuit of G = {count} gates, of which C = {conditional} {are} conditional; its depth is {levels} {rounds}.
+The first column has the text that `tools/list write 2 2 1` prints: the kind, then the operands that it uses. The last two
+have the wires of two juries: A, whose juror likes both blends (ballot {first}), and B, whose juror likes neither
+({second}). In each jury the blends are equal, so both win.
 
 | line | wire | published | A | B |
 |---|---|---|--:|--:|
 {rows}
 
-Gates of kind 0, 1, 2, 3 and 6 are free: constants, copies, complements and sums modulo 2. Kinds 4, 5 and 7 multiply. Whoever
-evaluates the list under encryption has to open one masked bit for each of them, and that bit goes on the board.
+Gates of kind 0, 1, 2, 3 and 6 are free: constants, copies, complements and sums modulo 2. Kinds 4, 5 and 7 multiply.
+Whoever evaluates the list under encryption has to open one masked bit for each of them, and that bit goes on the board.
 
 ## The board under a tape
 
@@ -104,9 +106,9 @@ publishes its first operand plus its own tape bit, modulo 2, and the last two wi
     tape of B    {counterpart}
     board of B   {board}
 
-A mask can turn any bit into any other: tape bit i of B has to be board byte i plus B's own wire, modulo 2, so there is
-one such tape and no second one. In this small list the only wire that is shown happens to be the same for both juries, and
-so is the tape. A jury of three jurors and three grades shows more. Here are two of them in which blend 0 wins:
+A mask can turn a bit into either value: bit i of B's tape has to be board byte i plus B's own wire, modulo 2. So there
+is exactly one such tape. In this small list the only wire that is shown happens to be the same for both juries, and so is
+the tape. Juries with three jurors and three grades show more. In both of these blend 0 wins:
 
     ballots of A {larger_first}
     ballots of B {larger_second}
@@ -114,25 +116,25 @@ so is the tape. A jury of three jurors and three grades shows more. Here are two
     tape of B    {larger_counterpart}
     common board {larger_board}
 
-A tape is drawn at random, so both tapes are equally likely, and the board says nothing about which of the two juries sat.
-That is demand 3, for every list and every two juries with equal closing bytes.
+A tape is drawn at random, so both tapes are equally likely, and the board does not reveal which of the two juries voted.
+Demand 3 says so for every list and every two juries with equal closing bytes.
 
-With other winners there is no such tape: a juror who likes blend 0 alone ({other}) gives the closing bytes {other_closing}, and
-no mask hides those.
+If the winners differ there is no such tape: a juror who likes only blend 0 ({other}) gives the closing bytes
+{other_closing}, which no mask hides.
 
 Try it with juries of your own: `tools/board A.txt B.txt`.
 
 ## A stranger's list
 
-Any list of at least k gates whose operands point back is accepted for a shape, whoever wrote it. This one is accepted for
-2 2 1 and says for each blend whether it has the better grade:
+Any list of at least k gates whose operands name earlier wires is accepted for a shape, whoever wrote it. This one is
+accepted for 2 2 1 and tells for each blend whether it has the better grade:
 
     4 0 0
     2 2
 
-Its first gate is conditional (w4 = w0 and w0), so its board has one masked bit and two closing bytes. It is no jury's
-rule, and nothing says that its closing bytes name a winner: demand 2 speaks of the own list only. Demand 3 holds of it all
-the same: its board reveals its closing bytes and nothing else.
+Its first gate is conditional (w4 = w0 and w0), so its board has one masked bit and two closing bytes. It follows no
+rule, so its closing bytes need not name winners: demand 2 is only about own lists. Demand 3 holds for it all the same:
+its board reveals its closing bytes and nothing else about the ballots.
 """
 
 

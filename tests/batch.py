@@ -49,7 +49,7 @@ class Tester:
         self.rng = random.Random(64)
 
     def check(self, shape, table, words, tape, wires=None, board=None, single=True):
-        """One call: its answer, and of an accepted one every jury beside its single run and beside the reference."""
+        """One call: its answer and, if it is accepted, every jury against its single run and the reference."""
         k, d, n = shape
         gates = doc.gates_of(table)
         count = doc.conditional_count(gates)
@@ -59,7 +59,7 @@ class Tester:
         said, wires_after, board_after = self.core.run(shape, table, words, tape, wires, board, "jugy_run_batch", "Q")
         assert said == doc.answer(fault, table), (shape, said, fault)
         if fault is not None:
-            return                                           # Core.call has seen that a refusal alters nothing
+            return                                           # Core.call has tested that a refusal changes nothing
         assert wires_after == [0] * len(wires), shape
         for j in range(JURIES):
             ballots, bits = lane(j, words), lane(j, tape)
@@ -94,14 +94,14 @@ class Tester:
             self.check((1, 2, 1), flat(gates), words_of(self.juries((1, 2, 1))), [])
 
     def all_ones(self):
-        """Every jury the same ballot, and a tape of ones: words of all bits, for which reasons 5 and 8 do not ask."""
+        """All juries have one ballot, and the tape is all ones: full words, which reasons 5 and 8 do not refuse."""
         shape, table = (1, 2, 1), flat([(1, 0, 0, 0), (4, 0, 2, 0), (5, 1, 3, 0), (7, 0, 3, 4)])
         for ballot in ([ALL, 0], [0, ALL]):
             self.check(shape, table, ballot, [ALL] * 3)
             self.check(shape, table, ballot, [0] * 3)
 
     def bad_rows(self):
-        """An empty row, and rows with two and three ones, in each jury alone, first row and last; then in two."""
+        """An empty row, and rows with two and three ones, in each single jury, first row and last; then in two."""
         shape, table = (2, 3, 2), flat([(4, 0, 1, 0)] * 2)
         good, tape = self.juries(shape), self.tape(table)
         for j in range(JURIES):
@@ -117,7 +117,7 @@ class Tester:
         self.check(shape, table, [ALL] * 12, tape, single=False)
 
     def bad_rankings(self):
-        """A clash, on the diagonal and off it, and a gap, in each jury alone, first ballot and last; then in two."""
+        """Faults 11 (on the diagonal and off it) and 12, in each single jury, first ballot and last; then in two."""
         shape, table = (3, 0, 2), flat([(4, 0, 1, 0)] * 3)
         good, tape = self.juries(shape), self.tape(table)
         clashes, gap = ([1] + [0] * 8, [0, 1, 0, 1, 0, 0, 0, 0, 0]), [0, 1, 0] + [0] * 6
@@ -157,7 +157,7 @@ class Tester:
             self.check(**{**plain, **dict(changes)}, single=False)
 
     def short_answers(self):
-        """An answer array that is too short: status 255, and nothing is altered, of a good call and of a bad one."""
+        """An answer array that is too short: status 255, and nothing changes, for a good call and for a bad one."""
         table, words = flat([(4, 0, 1, 0)]), words_of(self.juries((1, 2, 1)))
         for tape in ([ALL], []):
             lent = [numbers(table), Lent("Q", words), Lent("Q", tape), output([OLD] * 3, "Q"), output([OLD] * 2, "Q")]

@@ -1,7 +1,7 @@
 """The exported functions, for tests in Python, through the package that everybody else uses (python/jugyvaros).
 
-The package finds, builds and declares them. What it would lend is replaced here by buffers with guards on both sides,
-and every call is held to leaving the guards, and what is lent for reading, as they were.
+The package finds, builds and declares them. Here its buffers are replaced by ones with guards on both sides, and every
+call is tested to leave the guards, and what is lent for reading, as they were.
 """
 
 import array
@@ -40,7 +40,7 @@ class Lent:
         return self.data.tobytes() == self.before
 
     def is_kept(self):
-        """The guards stand, and where it is lent for reading its items too."""
+        """Tests that the guards are unchanged, and the items too if they are lent for reading."""
         if not self.written:
             return self.is_as_before()
         ends = self.data[:len(self.GUARD)].tobytes(), self.data[-len(self.GUARD):].tobytes()
@@ -73,7 +73,7 @@ class Core:
         self.answers = collections.defaultdict(collections.Counter)
 
     def raw(self, name, *arguments, answers):
-        """The status with the whole answer array, of any length. Guards, and what is lent for reading, have to stay."""
+        """The status with the whole answer array, of any length. Guards and what is only read must not change."""
         self.calls += 1
         answer = output([OLD] * answers, "L")
         prepared = []
@@ -84,7 +84,7 @@ class Core:
         return status, answer.items()
 
     def call(self, name, *arguments, answers):
-        """A call with an answer array as long as the function needs. A refusal alters nothing else that is lent."""
+        """A call with an answer array as long as the function needs. A refusal must change nothing else."""
         status, (reason, place, *values) = self.raw(name, *arguments, answers=answers)
         assert status == reason and (reason == 0 or reason in REASONS), (name, status, reason)
         self.answers[name][reason] += 1
@@ -95,7 +95,7 @@ class Core:
         return ["accepted", *values]
 
     def saw(self, **reasons):
-        """How often each function gave each answer, in words; it gave just these reasons, and was accepted too."""
+        """How often each function gave each answer, in words. It must have given just these reasons, and accepted."""
         for name, wanted in reasons.items():
             found = set(self.answers[f"jugy_{name}"])
             assert found == {0, *wanted}, (name, sorted(found), sorted(wanted))
@@ -105,7 +105,7 @@ class Core:
         return ", ".join(f"{reason}: {many}" for reason, many in sorted(self.answers[f"jugy_{name}"].items()))
 
     def ignores_short_answers(self, name, *arguments, answers):
-        """With an answer array that is shorter than it needs, a function returns 255 and alters nothing at all."""
+        """With an answer array that is shorter than it needs, a function returns 255 and changes nothing at all."""
         for length in range(answers):
             assert self.raw(name, *arguments, answers=length) == (SHORT_ANSWER, [OLD] * length), (name, length)
             assert all(lent.is_as_before() for lent in arguments if isinstance(lent, Lent)), (name, length)

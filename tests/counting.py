@@ -19,7 +19,7 @@ HUGE = 2 ** 64 - 1
 
 
 class Case:
-    """A jury: its ballots byte for byte, or made from one grade a row, a grade of d making a row of zeros."""
+    """A jury: its ballot bytes, or rows made from one grade each; the grade d makes a row of zeros."""
 
     def __init__(self, k, d, n, ballots=None, grades=None):
         self.k, self.d, self.n = k, d, n
@@ -53,7 +53,7 @@ def panels():
 
 
 def with_any_grades(k, d, n):
-    """A jury that is accepted where its shape is."""
+    """A jury that is accepted if its shape is."""
     return Case(k, d, n, grades=[i * 5 % d for i in range(k * n)])
 
 
@@ -62,7 +62,7 @@ def set_row(case, place, bad):
 
 
 def shapes():
-    """Limits from both sides. What lies outside has ballots that would fit, so that nothing else turns it away."""
+    """Limits from both sides. Shapes outside them have ballots that would fit, so that no other reason applies."""
     for k, d, n in itertools.product((1, 8), (2, 7), (1, 255)):
         yield with_any_grades(k, d, n)
     for k, d, n in [(9, 2, 1), (9, 7, 3), (1, 1, 1), (8, 1, 2), (1, 8, 1), (3, 8, 2), (1, 2, 256), (2, 3, 256),
@@ -109,7 +109,7 @@ def bad_rows():
     yield Case(1, 2, 2, ballots=[0, 0, 2, 1])                # 5 before 6: the last ballot has a byte 2, row 0 no 1
 
 
-# In an order in which a later fault leaves an earlier one in place as far as it can.
+# In an order in which a later fault does not undo an earlier one, as far as possible.
 FAULTS = [
     lambda c: set_row(c, 0, [0, 0, 0]),
     lambda c: set_row(c, 0, [1, 0, 1]),
@@ -144,7 +144,7 @@ def pairs_of_faults():
 
 
 def random_juries(rng):
-    # 21 sizes a shape and four styles: each size meets every style.
+    # 21 sizes a shape and four styles, so each size comes with every style.
     styles = itertools.cycle([uniform, tied, peaked, level])
     for k, d in itertools.product(range(1, 9), range(2, 8)):
         for n in EDGE_SIZES:

@@ -3,7 +3,7 @@
 
     python3 tests/dispatch.py    prints how many calls there were, by reason
 
-Rounds of 1 gate, of a divisor of G, of G and of more; one long jury beside seven short ones; tables longer by 0, 1 and
+Rounds of 1 gate, of a divisor of G, of G and of more; one long jury with seven short ones; tables longer by 0, 1 and
 many; pieces that are one too short in the first, a middle and the last jury; a stated G of 2 ^ 62; each fault in two
 juries at once; numbers of juries and of gates a round outside their limits; headers that are missing. Every table has
 guards on both sides.
@@ -42,7 +42,7 @@ class Jury:
 
 
 class Call:
-    """All that a call is handed, as lists; extra is what each table has behind the last piece."""
+    """All arguments of a call, as lists; `extra` is how much each table has after the last piece."""
 
     def __init__(self, juries, gates_per_round, extra=0, count=None, missing=0):
         self.count = len(juries) if count is None else count
@@ -130,7 +130,7 @@ def bad_juries(jury):
         yield "row", but(ballots=[0] * len(jury.ballots))
     else:
         yield "clash", but(ballots=[1] * len(jury.ballots))
-    if not jury.d and jury.k > 2:                            # candidate 0 before candidate 1, and a third beside both
+    if not jury.d and jury.k > 2:                            # candidate 0 before candidate 1, a third tied with both
         yield "gap", but(ballots=[0, 1] + [0] * (len(jury.ballots) - 2))
     if jury.tape:
         yield "tape byte", but(tape=[2] + jury.tape[1:])
@@ -154,7 +154,7 @@ class Tests:
         return Jury(self.rng, k, grades, n, gates if gates is not None else k + self.rng.randrange(40))
 
     def accepted(self):
-        """Every number of juries with rounds of many sizes, and one long jury beside seven short ones."""
+        """Every number of juries with rounds of many sizes, and one long jury with seven short ones."""
         for count, extra, gates in itertools.product(range(1, 9), (0, 1, 50), (1, 2, 5, 7, 64, 4096, 65536)):
             self.check(Call([self.jury() for _ in range(count)], gates, extra))
         for gates in (1, 3, 4, 12, 13, 24, 25):              # divisors of 24, and their neighbours

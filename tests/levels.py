@@ -1,4 +1,4 @@
-"""Levels of a list, through the library, against a model written apart.
+"""Levels of a list, through the library, against an independent model.
 
     python3 tests/levels.py    prints how many calls there were, by answer
 
@@ -17,7 +17,7 @@ ANSWER = 5
 
 
 def depths(inputs, gates):
-    """Each gate's level: paths are walked back from the gate, so that no table is shared with the core's way."""
+    """Each gate's level, by walking back from the gate; the core goes forward over a table."""
     known = {}
     for g, (kind, *operands) in enumerate(gates):
         used = [x - inputs for x in operands[:doc.OPERANDS[kind]] if x >= inputs]

@@ -1,6 +1,6 @@
-"""The longest lists, tested and run through the library: as many gates as there may be, and more.
+"""The longest lists, tested and run through the library: as many gates as a list may have, and more.
 
-    python3 tests/long_lists.py    prints what each is answered
+    python3 tests/long_lists.py    prints the answer to each
 """
 
 import random

@@ -5,7 +5,7 @@
 A list is taken as the library writes it, evaluated here on many juries at once, and its closing bytes are compared
 with the rule, read plainly (reference.py) and in another way (sorted_judgment.py): random juries of all k and d and
 16 sizes of all widths, all ballots of the small shapes, all pairs of grade counts of two candidates for ten shapes,
-and the panels. `library_test shapes` in C has every shape there is, on a jury each.
+and the panels. `library_test shapes` in C tries every shape, on one jury each.
 """
 
 import itertools
@@ -26,7 +26,7 @@ def bound(k, d, n):
     return 2 * k * d * n * w + k * d * (30 * w + 20) + k * k * (20 * w + 6 * d + 20) + 2 + k * d * (400 * w + 400)
 
 
-# A wire's values on many juries are the bits of one integer, jury j's being bit j.
+# A wire's values on many juries are the bits of one integer; bit j is jury j's.
 
 
 def pack(d, juries):
@@ -82,7 +82,7 @@ class OwnList:
         assert len(self.gates) <= bound(k, d, n), shape
 
     def check(self, found):
-        """Evaluates the list on juries, and fails where a closing byte is not the rule's."""
+        """Evaluates the list on juries, and fails if a closing byte is not the rule's."""
         k, d, n = self.shape
         inputs = pack(d, found)
         assert [x & 1 for x in inputs] == juries.ballots_of(d, found[0])
@@ -91,7 +91,7 @@ class OwnList:
 
 
 def random_juries(rng, k, d, n, many):
-    """Twelve times so many juries."""
+    """Twelve times this many juries."""
     styles = [juries.uniform, juries.peaked] + 5 * [juries.tied, juries.level]
     return [style(rng, k, d, n) for style in styles for _ in range(many)]
 
@@ -114,7 +114,7 @@ def small_shapes():
             yield k, d, n
 
 
-# Shapes that meet more random juries than the others.
+# Shapes that are tried on more random juries than the others.
 DEEP = [(2, 3, 255), (3, 5, 15), (4, 4, 16), (2, 6, 100), (5, 6, 100), (8, 7, 255)]
 
 # Two candidates: grades and sizes whose pairs of counts are few enough.
@@ -122,7 +122,7 @@ PAIRS = [(2, 31), (2, 64), (2, 100), (3, 7), (3, 8), (3, 15), (4, 7), (5, 4), (6
 
 
 def shapes_and_juries():
-    """Shapes, and juries of each: a shape can come more than once."""
+    """Shapes, and juries for each; a shape may occur more than once."""
     rng = random.Random(5)
     for k, d, n in itertools.product(range(1, 9), range(2, 8), SIZES):
         yield (k, d, n), random_juries(rng, k, d, n, 40 if (k, d, n) in DEEP else 4)
@@ -135,7 +135,7 @@ def shapes_and_juries():
 
 
 def evaluate_lists(core):
-    """Evaluates each list on its juries, and answers how many lists and juries there were."""
+    """Evaluates each list on its juries, and returns how many lists and juries there were."""
     lists, many = {}, 0
     for shape, found in shapes_and_juries():
         if shape not in lists:
@@ -152,7 +152,7 @@ EDGES = [
 
 
 def write_at_edges(core):
-    """Tables that are just too short, just long enough and a little longer, over other old numbers each."""
+    """Tables that are just too short, just long enough and a little longer, with different old numbers."""
     for shape in EDGES:
         numbers = core.own_list(shape)
         need = len(numbers)

@@ -178,7 +178,7 @@ def bad_lists():
 
 
 def counterparts(rng):
-    """Every tape of one jury has its one counterpart in another with the same winners, and none in one with others."""
+    """Every tape of one jury has one counterpart in another with the same winners, and none in one with others."""
     shape = Shape(2, 2, 1)
     gates = GateList(shape, flat([(7, 0, 1, 2), (4, 4, 3, 0), (1, 0, 0, 0), (0, 0, 0, 0)]))
     first, second = bytes([1, 0, 0, 1]), bytes([0, 1, 1, 0])
@@ -201,7 +201,7 @@ def counterparts(rng):
 
 
 def urns(rng):
-    """An urn beside a dictionary; previews first, then the call; runs on what is in."""
+    """An urn compared with a dictionary: previews, then the call; runs on the ballots that are in."""
     for candidates, grades, slots in ((1, 2, 2), (2, 3, 5), (3, 4, 256)):
         urn, inside = Urn(candidates, grades, slots), {}
         for _ in range(120):
@@ -283,7 +283,7 @@ def trustees(rng):
 
 
 def apart(rng):
-    """Trustees who each run alone publish what the tally by all of them does, and a round that is none is refused."""
+    """Separate trustees publish what the tally by all of them does, and a round above the last is refused."""
     for shape, number in itertools.product(SHAPES, (2, 5)):
         gates, ballots = GateList.own(shape), bytes(random_ballots(rng, *shape))
         dealing, opened = deal(gates, ballots, number), 2 * gates.conditional
@@ -312,7 +312,7 @@ def apart(rng):
 
 
 def dispatched(rng):
-    """Each jury's board is its own. A piece of another length is that jury's fault, whatever the next one has."""
+    """Each jury's board is its own. A piece of the wrong length is that jury's fault, whatever the next one has."""
     for many, share in itertools.product(range(1, 9), (1, 7, 4096, 65536)):
         juries = []
         for shape in rng.choices(SHAPES, k=many):
@@ -370,14 +370,14 @@ def batches(rng):
 
 
 def python(program, folder, **variables):
-    """Runs a program in Python elsewhere, with JUGYVAROS_LIBRARY set only where it is given."""
+    """Runs a program in Python elsewhere, with JUGYVAROS_LIBRARY set only if it is given."""
     plain = {name: value for name, value in os.environ.items() if name != "JUGYVAROS_LIBRARY"}
     environment = {**plain, "PYTHONDONTWRITEBYTECODE": "1", **variables}
     return subprocess.run([sys.executable, "-c", program], env=environment, cwd=folder, capture_output=True, text=True)
 
 
 def emptied():
-    """Copies of ballots, tapes and shares that were lent are zeros after a call, whether it is accepted or refused."""
+    """The package's copies of ballots, tapes and shares are zeros after a call, accepted or refused."""
     modules = [importlib.import_module(f"jugyvaros.{name}") for name in ("gates", "dispatch", "batch", "trustees")]
     lent = []
     for module in modules:
@@ -402,7 +402,7 @@ def emptied():
 
 
 def installed():
-    """pip installs the package without a network; the copy beside it is used, or what JUGYVAROS_LIBRARY names."""
+    """pip installs the package without a network; it uses its own copy, or what JUGYVAROS_LIBRARY names."""
     program = "import jugyvaros as j; s = j.Shape(2, 2, 1); print(j.count(s, s.encode([[2, 1]])), j.library.path())"
     with tempfile.TemporaryDirectory() as folder:
         quiet = ["--quiet", "--disable-pip-version-check", "--root-user-action=ignore"]
@@ -421,7 +421,7 @@ def installed():
             assert last.startswith("jugyvaros.repository.NotBuilt: ") and "JUGYVAROS_LIBRARY" in last, last
 
 
-# A toolchain that proves nothing: it says what a true one would, or fails where a file named `fail` stands.
+# A toolchain that proves nothing: it prints what a real one would, or fails if there is a file named `fail`.
 FAKE_RT = """#!/bin/sh
 echo called >> calls
 test -e fail && echo 'error: a reason' && exit 1
@@ -442,7 +442,7 @@ rt: target/staticlib/libc_tally.a has its functions
 
 
 def built():
-    """In a checkout the library is built where a source is newer, with a line for each crate that is proved."""
+    """In a checkout the library is built if a source is newer, with a line for each crate that is proved."""
     with tempfile.TemporaryDirectory() as name:
         folder = pathlib.Path(name)
         shutil.copytree(ROOT / "python/jugyvaros", folder / "python/jugyvaros")
@@ -488,7 +488,7 @@ def main():
     for part in (shapes, lists, counterparts, urns, trustees, apart, dispatched, batches):
         part(rng)
     bad_lists()
-    # 9, 10, 24 and 200 are about tables that the package sees to itself; 21 and 22 are of the season sheet
+    # 9, 10, 24 and 200 are about tables that the package makes itself; 21 and 22 are the season sheet's
     assert SEEN == {*range(1, 9), *range(11, 21), 23, 201, 202}, sorted(SEEN)
     emptied()
     installed()

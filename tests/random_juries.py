@@ -1,4 +1,4 @@
-"""Random ballots that are accepted, graded and ranked, for tests that ask nothing special of them."""
+"""Random ballots that are accepted, graded and ranked, for tests that need nothing special."""
 
 
 def random_rankings(rng, k, n):
@@ -7,7 +7,7 @@ def random_rankings(rng, k, n):
 
 
 def random_ballots(rng, k, d, n):
-    """The bytes of n ballots: rows with one 1, or rankings where there are no grades."""
+    """The bytes of n ballots: rows with one 1, or rankings if there are no grades."""
     if d:
         return [int(grade == best) for best in (rng.randrange(d) for _ in range(n * k)) for grade in range(d)]
     return [int(x < y) for places in random_rankings(rng, k, n) for x in places for y in places]

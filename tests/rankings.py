@@ -1,9 +1,9 @@
-"""Ranked juries, through the library: tested, counted, run and written for, against the reference.
+"""Ranked juries, through the library, against the reference: tests, counts, runs and own lists.
 
     python3 tests/rankings.py    prints how many calls and juries there were
 
-A ranking is given by ranks, one a candidate: a smaller rank is better, equal ones are a tie. The rule is read in two
-ways: by all simple paths (reference.py) and by asking who reaches whom over links of some strength or more (below).
+A ranking is given by ranks, one for each candidate: a smaller rank is better, equal ranks are ties. The rule is
+implemented twice: over all simple paths (reference.py), and by who reaches whom over links of some strength (below).
 """
 
 import collections
@@ -25,7 +25,7 @@ def ranks_of_order(order):
 # The example of Schulze's paper.
 PAPER = [(5, "ACBED"), (5, "ADECB"), (8, "BEDAC"), (3, "CABED"), (7, "CAEBD"), (2, "CBADE"), (7, "DCEBA"), (8, "EBADC")]
 
-# Juries of which the outcome is known: rankings with how many jurors have each, and the closing bytes.
+# Juries with a known outcome: rankings, how many jurors have each, and the closing bytes.
 PANELS = [
     ([(1, [0, 1, 2]), (1, [2, 0, 1]), (1, [1, 2, 0])], [1, 1, 1]),
     ([(many, ranks_of_order(order)) for many, order in PAPER], [0, 0, 0, 0, 1]),

@@ -1,6 +1,6 @@
-"""An independent reference implementation: the requirements in Python, which say what the core must answer.
+"""An independent reference implementation in Python: what the core must answer, by the requirements.
 
-It is written for plainness and not for speed. Nothing here is shared with the crates.
+It is written to be simple, not fast. Nothing here is shared with the crates.
 """
 
 MOST_GATES = 1_048_576
@@ -97,7 +97,7 @@ def ballot_bytes(k, d, n):
 
 
 def row_fault(k, d, n, ballots):
-    """Reason 6: grades of bits, of which a row has no 1 or several."""
+    """Reason 6: the first row of graded ballots that has no 1 or several."""
     for row in range(n * k):
         if sum(1 for x in ballots[row * d:row * d + d] if x == 1) != 1:
             return (6, row)
@@ -154,7 +154,7 @@ def median_grade(counts):
 
 
 def sequence(counts):
-    """The medians of what is left, one grade of the median's kind being struck each time, until none is left."""
+    """The median of the grades that are left, again and again; each time one grade of that kind is struck."""
     left, medians = list(counts), []
     while sum(left):
         medians.append(median_grade(left))
@@ -174,13 +174,13 @@ def preferences(k, n, ballots):
 
 
 def links(preferred):
-    """The strength of each link: the preferences where they outweigh those of the other direction, else 0."""
+    """The strength of each link: the votes for it if they outnumber those against it, else 0."""
     among = range(len(preferred))
     return [[preferred[i][j] if preferred[i][j] > preferred[j][i] else 0 for j in among] for i in among]
 
 
 def simple_paths(start, end, others):
-    """All ways from start to end that meet nobody twice, the candidates between them being some of the others."""
+    """All paths from start to end that visit nobody twice."""
     yield [start, end]
     for i, first in enumerate(others):
         for path in simple_paths(first, end, others[:i] + others[i + 1:]):
@@ -194,14 +194,14 @@ def strongest_path(strength, i, j):
 
 
 def ranked_closing_bytes(preferred):
-    """Schulze's rule: 1 for each candidate against whom nobody has a stronger path than the other way."""
+    """Schulze's rule: 1 for each candidate to whom nobody has a stronger path than the one back."""
     strength, among = links(preferred), range(len(preferred))
     best = {(i, j): strongest_path(strength, i, j) for i in among for j in among if i != j}
     return [1 if all(best[i, j] >= best[j, i] for j in among if j != i) else 0 for i in among]
 
 
 def winners(k, d, n, ballots):
-    """The closing bytes of accepted ballots, by the rule that their shape has."""
+    """The closing bytes of accepted ballots, by the rule of their shape."""
     if d == 0:
         return ranked_closing_bytes(preferences(k, n, ballots))
     return closing_bytes(grade_counts(k, d, n, ballots))
@@ -245,7 +245,7 @@ def run_fault(k, d, n, table, ballots, tape, wires, board):
 
 
 def answer(fault, table):
-    """What writing, testing and running say: number and place of the fault, or G and C."""
+    """What write, test and run answer: number and place of the fault, or G and C."""
     if fault is not None:
         return ["refused", *fault]
     gates = gates_of(table)
@@ -263,5 +263,5 @@ def run_list(k, d, n, table, ballots, tape, wires, board):
     if fault is not None:
         return answer(fault, table), wires, board
     values, shown = run_gates(ballots, gates_of(table), tape)
-    # the wire table is emptied once the closing bytes stand on the board
+    # the wire table is emptied once the closing bytes are on the board
     return answer(None, table), [0] * len(values), shown + values[len(values) - k:]

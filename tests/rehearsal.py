@@ -3,9 +3,9 @@
 
     python3 tests/rehearsal.py    needs target/bin/rehearsal (rt check rehearsal builds it) and the library
 
-Inputs: the example in [rehearsal], the examples of the repository with what they are said to show, empty and short
-inputs, inputs that come in pieces, the longest good input, inputs about and longer than what is kept, faults in shape
-and ballots, lists too large for the table beside faulty ballots, and random juries.
+Inputs: the example in [rehearsal], the examples of the repository with what they claim to show, empty and short inputs,
+inputs that come in pieces, the longest good input, inputs around and above the number of bytes that are kept, faults in
+shape and ballots, lists too large for the table with faulty ballots, and random juries.
 """
 
 import random
@@ -36,7 +36,7 @@ EXAMPLES = {
 }
 
 
-# Juries as text: the bytes that tools/jury makes of them, or how its complaint begins.
+# Juries as text: the bytes that tools/jury makes of them, or how its error begins.
 TEXTS = [
     ("grades 2\n1 2\n", bytes([2, 2, 1, 1, 0, 0, 1])),
     ("ranking a b\na > b\n", bytes([2, 0, 1, 0, 1, 0, 0])),
@@ -44,17 +44,17 @@ TEXTS = [
     ("ranking x y z\ny\n", bytes([3, 0, 1, 0, 0, 0, 1, 0, 1, 0, 0, 0])),
     ("grades 3: yuzu lime\n2 3\n", bytes([2, 3, 1, 0, 1, 0, 0, 0, 1])),
     ("grades 2 : a\n2\n", bytes([1, 2, 1, 0, 1])),
-    ("grades 2: a b\n1\n", "-: line 2: 1 grades, but the names are of 2"),
-    ("grades 2\n1 2\n1\n", "-: line 3: 1 grades, but the ballots before are of 2"),
+    ("grades 2: a b\n1\n", "-: line 2: 1 grades, but the names have 2"),
+    ("grades 2\n1 2\n1\n", "-: line 3: 1 grades, but the ballots before have 2"),
     ("grades 2: a a\n1 1\n", "-: line 1: two candidates"),
     ("grades 2:\n1 1\n", "-: line 1: 'grades' and a colon are followed"),
     ("grades 2: a b c d e f g h i\n1\n", "-: line 1: 'grades' and a colon are followed"),
     ("grades: a b\n1 1\n", "-: line 1: the first line"),
-    ("", "-: line 1: the file says nothing"),
+    ("", "-: line 1: the file has no jury"),
     ("\ufeffgrades 2\n1\n", "-: line 1: begins with a byte-order mark"),
-    ("ranking a b\na > c\n", "-: line 2: 'c' is none"),
-    ("ranking a b\na > a\n", "-: line 2: 'a' stands twice"),
-    ("ranking a b\na > > b\n", "-: line 2: '' is none"),
+    ("ranking a b\na > c\n", "-: line 2: 'c' is not one"),
+    ("ranking a b\na > a\n", "-: line 2: 'a' is named twice"),
+    ("ranking a b\na > > b\n", "-: line 2: '' is not one"),
     ("ranking a a\na\n", "-: line 1: two candidates"),
     ("ranking\na\n", "-: line 1: 'ranking' is followed"),
     ("ranking a b c d e f g h i\na\n", "-: line 1: 'ranking' is followed"),
@@ -66,7 +66,7 @@ TEXTS = [
 
 
 def made_of(text):
-    """What tools/jury makes of a text: bytes, or its complaint."""
+    """What tools/jury makes of a text: bytes, or its error."""
     made = subprocess.run([ROOT / "tools" / "jury", "-"], input=text.encode(), capture_output=True)
     return made.stdout if made.returncode == 0 else made.stderr.decode().removeprefix("tools/jury: ")
 
@@ -120,7 +120,7 @@ def longest_shape():
 
 
 def long_inputs(rng):
-    """The longest good input, shorter and longer by one, and lengths about the bytes that are kept."""
+    """The longest good input, shorter and longer by one, and lengths around the number of bytes that are kept."""
     good = jury(rng, *longest_shape())
     assert doc.ballots_fault(*good[:3], good[3:]) is None and len(good) > 2_500
     for data in (good, good + b"\0", good + b"\1", good[:-1], good[:-1] + b"\2", good + bytes(KEPT),
@@ -130,7 +130,7 @@ def long_inputs(rng):
         yield bytes(length)
         yield (good * 40)[:length]
         yield bytes([1, 2, 255]) + bytes(length)
-    # more bytes than are kept: what comes behind them is neither counted nor looked at
+    # more bytes than are kept: the rest is neither counted nor read
     for shape in ((8, 7, 255), (8, 0, 255)):
         yield jury(rng, *shape) + b"\2" * KEPT
 
@@ -145,7 +145,7 @@ def inputs(rng):
                     (0, 0, 1), (9, 0, 1), (8, 0, 255)]:
         yield bytes([k, d, n])
         yield bytes([k, d, n]) + b"\2" * doc.ballot_bytes(k, d, n)
-    # rankings that say both ways, and that leave a third out, in the last ballot
+    # rankings with fault 11, and with fault 12, in the last ballot
     for ballot in ([0, 1, 0, 1, 0, 0, 0, 0, 0], [0, 1, 0, 0, 0, 0, 0, 0, 0], [0] * 8 + [1]):
         yield bytes([3, 0, 2, *[0] * 9, *ballot])
     # a list just in the table, and one just too large for it

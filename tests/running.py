@@ -1,5 +1,4 @@
-"""Testing and running lists, through the library: anyone's lists for juries, accepted and refused, against the
-reference.
+"""Testing and running lists, whoever wrote them, through the library: accepted and refused, against the reference.
 
     python3 tests/running.py    prints how many calls there were, by reason
 
@@ -78,7 +77,7 @@ class Case:
 
 
 def any_ballots(k, d, n):
-    """Ballots that are accepted where the shape is; none where a shape outside its limits would have very many."""
+    """Ballots that are accepted if the shape is; none if a shape outside its limits would have very many."""
     if d == 0 or k * d * n > 16_384:
         return []
     return [x for i in range(k * n) for x in row(d, i * 5 % d)]
@@ -129,7 +128,7 @@ def list_lengths():
 
 
 def operands():
-    """Gates that name a wire too far on, or something where nothing is to be named."""
+    """Gates with an operand that is too large, or with one that should be 0."""
     for k, d, n in [(1, 2, 1), (2, 3, 3)]:
         inputs = n * k * d
         rest = [(1, 0, 0, 0)] * (k + 2)
@@ -174,7 +173,7 @@ def each_kind():
 
 
 def every_tape():
-    """One list on two sets of ballots under each tape: closing bytes stay, and each has the boards of the other."""
+    """One list on two sets of ballots under each tape: closing bytes stay the same, and both have the same boards."""
     gates = [(6, 0, 3, 0), (2, 6, 0, 0), (7, 6, 1, 2), (4, 8, 5, 0), (5, 9, 0, 0), (3, 10, 0, 0)]
     boards = []
     for voters in ([1, 0, 0, 0, 0, 1], [0, 0, 1, 0, 0, 1]):
@@ -243,7 +242,7 @@ def empty_slices():
 
 
 # A fault's reason, and what it does to a case of the shape 2, 3, 2 whose list has four gates, three of them
-# conditional. A fault that stands later leaves those before it in place as far as it can.
+# conditional. A later fault does not undo an earlier one, as far as possible.
 FAULTS = [
     (10, lambda c: c.but(board=4)),
     (10, lambda c: c.but(board=6)),
@@ -297,7 +296,7 @@ def random_shape(rng):
 
 
 def random_lists(rng, count, most):
-    """Well-formed lists that nobody meant anything by."""
+    """Well-formed random lists."""
     for _ in range(count):
         k, d, n = random_shape(rng)
         gates = random_gates(rng, n * k * d, rng.randrange(k, k + most))
@@ -356,7 +355,7 @@ def main():
     core.ignores_short_answers("jugy_test", 1, 2, 1, *table, answers=4)
     core.ignores_short_answers("jugy_run", 1, 2, 1, *table, bytes_of([1, 0]), bytes_of([1]), output([OLD] * 3),
                                output([OLD] * 2), answers=4)
-    # 11 and 12 are of rankings: tests/rankings.py
+    # 11 and 12 are for rankings: tests/rankings.py
     print(f"tests/running.py: {core.calls} calls agree:", core.saw(test={1, 2, 3}, run=set(range(1, 11))))
 
 

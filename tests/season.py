@@ -81,7 +81,7 @@ def shapes_and_masks():
 
 
 def pairs_of_faults(rng):
-    """A wrong length beside a bad run, and two bad runs of any two kinds."""
+    """A wrong length with a bad run, and two bad runs of any two kinds."""
     good = run_bytes(*GOOD)
     bad = [run_bytes(0, 3, 3, 0, 1, 1), run_bytes(9, 3, 3, 1, 1, 1), run_bytes(2, 1, 3, 1, 1, 1),
            run_bytes(2, 8, 3, 1, 1, 1), run_bytes(2, 3, 0, 1, 1, 1),

@@ -1,6 +1,6 @@
-"""Majority judgment once more, by sorting: the plain reading in reference is compared with it.
+"""Majority judgment a second time, by sorting, to compare reference.py with.
 
-A candidate here is the list of its grades, one a juror, and neither counts nor running sums occur.
+A candidate is the list of its grades, one from each juror; there are no counts and no running sums.
 """
 
 

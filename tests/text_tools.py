@@ -1,4 +1,4 @@
-"""tools/list: the own list as text and back, what it says of bad texts, and the exported circuit, evaluated here.
+"""tools/list: the own list as text and back, its errors for bad texts, and the exported circuit, evaluated here.
 
     python3 tests/text_tools.py    needs target/staticlib/libjugyvaros.a
 """

@@ -3,8 +3,8 @@
     python3 tests/texts.py    prints how many calls there were, by reason
 
 Own lists and random lists, graded and ranked, both ways; every fault alone and with every other one, in both
-directions; numbers about the largest one; lines of another form; outputs that are just too short, just long enough
-and longer. `tests/text` has every short text and many edits of good ones, in C.
+directions; numbers around the largest; malformed lines; outputs that are just too short, just long enough and longer.
+`tests/text` has every short text and many edits of good ones, in C.
 """
 
 import itertools
@@ -29,7 +29,7 @@ def text_of(table):
 
 
 def gate_of(line):
-    """The gate of a line with its line feed, or None where the line is none."""
+    """The gate of a line with its line feed, or None if the line is malformed."""
     if not re.fullmatch(rf"{NUMBER}(?: {NUMBER})*\n", line):
         return None
     kind, *operands = map(int, line.split())
@@ -153,7 +153,7 @@ def faults_of_reading(tests, shape):
     ]
     for changes in pairs(ways):
         tests.read(**{"shape": shape, "text": good, "room": 16, **dict(changes)})
-    # a line of another form is said before a bad gate, wherever the two stand
+    # a malformed line is reported before a bad gate, whichever comes first in the text
     for first, second in itertools.permutations(range(4), 2):
         two = list(lines)
         two[first], two[second] = f"2 {LARGEST}\n", "9\n"
@@ -161,7 +161,7 @@ def faults_of_reading(tests, shape):
 
 
 def largest_numbers(tests):
-    """The largest number that a line may have is a bad operand; one more is a line of another form."""
+    """The largest number that a line may have is a bad operand; one more makes the line malformed."""
     for shape in ((1, 2, 1), (1, 0, 1)):
         for kind, operands in doc.OPERANDS.items():
             for place in range(operands):

@@ -1,10 +1,10 @@
 #!/usr/bin/env python3
-"""The tools' manners: help, errors in one line, the same words for the same reason, and their status.
+"""How the tools behave: help, errors in one line, the same words for the same reason, and their status.
 
     python3 tests/tools.py    prints how many comparisons there were; needs the library and both programs, no network
 
-Besides: names of winners on a terminal and the program's own bytes elsewhere, boards that are equal and the one tape
-that makes them so, pages that fetch nothing, and names that would be HTML.
+Also: names of winners on a terminal and the program's own bytes elsewhere, boards that are equal and the one tape
+that makes them so, pages that fetch nothing, and names that look like HTML.
 """
 
 import html.parser
@@ -48,7 +48,7 @@ def tool(*arguments, data=b""):
 
 
 def words_of(reason):
-    """What every tool says of a reason: its words, and what to do."""
+    """What every tool prints for a reason: its words, and what to do."""
     return [f"refused {reason} ", REASONS[reason][1]]
 
 
@@ -79,7 +79,7 @@ def manners(compare):
 
 
 def on_a_terminal(*arguments):
-    """What a tool prints where its standard output is a terminal."""
+    """What a tool prints if its standard output is a terminal."""
     ours, theirs = pty.openpty()
     command = [ROOT / "tools" / arguments[0], *arguments[1:]]
     with subprocess.Popen(command, stdin=subprocess.DEVNULL, stdout=theirs) as process:

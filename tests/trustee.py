@@ -1,9 +1,9 @@
-"""A trustee on a machine of its own, through the library, against a model written apart.
+"""A trustee on its own machine, through the library, against an independent model.
 
     python3 tests/trustee.py    prints how many calls there were, by reason
 
-Trustees apart on own lists and strangers', graded and ranked: after every round each has the shares that the model's
-trustee has by then, and at the end all that jugy_trustees publishes. Rounds on tables of any bits, every reason at its
+Separate trustees on own lists and random ones, graded and ranked: after every round each has the shares of the model's
+trustee, and at the end all have published what jugy_trustees does. Rounds on tables of any bits, every reason at its
 edges with all pairs of faults, old contents of what is written, and answer arrays that are too short.
 """
 
@@ -85,7 +85,7 @@ def one_round(call):
 
 
 def check(core, name, call):
-    """One call beside the model; the tables after it where it is accepted."""
+    """One call compared with the model; the tables after it if it is accepted."""
     lent, fault = lent_to(name, call), fault_of(name, call)
     said = core.call(f"jugy_trustee_{name}", *lent, answers=ANSWERS[name])
     if fault:
@@ -105,7 +105,7 @@ def check(core, name, call):
 
 
 def together(rng, core, shape, gates, t):
-    """All trustees from start to finish: as those of the one call."""
+    """All trustees from start to finish, compared with the single call."""
     k, inputs, count = shape[0], doc.ballot_bytes(*shape), doc.conditional_count(gates)
     ballots = [rng.randrange(2) for _ in range(inputs)]
     parts, dealt = dealings(rng, ballots, count, t)
@@ -189,7 +189,7 @@ def elections(rng, core):
 
 
 def any_tables(rng, core, call):
-    """A round is an equation over whatever bits the tables hold."""
+    """A round is tested on whatever bits the tables hold."""
     for _ in range(100):
         any_bits = {name: [rng.randrange(2) for _ in call[name]] for name in ("dealt", "heard", "wires", "published")}
         check(core, "round", call | any_bits | {"r": rng.randrange(max(call["levels"]) + 1), "p": rng.randrange(3)})

@@ -240,7 +240,7 @@ def changed(items, place, value):
 
 
 def bad_ballots(call):
-    """Bits that are no ballots: a row without a grade, or rankings that say both ways and that leave a third out."""
+    """Bits that are no ballots: a row without a grade (6), or rankings with the faults 11 and 12."""
     if call.shape[1]:
         return {"row": {"ballots": changed(call.ballots, call.ballots.index(1), 0)}}
     rest = call.ballots[9:]
@@ -286,7 +286,7 @@ def faults(call):
     }
 
 
-# Tiny lists, and numbers of trustees, of which every dealing is tried: free gates, each conditional kind, operands that
+# Tiny lists and numbers of trustees for which every dealing is tried: free gates, each conditional kind, operands that
 # coincide.
 TINY = [
     ([(2, 0, 0, 0)], (2, 3)),
@@ -320,7 +320,7 @@ def refusals(core, call):
 
 
 def every_part(rng, core, call):
-    """Every part is looked at."""
+    """Every part is tested."""
     for place in range(len(call.parts)):
         assert core.check(call.but(parts=changed(call.parts, place, call.parts[place] + 2))) is None
         assert core.check(call.but(parts=changed(call.parts, place, 1 - call.parts[place]))) is None

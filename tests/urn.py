@@ -1,7 +1,7 @@
 #!/usr/bin/env python3
 """The exported calls on an urn against an independent model, over the static library: soundness of every urn of two
 and three slots over small bytes, every kind of damage, urns of 256 slots, pairs of faults, long random sequences of
-calls, tables of every length made empty, and previews of different urns that have the same told of them. Needs a C
+calls, tables of every length made into empty urns, and previews of different urns with the same answer. Needs a C
 compiler and target/staticlib/libjugyvaros.a. All buffers have guards on both sides (core.py)."""
 import itertools
 import random
@@ -42,7 +42,7 @@ def ballot_fault(k, d, ballot):
 
 
 def take_apart(k, d, urn):
-    """The ballots as (slot, juror, ballot) and the free slots, or None where the urn is not sound."""
+    """The ballots as (slot, juror, ballot) and the free slots, or None if the urn is not sound."""
     size = 2 + k * d
     if len(urn) % size or not 2 <= len(urn) // size <= 256:
         return None
@@ -85,7 +85,7 @@ def put_together(k, d, count, ballots, free):
 
 
 def model(k, d, urn, juror, ballot=None):
-    """Answer and urn of an admission, or of a withdrawal where no ballot is given."""
+    """Answer and urn of an admission, or of a withdrawal if no ballot is given."""
     if not (1 <= k <= 8 and 2 <= d <= 7):
         return (1, 0, 0), urn
     chains = take_apart(k, d, urn)
@@ -190,7 +190,7 @@ def pairs():
 
 
 def made_empty():
-    """Every length about an urn's, and every shape about its limits, over bytes that stand there before."""
+    """Every length around an urn's, and every shape around its limits, over any old bytes."""
     for k, d in itertools.product((0, 1, 2, 8, 9, 2**63), (0, 1, 2, 7, 8, 2**63)):
         size = 2 + k * d if k * d < 80 else 58
         for slots, more in itertools.product((0, 1, 2, 3, 255, 256, 257), (-1, 0, 1)):
@@ -206,7 +206,7 @@ def made_empty():
 
 
 def told(rounds):
-    """Two urns of other lengths, slots, jurors, ballots and orders, of which a preview may tell the same."""
+    """Two urns with different lengths, slots, jurors, ballots and orders that agree in what a preview may reveal."""
     def facts(k, d, urn, juror):
         chains = take_apart(k, d, urn)
         return chains and (len(chains[0]), juror in (j for _, j, _ in chains[0]), bool(chains[1]))
@@ -232,11 +232,11 @@ def told(rounds):
                 first = call("jugy_preview_" + name, k, d, one, juror, given)[0]
                 assert first == call("jugy_preview_" + name, k, d, other, juror, given)[0], (one, other, juror, given)
     assert same > rounds // 20
-    print(f"tests/urn: previews agree on {same} pairs of urns that have the same told of them")
+    print(f"tests/urn: previews agree on {same} pairs of urns with the same facts")
 
 
 def edges():
-    """Lengths about the limits, chains that cross, equal jurors far apart, and an urn with k and d exchanged."""
+    """Lengths around the limits, chains that cross, equal jurors far apart, and an urn with k and d exchanged."""
     k, d, size = 2, 3, 8
     for slots, more in itertools.product((1, 2, 255, 256, 257), (-1, 0, 1)):
         urn = bytearray(slots * size)
@@ -268,7 +268,7 @@ def edges():
 
 
 def short_answers():
-    """No call alters anything where the answer array is too short."""
+    """No call changes anything if the answer array is too short."""
     urn, ballot = empty(1, 2, 3), b"\1\0"
     _, urn = model(1, 2, urn, 5, ballot)
     lists = {"empty_urn": (), "admit": (1, ballot), "withdraw": (5,), "preview_admit": (1, ballot),

@@ -20,12 +20,11 @@ def run_urn(*call):
     return CORE.run(*call, name="jugy_run_urn")
 
 
-# The model. An urn is a list of slots; it is sound where the slots of both chains, in order of their numbers, are 1,
-# 2, and so on.
+# The model. An urn is a list of slots; it is sound if the slots of both chains, sorted, are 1, 2, and so on.
 
 
 def chain_from(slots, first):
-    """The slots of a chain, or None where it does not end."""
+    """The slots of a chain, or None if it does not end."""
     chain = []
     while first and len(chain) < len(slots):
         if first >= len(slots):
@@ -36,7 +35,7 @@ def chain_from(slots, first):
 
 
 def ballots_in(k, d, urn):
-    """The ballots in chain order, or None where the urn is not sound."""
+    """The ballots in chain order, or None if the urn is not sound."""
     size = 2 + k * d
     if len(urn) % size or not 2 <= len(urn) // size <= 256:
         return None
@@ -107,7 +106,7 @@ def orders():
     """All orders of three ballots' slots: shown bits tell the chain's order from that of the slots."""
     k, d, n = 1, 3, 3
     ballots = [[1, 0, 0], [0, 1, 0], [0, 0, 1]]
-    # each input is shown by a gate of its own
+    # each input has a gate that shows it
     table = sum(([4, wire, wire, 0] for wire in range(9)), [])
     boards = set()
     for held in itertools.permutations((1, 2, 3)):

@@ -1,7 +1,7 @@
 """What the tools share: the package on the path, one parser, and one way to end.
 
-A tool ends with status 0 when it did what was asked, 1 when the core or a file says no, and 2 when it was called
-wrongly. An error is one line on standard error that begins with the tool's name and says what to do.
+A tool ends with status 0 if it did what was asked, 1 if the core refused or a file was bad, and 2 if its arguments were
+wrong. An error is one line on standard error that begins with the tool's name and says what to do.
 """
 
 import argparse
@@ -42,10 +42,19 @@ def number(word):
     return int(word)
 
 
+def between(low, high):
+    """What reads a number from low to high in an argument."""
+    def read(word):
+        if not low <= number(word) <= high:
+            raise argparse.ArgumentTypeError(f"{word} is not a number from {low} to {high}")
+        return number(word)
+    return read
+
+
 def add_shape(of):
     """The three numbers of a shape, as arguments."""
     of.add_argument("candidates", metavar="K", type=number, help="candidates, 1 to 8")
-    of.add_argument("grades", metavar="D", type=number, help="grades, 2 to 7, or 0 where the jury ranks")
+    of.add_argument("grades", metavar="D", type=number, help="grades, 2 to 7, or 0 for a ranking")
     of.add_argument("ballots", metavar="N", type=number, help="ballots, 1 to 255")
 
 
@@ -55,7 +64,7 @@ def explain(refused, advice=None):
 
 
 def read_bytes(name):
-    """A file's bytes, or those of standard input where the name is `-`."""
+    """A file's bytes, or those of standard input if the name is `-`."""
     return sys.stdin.buffer.read() if name == "-" else pathlib.Path(name).read_bytes()
 
 
@@ -68,7 +77,7 @@ def read_jury(name):
 
 
 def write_output(name, data):
-    """Writes bytes to a file, or to standard output where there is no name or it is `-`."""
+    """Writes bytes to a file, or to standard output if there is no name or it is `-`."""
     if name in (None, "-"):
         sys.stdout.buffer.write(data)
     else:
@@ -76,7 +85,7 @@ def write_output(name, data):
 
 
 def run(name, main):
-    """Runs a tool's main function and ends the program by what came of it."""
+    """Runs a tool's main function and ends the program with its status."""
     try:
         status = main()
         sys.stdout.flush()

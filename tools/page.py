@@ -1,4 +1,4 @@
-"""Pages that stand alone: one file of HTML with its style inside, no script, nothing fetched from anywhere."""
+"""Self-contained pages: one file of HTML with its style inside, no script, nothing fetched."""
 
 from html import escape
 

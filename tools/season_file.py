@@ -23,7 +23,7 @@ class Run(NamedTuple):
 
 
 def runs(data):
-    """The runs of a file's bytes, which the sheet has accepted."""
+    """The runs in a file's bytes, which the sheet has accepted."""
     return [Run(Shape(k, d, n), [i for i in range(8) if mask >> i & 1], gates, conditional)
             for k, d, n, mask, gates, conditional in RUN.iter_unpack(data)]
 
@@ -45,7 +45,7 @@ def append(name, printed):
 
 
 def totals(data):
-    """The five numbers of the sheet, by the program; its refusal is raised."""
+    """The five numbers of the sheet, from the program; a refusal is raised."""
     program = repository.program("season_sheet")
     said = subprocess.run([program], input=data, stdout=subprocess.PIPE, check=True).stdout.decode().split()
     if said[0] == "refused":

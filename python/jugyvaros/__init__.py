@@ -3,13 +3,13 @@
     from jugyvaros import GateList, Shape
 
     shape = Shape(candidates=2, grades=3, ballots=3)
-    ballots = shape.encode([[1, 2], [2, 2], [2, 3]])    # a row a juror, a grade a candidate, 1 being the best
+    ballots = shape.encode([[1, 2], [2, 2], [2, 3]])    # a row for each juror; in it a grade for each candidate, 1 best
     board = GateList.own(shape).run(ballots)            # a fresh secret tape masks every shown bit
     board.winners                                       # (0,)
 
-Grades are counted by majority judgment, rankings (grades=0) by Schulze's rule. A call that the core turns away raises
-`Refused`, with the reason's number, its place and words. The core itself is proved; this package lends it buffers of
-the right lengths. `jugyvaros.library` says where the core's shared object is looked for.
+Grades are counted by majority judgment, rankings (grades=0) by Schulze's rule. If the core refuses a call, it raises
+`Refused`, with the number of the reason, its place, its words and advice. The core is proved; this package, which is
+tested, lends it buffers of the right lengths. `jugyvaros.library` says where it looks for the core's shared object.
 """
 
 from .batch import batch

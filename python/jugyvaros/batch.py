@@ -1,4 +1,4 @@
-"""Sixty-four juries of one shape at once, a bit of each number for each jury."""
+"""Up to 64 juries of one shape at once: each jury has one bit of every number."""
 
 from __future__ import annotations
 
@@ -14,9 +14,9 @@ LANES = 64
 
 
 def batch(gates: GateList, juries: Sequence[bytes], tapes: Sequence[bytes] | None = None) -> list[Board]:
-    """Runs a list on 1 to 64 juries: the board of each is that of a run by itself. Tapes that are not given are fresh.
+    """Runs a list on 1 to 64 juries. Each gets the board of a run by itself. Without tapes, fresh secret ones are used.
 
-    Where a jury's ballots are refused, the place is the first such jury.
+    If ballots are refused, the place of the refusal is the first jury with the fault.
     """
     if not 1 <= len(juries) <= LANES:
         raise ValueError(f"a batch has 1 to {LANES} juries, not {len(juries)}")
@@ -38,8 +38,8 @@ def batch(gates: GateList, juries: Sequence[bytes], tapes: Sequence[bytes] | Non
 
 
 def pack(rows: Sequence[bytes], length: int, other_length: int, other_byte: int) -> array.array[int]:
-    """Numbers whose bit j is row j's byte at that place; copies of the last row fill up the 64. A row of another
-    length, and a byte that is no bit, are refused for these reasons."""
+    """Numbers whose bit j is row j's byte at that place; copies of the last row fill up the 64. A row of another length
+    is refused with the reason `other_length`, a byte above 1 with `other_byte`."""
     for place, row in enumerate(rows):
         if len(row) != length:
             raise Refused(other_length, place, "the jury")

@@ -1,4 +1,4 @@
-"""Up to eight juries on one unit, in rounds: a long jury does not hold up the others."""
+"""Up to eight juries on one unit, in rounds, so that a long jury does not delay the others."""
 
 from __future__ import annotations
 
@@ -15,7 +15,7 @@ MOST_JURIES = 8
 
 
 class Jury(NamedTuple):
-    """A jury to dispatch: a list, its ballots and, where a fresh one is not wanted, its tape."""
+    """A jury to dispatch: its list, its ballots and its tape; without a tape it gets a fresh secret one."""
 
     gates: GateList
     ballots: bytes
@@ -23,22 +23,21 @@ class Jury(NamedTuple):
 
 
 class Dispatched(NamedTuple):
-    """A jury's board, which is that of a run by itself, and the number of rounds that it took."""
+    """A jury's board, the same as after a run by itself, and how many rounds it took."""
 
     board: Board
     rounds: int
 
 
 def dispatch(juries: Sequence[Jury], gates_per_round: int = GATES_PER_ROUND) -> list[Dispatched]:
-    """Runs 1 to 8 juries, each round up to `gates_per_round` gates of each. Tapes that are not given are fresh.
+    """Runs 1 to 8 juries in rounds; in each round every unfinished jury does up to `gates_per_round` of its gates.
 
-    If one jury is refused, no jury runs: the refusal has the number of the first refused jury's reason, and its place
-    is that jury.
+    If one jury is refused, none runs: the refusal has the first reason of the first bad jury, and that jury as place.
     """
     tapes = [fresh_tape(jury.gates.conditional) if jury.tape is None else bytearray(jury.tape) for jury in juries]
     bad = _first_misfit(juries, tapes)
-    # of a jury with a piece of another length the core is lent none of that piece, and no jury behind it: it then
-    # tests all juries before in order, and this one up to that piece
+    # if a jury has a piece of another length, the core is lent none of that piece, and no jury after it: so it tests
+    # all juries before in order, and this one up to that piece
     lent = list(juries) if bad is None else list(juries[:bad + 1])
     ballots = bytearray().join(_whole(jury.ballots, jury.gates.shape.inputs) for jury in lent)
     masks = bytearray().join(_whole(tape, jury.gates.conditional) for tape, jury in zip(tapes, lent))
@@ -55,18 +54,18 @@ def dispatch(juries: Sequence[Jury], gates_per_round: int = GATES_PER_ROUND) -> 
     finally:
         wipe(ballots, masks, *tapes)
     if bad is not None:
-        # the core was content with an empty tape, and a longer one was given
+        # the core accepted an empty tape where a longer one was given
         raise Refused(7, bad, "the jury")
     return _cut(juries, boards, rounds)
 
 
 def _whole(piece: bytes | bytearray, length: int) -> bytes | bytearray:
-    """A piece of its right length, or none of it."""
+    """The piece if it has the right length, otherwise nothing."""
     return piece if len(piece) == length else b""
 
 
 def _first_misfit(juries: Sequence[Jury], tapes: Sequence[bytearray]) -> int | None:
-    """The first jury whose ballots or tape have another length than its list needs."""
+    """The first jury whose ballots or tape have the wrong length for its list."""
     for place, (jury, tape) in enumerate(zip(juries, tapes)):
         if (len(jury.ballots), len(tape)) != (jury.gates.shape.inputs, jury.gates.conditional):
             return place

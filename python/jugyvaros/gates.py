@@ -15,7 +15,7 @@ LONGEST_LINE = 44
 
 
 class Gate(NamedTuple):
-    """A gate: its kind and three operands, 0 where the kind does not use them."""
+    """A gate: its kind and three operands, 0 if the kind does not use them."""
 
     kind: int
     a: int
@@ -24,7 +24,7 @@ class Gate(NamedTuple):
 
 
 class Board(NamedTuple):
-    """What a run publishes: a masked bit for each conditional gate, then for each candidate 1 if it wins and else 0."""
+    """What a run publishes: a masked bit for each conditional gate, then for each candidate 1 if it wins, else 0."""
 
     shown: bytes
     closing: bytes
@@ -39,7 +39,7 @@ class Board(NamedTuple):
 
 
 def fresh_tape(length: int) -> bytearray:
-    """Secret random bits, a byte each, for one run and never for a second one."""
+    """Secret random bits, a byte each. Use them for one run only."""
     return bytearray(secrets.token_bytes(length)).translate(_LOWEST_BIT)
 
 
@@ -58,21 +58,21 @@ class GateList:
     __slots__ = ("shape", "conditional", "_table")
 
     def __init__(self, shape: Shape, numbers: Iterable[int]) -> None:
-        """Takes anyone's list: four numbers a gate, kind, a, b, c. Raises Refused where it is none for this shape."""
+        """Takes a list that anyone wrote, four numbers a gate: kind, a, b, c. Raises Refused if it does not fit."""
         self.shape = Shape(*shape)
         self._table = array.array("I", numbers)
         self.conditional = call("jugy_test", *self.shape, self._table, answers=4)[1]
 
     @classmethod
     def own(cls, shape: Shape) -> GateList:
-        """The list that the core writes for the shape: its last gates say who wins."""
+        """The list that the core writes for the shape: its closing bytes say who wins."""
         table = array.array("I", bytes(16 * Shape(*shape).measure().gates))
         call("jugy_write", *shape, table, answers=4)
         return cls(shape, table)
 
     @classmethod
     def from_text(cls, shape: Shape, text: bytes | str) -> GateList:
-        """Reads a list as text: a gate a line, its kind and the operands in use."""
+        """Reads a list from text: one gate a line, its kind and the operands that it uses."""
         data = text.encode("utf-8") if isinstance(text, str) else bytes(text)
         table = array.array("I", bytes(16 * (data.count(b"\n") + 1)))
         length = call("jugy_read_text", *shape, data, table, answers=3)[0]
@@ -86,7 +86,7 @@ class GateList:
 
     @property
     def table(self) -> array.array[int]:
-        """The numbers of the list, four a gate: a copy."""
+        """A copy of the list's numbers, four a gate."""
         return self._table[:]
 
     def __len__(self) -> int:
@@ -108,21 +108,21 @@ class GateList:
 
     @property
     def levels(self) -> int:
-        """The multiplicative depth: how many conditional gates the longest chain has. Openings of one level can be made
-        together, so this is the number of rounds that a sealing layer needs."""
+        """The multiplicative depth R: how many conditional gates the longest chain has. Gates of one level can be
+        opened together, so a sealing layer needs R rounds."""
         table = array.array("I", bytes(4 * len(self)))
         return call("jugy_levels", *self.shape, self._table, table, answers=5)[2]
 
     def run(self, ballots: bytes, tape: Tape = None) -> Board:
         """Runs the list on a jury's ballots. The board may be published.
 
-        Without a tape the run takes a fresh secret one and forgets it. A tape of your own, a byte of 0 or 1 for each
-        conditional gate, has to be random, secret and used once: otherwise the board tells more than the winners.
+        Without a tape the run uses a fresh secret one and forgets it. A tape of your own has a byte of 0 or 1 for each
+        conditional gate. It has to be random, secret and used once: otherwise the board reveals more than the winners.
         """
         return self.run_by("jugy_run", bytes(ballots), tape)
 
     def run_by(self, name: str, ballots: Buffer, tape: Tape) -> Board:
-        """A run by one of the exported functions that are lent what `jugy_run` is."""
+        """A run by one of the exported functions that take the same buffers as `jugy_run`."""
         masks = fresh_tape(self.conditional) if tape is None else bytearray(tape)
         wires = bytearray(self.shape.inputs + len(self))
         board = bytearray(self.conditional + self.shape.candidates)
@@ -133,8 +133,8 @@ class GateList:
         return Board(bytes(board[:self.conditional]), bytes(board[self.conditional:]))
 
     def counterpart(self, ballots: bytes, tape: bytes, others: bytes) -> bytes | None:
-        """The one tape under which a run on `others` leaves the board of `ballots` under `tape`; None where the winners
-        differ, since then there is no such tape."""
+        """The one tape under which a run on `others` leaves the same board as a run on `ballots` under `tape`. None if
+        the winners differ: then there is no such tape."""
         board, unmasked = self.run(ballots, tape), self.run(others, bytes(self.conditional))
         if board.closing != unmasked.closing:
             return None

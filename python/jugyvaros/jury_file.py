@@ -1,14 +1,13 @@
 """Juries written as text, one ballot a line.
 
-Of a jury that grades, the first line is `grades D`, D being the number of grades, or `grades D: NAME NAME ..` with
-the names of the candidates. Each further line is one ballot: for each candidate its grade, a number from 1 (the best)
-to D (the worst), with spaces between.
+A graded jury begins with the line `grades D`, where D is the number of grades, or `grades D: NAME NAME ..` with the
+names of the candidates. Each further line is a ballot: a grade for each candidate, from 1 (best) to D (worst), with
+spaces between.
 
-Of a jury that ranks, the first line is `ranking` and the names of the candidates. Each further line is one ballot,
-the best candidate first: `a > b = c` puts a before b and c, which share a place. Who is not named comes last, with
-all others who are not.
+A ranked jury begins with the line `ranking NAME NAME ..`. Each further line is a ballot, best candidate first:
+`a > b = c` puts a before b and c, which are tied. Candidates that are not named come last, tied with each other.
 
-What follows a `#` is left out, and so are empty lines.
+Empty lines, and anything after a `#`, are ignored.
 """
 
 from __future__ import annotations
@@ -22,14 +21,14 @@ from .shape import MOST_BALLOTS, MOST_CANDIDATES, MOST_GRADES, Shape
 
 
 class BadJury(ValueError):
-    """A jury's text with a bad line, named by its number."""
+    """A bad line in a jury's text; the message has its number."""
 
     def __init__(self, number: int, message: str) -> None:
         super().__init__(f"line {number}: {message}")
 
 
 class JuryFile(NamedTuple):
-    """A jury: its shape, a row of grades (from 1) or places in a ranking a juror, and names where the text has any."""
+    """A jury: its shape; for each juror a row of grades (from 1) or of places in a ranking; and names, if any."""
 
     shape: Shape
     rows: Sequence[Sequence[int]]
@@ -42,11 +41,11 @@ class JuryFile(NamedTuple):
 
     @property
     def rehearsal_input(self) -> bytes:
-        """What the rehearsal program reads: the shape, a byte a number, then the ballots."""
+        """What the rehearsal program reads: k, d and n, a byte each, then the ballots."""
         return bytes(self.shape) + self.ballots
 
     def name(self, candidate: int) -> str:
-        """A candidate's name, or its number from 0 where the text names none."""
+        """A candidate's name, or its number from 0 if the text has no names."""
         return self.names[candidate] if self.names else f"blend {candidate}"
 
     def named(self, winners: Sequence[int]) -> str:
@@ -67,7 +66,7 @@ def parse(data: bytes) -> JuryFile:
     """The jury in a file's bytes."""
     lines = list(_lines(_text(data)))
     if not lines:
-        raise BadJury(1, "the file says nothing; begin with 'grades' or 'ranking'")
+        raise BadJury(1, "the file has no jury; begin with 'grades' or 'ranking'")
     return _ranked(lines) if lines[0][1][0] == "ranking" else _graded(lines)
 
 
@@ -79,7 +78,7 @@ def _lines(text: str) -> Iterator[tuple[int, list[str]]]:
 
 
 def _text(data: bytes) -> str:
-    """The text of a file's bytes, which are to be UTF-8 without a byte-order mark."""
+    """The text of a file's bytes, which must be UTF-8 without a byte-order mark."""
     for mark, name in ((codecs.BOM_UTF8, "UTF-8"), (codecs.BOM_UTF16_LE, "UTF-16"), (codecs.BOM_UTF16_BE, "UTF-16")):
         if data.startswith(mark):
             raise BadJury(1, f"begins with a byte-order mark of {name}; save the file as UTF-8 without one")
@@ -109,11 +108,11 @@ def _graded(lines: Sequence[tuple[int, list[str]]]) -> JuryFile:
 
 
 def _head(number: int, words: Sequence[str]) -> tuple[int, list[str]]:
-    """The number of grades, and the names behind a colon."""
+    """The number of grades, and the names after a colon."""
     said, colon, named = " ".join(words).partition(":")
     before, names = said.split(), named.split()
     if len(before) != 2 or before[0] != "grades":
-        raise BadJury(number, "the first line is to say 'grades' and how many grades there are, "
+        raise BadJury(number, "the first line must be 'grades' and how many grades there are, "
                               "or 'ranking' and the candidates' names")
     grades = _numbers(number, before[1:])[0]
     if not 2 <= grades <= MOST_GRADES:
@@ -126,7 +125,7 @@ def _head(number: int, words: Sequence[str]) -> tuple[int, list[str]]:
 def _grades(number: int, words: Sequence[str], grades: int, expected: int | None, by: str) -> list[int]:
     ballot = _numbers(number, words)
     if expected is not None and len(ballot) != expected:
-        raise BadJury(number, f"{len(ballot)} grades, but the {by} are of {expected} candidates")
+        raise BadJury(number, f"{len(ballot)} grades, but the {by} have {expected} candidates")
     if len(ballot) > MOST_CANDIDATES:
         raise BadJury(number, f"{len(ballot)} grades, but there are at most {MOST_CANDIDATES} candidates")
     for grade in ballot:
@@ -140,7 +139,7 @@ def _check_names(number: int, names: Sequence[str], what: str) -> None:
         raise BadJury(number, f"{what} followed by the names of 1 to {MOST_CANDIDATES} candidates, not {len(names)}")
     for name in names:
         if "=" in name or ">" in name:
-            raise BadJury(number, f"'{name}' holds a sign that stands between names")
+            raise BadJury(number, f"'{name}' has a = or >, which separate names")
         if names.count(name) > 1:
             raise BadJury(number, f"two candidates are called '{name}'")
 
@@ -160,16 +159,16 @@ def _places(number: int, words: Sequence[str], names: Sequence[str]) -> list[int
     for place, group in enumerate(" ".join(words).split(">")):
         for name in map(str.strip, group.split("=")):
             if name not in names:
-                raise BadJury(number, f"'{name}' is none of the candidates: {' '.join(names)}")
+                raise BadJury(number, f"'{name}' is not one of the candidates: {' '.join(names)}")
             if name in places:
-                raise BadJury(number, f"'{name}' stands twice")
+                raise BadJury(number, f"'{name}' is named twice")
             places[name] = place
     return [places.get(name, len(names)) for name in names]
 
 
 def _check_number(lines: Sequence[tuple[int, list[str]]]) -> None:
-    """There are 1 to 255 ballots behind the first line."""
+    """Refuses a text that has not 1 to 255 ballots after its first line."""
     if len(lines) > 1 + MOST_BALLOTS:
         raise BadJury(lines[MOST_BALLOTS + 1][0], f"there are at most {MOST_BALLOTS} ballots")
     if len(lines) == 1:
-        raise BadJury(lines[0][0], "no ballot follows")
+        raise BadJury(lines[0][0], "no ballot follows this line")

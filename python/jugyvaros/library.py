@@ -2,7 +2,7 @@
 
 The library is, in this order,
   1. the shared object that the environment variable JUGYVAROS_LIBRARY names,
-  2. in a checkout of the repository, target/staticlib/libjugyvaros.so, built first where a source is newer,
+  2. in a checkout of the repository, target/staticlib/libjugyvaros.so, built first if a source is newer,
   3. the copy that `pip install` put beside this file.
 """
 
@@ -28,7 +28,7 @@ MOST_SIZE = ctypes.c_size_t(-1).value
 
 
 def path() -> pathlib.Path:
-    """The shared object, built first where it can be and has to be."""
+    """The shared object; in a checkout it is built first if needed."""
     given = os.environ.get("JUGYVAROS_LIBRARY")
     if given:
         if not pathlib.Path(given).is_file():
@@ -48,7 +48,7 @@ def _loaded() -> ctypes.CDLL:
 
 @functools.lru_cache(maxsize=None)
 def function(name: str) -> Callable[..., int]:
-    """An exported function with its parameters declared: numbers, and for each buffer a pointer and a length."""
+    """An exported function with its parameters declared: numbers, and a pointer and a length for each buffer."""
     found = getattr(_loaded(), name)
     found.restype = ctypes.c_size_t
     pair: list[Any] = [ctypes.c_void_p, ctypes.c_size_t]
@@ -56,12 +56,12 @@ def function(name: str) -> Callable[..., int]:
     return found  # type: ignore[no-any-return]
 
 
-# What an empty buffer points to: no pointer may be null.
+# What an empty buffer points to, because no pointer may be null.
 _NOTHING = ctypes.create_string_buffer(16)
 
 
 def size(number: int) -> int:
-    """A number as C takes it. What does not fit becomes the largest one, which is outside every limit of the core."""
+    """A number as C takes it. One that does not fit becomes the largest, which is outside every limit of the core."""
     return number if 0 <= number <= MOST_SIZE else MOST_SIZE
 
 
@@ -84,17 +84,17 @@ def _lent(data: Buffer) -> tuple[Any, int]:
 
 
 def wipe(*buffers: bytearray | array.array[int]) -> None:
-    """Fills buffers with zeros, where they held ballots or tapes."""
+    """Fills buffers that held ballots or tapes with zeros."""
     for data in buffers:
         pointer, length = _lent(data)
         ctypes.memset(pointer, 0, length * (data.itemsize if isinstance(data, array.array) else 1))
 
 
 def call(name: str, *arguments: int | Buffer, answers: int, place_of: str | None = None) -> list[int]:
-    """Calls a function with numbers and buffers. `answers` is the length of its answer; what stands there behind reason
-    and place is returned.
+    """Calls a function with numbers and buffers, and returns its answer after reason and place. `answers` is the length
+    of the whole answer.
 
-    A refusal is raised; `place_of` says what its place counts where this call has its own way of counting.
+    A refusal is raised. `place_of` says what its place counts, if this call counts something else than usual.
     """
     answer = array.array("L", bytes(8 * answers))
     prepared: list[Any] = []

@@ -1,14 +1,14 @@
-"""Why the core turns a call away: numbers, words, and the exception that carries them.
+"""Why the core refuses a call: numbers, words, and the exception that carries them.
 
-The words are those of c/jugyvaros.h (`python/from_header.py` takes them from there, and a test holds them to it), so
-that a reason reads the same in C, in Python and in every tool. What to do about it is said here.
+The words are those of c/jugyvaros.h (`python/from_header.py` takes them from there, and a test compares them), so that
+a reason reads the same in C, in Python and in every tool. The advice on what to do about it is here.
 """
 
 from __future__ import annotations
 
 from ._header import WORDS
 
-# Reasons of the season sheet, which is a program and has no exported function.
+# The season sheet is a program without an exported function, so the header does not have its reasons.
 SHEET = {
     21: ("SHEET_LENGTH", "the file is no whole number of runs, or has more than 4,096", ""),
     22: ("SHEET_RUN", "a run has a shape outside its limits, or a winner who is no candidate", "the run"),
@@ -17,7 +17,7 @@ REASONS = {**WORDS, **SHEET}
 
 ADVICE = {
     1: "take 1 to 8 candidates, 2 to 7 grades or 0 for a ranking, and 1 to 255 ballots",
-    2: "hand over whole gates, four numbers each, at least one for each candidate",
+    2: "pass whole gates, four numbers each, at least one for each candidate",
     3: "a kind is 0 to 7, operands in use name earlier wires, the others are 0",
     4: "a graded ballot has candidates x grades bytes, a ranked one candidates x candidates",
     5: "every ballot byte is 0 or 1",
@@ -27,31 +27,33 @@ ADVICE = {
     9: "the wire table has one byte for each ballot byte and each gate",
     10: "the board has one byte for each conditional gate and each candidate",
     11: "a candidate is never before itself, and of two at most one is before the other",
-    12: "a third candidate is behind the better one or before the worse one, or both",
-    13: "start from an empty urn, and change it by admitting and withdrawing only",
+    12: "if one candidate is before another, every third is after the first or before the second",
+    13: "start from an empty urn, and change it only by admitting and withdrawing",
     14: "jurors are numbered 1 to 255, and each is in once",
     15: "make the urn with more slots, or withdraw a ballot first",
-    16: "take 2 to 5 trustees",
-    17: "deal for this list and these ballots",
+    16: "there are 2 to 5 trustees",
+    17: "make a dealing for this list and these ballots",
     18: "deal again: all shares are bits, and they add up to the ballots and to the products",
     19: "dispatch 1 to 8 juries at a time",
     20: "give each jury 1 to 65,536 gates a round",
     21: "a run is 12 bytes; start a new file for the next season",
     22: "remove that run from the file",
     23: "write a kind and its operands in decimal, single spaces, a line feed after each line",
-    24: "lend a longer output",
-    200: "take the levels that the core writes for this list",
+    24: "pass a longer output",
+    200: "use the levels that the core writes for this list",
     201: "the rounds of a list are 0 to the largest of its levels",
-    202: "hand over two bits for each conditional gate, 0 where a sum is not known yet",
+    202: "pass two bits for each conditional gate, 0 if a sum is not known yet",
 }
 
 
 class Refused(Exception):
-    """The core turned a call away, and altered nothing.
+    """The core refused a call, and changed nothing.
 
-    number  the reason, as in c/jugyvaros.h
-    place   where the fault is, counted from 0; 0 where the reason has no place
-    words   what the reason means
+    number    the reason, as in c/jugyvaros.h
+    place     where the fault is, counted from 0; 0 if the reason has no place
+    place_of  what the place counts: "the gate", "the jury"; empty if the reason has no place
+    words     what is wrong
+    advice    what to do about it
     """
 
     def __init__(self, number: int, place: int = 0, place_of: str | None = None) -> None:

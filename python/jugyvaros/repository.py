@@ -1,6 +1,6 @@
-"""What is built from the sources when the package stands in a checkout of the repository.
+"""What is built from the sources if the package is used from a checkout of the repository.
 
-An installed package has no sources beside it: there `ROOT` is None and nothing can be built.
+An installed package has no sources: there `ROOT` is None and nothing can be built.
 """
 
 from __future__ import annotations
@@ -23,13 +23,13 @@ _PROGRESS = re.compile(r"rt: \w+ proved \(\d|rt: target/")
 
 
 class NotBuilt(Exception):
-    """The core is not there and cannot be built here; the message says what to do, in one line."""
+    """The core is missing and cannot be built here; the message says what to do, in one line."""
 
 
 def root() -> pathlib.Path:
-    """The repository that the package stands in."""
+    """The repository that the package is in."""
     if ROOT is None:
-        raise NotBuilt("this package stands in no checkout, so it cannot build the core; run it from one")
+        raise NotBuilt("this package is not in a checkout, so it cannot build the core; run it from one")
     return ROOT
 
 
@@ -45,7 +45,7 @@ def _is_older(made: pathlib.Path) -> bool:
 
 
 def _build(*command: Word) -> None:
-    """Runs a build command. Standard error gets a line for each crate that is done, and the end of a failure."""
+    """Runs a build command. Standard error gets a line for each crate that is done, and the last lines of a failure."""
     seen = []
     try:
         process = subprocess.Popen(
@@ -60,7 +60,7 @@ def _build(*command: Word) -> None:
             print(line, end="", file=sys.stderr, flush=True)
     if process.wait():
         sys.stderr.write("".join(seen[-LAST_LINES:]))
-        raise NotBuilt(f"{' '.join(map(str, command))} failed; its last lines stand above")
+        raise NotBuilt(f"{' '.join(map(str, command))} failed; its last lines are above")
 
 
 def _export_crates() -> Sequence[str]:
@@ -70,10 +70,10 @@ def _export_crates() -> Sequence[str]:
 
 
 def archive() -> pathlib.Path:
-    """target/staticlib/libjugyvaros.a, proved and built first where a source is newer."""
+    """target/staticlib/libjugyvaros.a, proved and built first if a source is newer."""
     made = root() / "target/staticlib/libjugyvaros.a"
     if _is_older(made):
-        # proving by itself says when each crate is done; tools/library then finds all of it proved
+        # `rt check` prints a line for each crate that is done; tools/library then finds everything proved
         _build("rt", "check", *_export_crates())
         _build(root() / "tools/library")
     return made
@@ -89,17 +89,26 @@ def shared_object() -> pathlib.Path:
 
 
 def link(source: pathlib.Path, made: pathlib.Path) -> None:
-    """Makes a shared object of an archive. Whoever loads it meanwhile finds the old one or the new one."""
+    """Makes a shared object from an archive. A program that loads it meanwhile finds the old one or the new one."""
     half = made.with_name(f".{made.name}.{os.getpid()}")
     _build("cc", "-shared", "-o", half, "-Wl,--whole-archive", source, "-Wl,--no-whole-archive")
     os.replace(half, made)
 
 
 def program(name: str) -> pathlib.Path:
-    """A program of the repository in target/bin, proved and built first where a source is newer."""
+    """A program of the repository in target/bin, proved and built first if a source is newer."""
     made = root() / "target/bin" / name
     if _is_older(made):
         _build("rt", "check", name)
-        # a source that was only touched leaves the program as it was, and it is not to be looked at again
+        # if a source was only touched, the build leaves the program as it was; do not look at it again
         made.touch()
     return made
+
+
+def native(name: str) -> pathlib.Path:
+    """A program of the Rust wrapper, linked with the archive; both are built first where a source is newer."""
+    archive()
+    folder = root() / "target/rust"
+    _build("cargo", "build", "--quiet", "--release", "--offline", "--manifest-path", root() / "rust/Cargo.toml",
+           "--target-dir", folder, "--bin", name)
+    return folder / "release" / name

@@ -1,4 +1,4 @@
-"""The shape of a jury, and ballots in words as the bytes that the core reads."""
+"""The shape of a jury, and ballots as the bytes that the core reads."""
 
 from __future__ import annotations
 
@@ -19,7 +19,7 @@ class Measure(NamedTuple):
 
 
 class Shape(NamedTuple):
-    """Candidates, grades (0 where the jury ranks) and ballots of a jury. The core refuses numbers outside its limits.
+    """How many candidates, grades (0 for a ranking) and ballots a jury has. The core tests their limits.
 
     >>> Shape(2, 3, 3).inputs
     18
@@ -36,16 +36,16 @@ class Shape(NamedTuple):
 
     @property
     def row(self) -> int:
-        """The bytes of a ballot for one candidate: one a grade, or of a ranking one a candidate."""
+        """The bytes of a ballot for one candidate: one for each grade, or for each candidate in a ranking."""
         return self.candidates if self.ranked else self.grades
 
     @property
     def inputs(self) -> int:
-        """The ballot bytes of the whole jury (I)."""
+        """The number of ballot bytes of the whole jury (I)."""
         return self.ballots * self.candidates * self.row
 
     def measure(self) -> Measure:
-        """The size of the shape's own list, which is not written for it."""
+        """The size of the shape's own list, found without writing it."""
         return Measure(*call("jugy_measure", *self, answers=5))
 
     def encode(self, ballots: Iterable[Sequence[int]]) -> bytes:
@@ -60,7 +60,7 @@ class Shape(NamedTuple):
         rows = bytearray()
         for number, ballot in enumerate(ballots):
             if len(ballot) != self.candidates:
-                raise ValueError(f"ballot {number} speaks of {len(ballot)} candidates, not of {self.candidates}")
+                raise ValueError(f"ballot {number} has {len(ballot)} candidates, not {self.candidates}")
             if self.ranked:
                 rows += bytes(x < y for x in ballot for y in ballot)
                 continue
@@ -74,12 +74,12 @@ class Shape(NamedTuple):
 
 
 def winners_of(closing: Iterable[int]) -> tuple[int, ...]:
-    """The winners that closing bytes name: candidates from 0, in order."""
+    """The winners by closing bytes: candidates from 0, in order."""
     return tuple(candidate for candidate, bit in enumerate(closing) if bit)
 
 
 def count(shape: Shape, ballots: bytes) -> tuple[int, ...]:
-    """The winners, counted plainly without a gate list: candidates from 0, in order.
+    """The winners, counted plainly, without a gate list: candidates from 0, in order.
 
     >>> shape = Shape(2, 3, 3)
     >>> count(shape, shape.encode([[1, 2], [2, 2], [2, 3]]))

@@ -1,4 +1,4 @@
-"""A trustee on a machine of its own: it holds its own tables, and hears of the others nothing but the opened sums."""
+"""A trustee on its own machine: it holds its own tables, and hears nothing of the others but opened sums."""
 
 from __future__ import annotations
 
@@ -9,11 +9,10 @@ from .library import call, wipe
 
 
 class Trustee:
-    """Trustee `number`, counted from 0, of 2 to 5 who run one list together, in as many exchanges as it has rounds and
-    one more.
+    """Trustee `number`, counted from 0, of 2 to 5 who run one list together in `rounds` + 1 exchanges.
 
-    All start. Before each of the rounds 0 to `rounds` they are told the sums modulo 2 of what all have published so
-    far; after the last one the sums of the closing bits say who wins. A share serves one tally only.
+    All start. Before each of the rounds 0 to `rounds` they are told the sums, modulo 2, of what all have published so
+    far; after the last round the sums of the closing bits say who wins. Use shares and triples for one tally only.
 
     >>> from jugyvaros import Shape, deal
     >>> shape = Shape(2, 2, 1)
@@ -34,7 +33,7 @@ class Trustee:
     __slots__ = ("gates", "trustees", "number", "rounds", "_levels", "_triples", "_wires", "_published")
 
     def __init__(self, gates: GateList, trustees: int, number: int) -> None:
-        """Takes the list that all run. Which of them takes part in what is tested when it starts."""
+        """Takes the list that all run. The numbers of trustees are tested by `start`."""
         self.gates, self.trustees, self.number = gates, trustees, number
         self._levels = array.array("I", bytes(4 * len(gates)))
         self.rounds = call("jugy_levels", *gates.shape, gates.table, self._levels, answers=5)[2]
@@ -43,7 +42,7 @@ class Trustee:
         self._published = bytearray(2 * gates.conditional + gates.shape.candidates)
 
     def start(self, ballot_shares: bytes, triples: bytes) -> None:
-        """Takes its own share of the ballots, a bit for each ballot byte, and three bits for each conditional gate."""
+        """Takes its own shares: a bit for each ballot byte, and three bits for each conditional gate."""
         shares, held = bytearray(ballot_shares), bytearray(triples)
         try:
             call("jugy_trustee_start", *self.gates.shape, self.gates.table, self.trustees, self.number, shares, held,
@@ -53,16 +52,16 @@ class Trustee:
             wipe(shares, held)
 
     def round(self, number: int, heard: bytes) -> bytes:
-        """Does a round, and returns all that it has published by then: two bits for each conditional gate, 0 until its
-        level comes, then a closing bit for each candidate, 0 until the last round.
+        """Does a round, and returns all that this trustee has published so far: two bits for each conditional gate, 0
+        until its level comes, then a closing bit for each candidate, 0 until the last round.
 
-        `heard` has the sums of both bits of each conditional gate, 0 where one is not known yet.
+        `heard` has the two sums of each conditional gate, 0 if they are not known yet.
         """
         call("jugy_trustee_round", *self.gates.shape, self.gates.table, self.trustees, self.number, number,
              self._levels, self._triples, bytes(heard), self._wires, self._published, answers=5)
         return bytes(self._published)
 
     def finish(self) -> None:
-        """Empties its shares of the wires, which are secret, and of the triples."""
+        """Empties its shares of wires and triples, which are secret."""
         wipe(self._triples)
         call("jugy_trustee_finish", *self.gates.shape, self.gates.table, self._wires, answers=4)

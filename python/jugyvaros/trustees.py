@@ -1,4 +1,4 @@
-"""Trustees who each hold one bit of every wire, so that no one of them, nor all but one together, sees a ballot."""
+"""Trustees who each hold one bit of every wire. Not even all of them but one can see a ballot."""
 
 from __future__ import annotations
 
@@ -13,7 +13,7 @@ from .shape import winners_of
 class Dealing(NamedTuple):
     """What each trustee is given, for one tally only: its share of the ballots, and of the dealer's triples.
 
-    A triple is two random bits and their product, for one conditional gate.
+    A triple is two random bits and their product; there is one for each conditional gate.
     """
 
     ballot_shares: Sequence[bytes]
@@ -21,7 +21,7 @@ class Dealing(NamedTuple):
 
 
 class Tally(NamedTuple):
-    """What a tally by trustees publishes: the bits that each trustee said, and 1 for each candidate who wins."""
+    """What a tally by trustees publishes: each trustee's bits, and for each candidate 1 if it wins, else 0."""
 
     published: Sequence[bytes]
     closing: bytes
@@ -44,8 +44,8 @@ def _split(bits: bytes, trustees: int) -> list[bytes]:
 def deal(gates: GateList, ballots: bytes, trustees: int) -> Dealing:
     """Splits ballots among 2 to 5 trustees and deals a triple for each conditional gate, with fresh secret bits.
 
-    Whoever calls this sees the ballots. In a real tally each juror splits its own ballot, and a dealer deals the
-    triples.
+    Whoever calls this sees the ballots. In a real tally each juror would split their own ballot, and a dealer would
+    deal the triples.
     """
     number = max(1, min(trustees, 6))
     first, second = (bytes(fresh_tape(gates.conditional)) for _ in range(2))
@@ -56,7 +56,7 @@ def deal(gates: GateList, ballots: bytes, trustees: int) -> Dealing:
 
 
 def tally(gates: GateList, ballots: bytes, dealing: Dealing) -> Tally:
-    """Runs a list as the trustees do, on the shares of a dealing.
+    """Runs a list on the shares of a dealing, doing all trustees' work in one place. The caller sees the ballots.
 
     >>> from jugyvaros import Shape
     >>> shape = Shape(2, 2, 1)
@@ -80,5 +80,5 @@ def tally(gates: GateList, ballots: bytes, dealing: Dealing) -> Tally:
 
 
 def _joined(pieces: Sequence[bytes], length: int) -> bytearray:
-    """The pieces one after another. Where one has another length, one byte: the core then refuses the length."""
+    """The pieces one after another. If one has the wrong length, a single byte, whose length the core refuses."""
     return bytearray().join(pieces) if all(len(piece) == length for piece in pieces) else bytearray(1)

@@ -1,4 +1,4 @@
-"""An urn for graded ballots: jurors come and go while the tasting is on."""
+"""An urn for graded ballots, which go in and come out while tasting goes on."""
 
 from __future__ import annotations
 
@@ -11,7 +11,7 @@ MOST_SLOTS = 256
 
 
 class Urn:
-    """Ballots by juror, 1 to 255. A refused call alters nothing.
+    """Ballots by juror; jurors are numbered 1 to 255. A refused call changes nothing.
 
     >>> urn = Urn(2, 3)
     >>> one = Shape(2, 3, 1)
@@ -22,21 +22,21 @@ class Urn:
     """
 
     def __init__(self, candidates: int, grades: int, slots: int = MOST_SLOTS) -> None:
-        """An empty urn of 2 to 256 slots, which has room for one ballot fewer."""
+        """An empty urn of 2 to 256 slots. It has room for one ballot fewer."""
         self.candidates, self.grades = candidates, grades
-        # no urn is longer, whatever the numbers are: the core refuses them
+        # no urn is longer than this: the core refuses larger numbers
         self._bytes = bytearray(max(0, min(slots, MOST_SLOTS + 1)) * (2 + min(max(candidates * grades, 0), 56)))
         call("jugy_empty_urn", candidates, grades, self._bytes, answers=3)
 
     @classmethod
     def from_bytes(cls, candidates: int, grades: int, data: bytes) -> Urn:
-        """An urn as `bytes(urn)` gave it. One that is not sound is refused."""
+        """An urn from the bytes that `bytes(urn)` gave. An unsound one is refused."""
         urn = cls.__new__(cls)
         urn.candidates, urn.grades, urn._bytes = candidates, grades, bytearray(data)
         try:
             urn.preview_withdraw(0)
         except Refused as refused:
-            # there is no juror 0: that the core gets as far as looking for one shows that the urn is sound
+            # 0 is no juror's number, and the core tests it only after it has found the urn sound
             if refused.number != 14:
                 raise
         return urn
@@ -51,7 +51,7 @@ class Urn:
 
     @property
     def jurors(self) -> tuple[int, ...]:
-        """The jurors in the order in which a run takes their ballots: who came last is first."""
+        """The jurors in chain order, as a run takes their ballots: the last to be admitted is the first."""
         found, size = [], 2 + self.candidates * self.grades
         slot = self._bytes[0]
         while slot:
@@ -60,31 +60,31 @@ class Urn:
         return tuple(found)
 
     def admit(self, juror: int, ballot: bytes) -> int:
-        """Puts a juror's ballot in, and answers the number of ballots."""
+        """Puts a juror's ballot in, and returns the number of ballots."""
         return self._admit("jugy_admit", juror, ballot)
 
     def preview_admit(self, juror: int, ballot: bytes) -> int:
-        """What `admit` would answer or raise. The urn stays as it is."""
+        """What `admit` would return or raise. The urn is not changed."""
         return self._admit("jugy_preview_admit", juror, ballot)
 
     def _admit(self, name: str, juror: int, ballot: bytes) -> int:
         return call(name, self.candidates, self.grades, self._bytes, juror, bytes(ballot), answers=3)[0]
 
     def withdraw(self, juror: int) -> int:
-        """Takes a juror's ballot out, and answers the number of ballots."""
+        """Takes a juror's ballot out, and returns the number of ballots."""
         return call("jugy_withdraw", self.candidates, self.grades, self._bytes, juror, answers=3)[0]
 
     def preview_withdraw(self, juror: int) -> int:
-        """What `withdraw` would answer or raise. The urn stays as it is."""
+        """What `withdraw` would return or raise. The urn is not changed."""
         return call("jugy_preview_withdraw", self.candidates, self.grades, self._bytes, juror, answers=3)[0]
 
     @property
     def shape(self) -> Shape:
-        """The shape of a jury of the ballots that are in."""
+        """The shape of the jury whose ballots are in."""
         return Shape(self.candidates, self.grades, len(self))
 
     def run(self, gates: GateList | None = None, tape: Tape = None) -> Board:
-        """Runs a list, the own one of `shape` where none is given, on the ballots that are in. They stay in."""
+        """Runs a list on the ballots that are in; without one, the own list of `shape`. The ballots stay in."""
         chosen = GateList.own(self.shape) if gates is None else gates
         if (chosen.shape.candidates, chosen.shape.grades) != (self.candidates, self.grades):
             raise ValueError(f"the list is for {chosen.shape}, the urn for {self.shape}")

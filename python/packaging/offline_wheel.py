@@ -1,8 +1,8 @@
 """Builds the wheel for pip, with the standard library only: nothing is fetched, so it works without a network.
 
 The wheel holds the package and a copy of the core's shared object. That is linked from
-target/staticlib/libjugyvaros.a of the checkout, which is proved and built first where a source is newer; or it is the
-one that JUGYVAROS_LIBRARY names.
+target/staticlib/libjugyvaros.a of the checkout, which is proved and built first if a source is newer; or it is the one
+that JUGYVAROS_LIBRARY names.
 """
 
 import base64
@@ -16,7 +16,7 @@ import zipfile
 HERE = pathlib.Path(__file__).resolve().parent.parent
 sys.path.insert(0, str(HERE))
 
-from jugyvaros import library  # noqa: E402  (it stands beside this folder)
+from jugyvaros import library  # noqa: E402  (it is next to this folder)
 
 PROJECT = dict(re.findall(r'^([\w-]+) = "(.*)"$', (HERE / "pyproject.toml").read_text(), re.MULTILINE))
 NAME = f"{PROJECT['name']}-{PROJECT['version']}"

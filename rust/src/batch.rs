@@ -1,20 +1,20 @@
-//! A list that 64 juries of one shape run at once: each number holds a bit for each jury, jury 0 in the lowest.
+//! One list run on 64 juries of one shape at once: each number holds a bit for each jury, jury 0 in the lowest.
 //!
-//! [`pack`] and [`unpack`] go from the bytes of 64 juries to such numbers and back. Whoever has fewer juries
-//! fills them up with copies: all 64 are tested and run.
+//! [`pack`] and [`unpack`] convert between the bytes of 64 juries and such numbers. All 64 juries are tested and run:
+//! if you have fewer, fill up with copies.
 
 use crate::calls::{c, run_by};
 use crate::{count, winners, Board, GateList, JuryRefusal, Reason, Refusal, Secret, Shape, Size};
 use std::io;
 
-/// How many juries a call serves.
+/// How many juries one call runs.
 pub const JURIES: usize = 64;
 
-/// The numbers in which jury j has the bytes of list j, each of them 0 or 1. All lists are of one length; a
-/// jury that is not given has zeros.
+/// Packs the bytes of up to 64 juries into numbers: bit j of number i is byte i of jury j. All juries have equally many
+/// bytes, each 0 or 1. Juries that are missing get zeros.
 ///
 /// # Panics
-/// Where there are more than 64 lists, lists of different lengths, or a byte above 1.
+/// If there are more than 64 juries, their lengths differ, or a byte is above 1.
 pub fn pack<T: AsRef<[u8]>>(juries: &[T]) -> Secret<u64> {
     assert!(juries.len() <= JURIES, "a number has room for 64 juries");
     let length = juries.first().map_or(0, |bytes| bytes.as_ref().len());
@@ -33,7 +33,7 @@ pub fn pack<T: AsRef<[u8]>>(juries: &[T]) -> Secret<u64> {
 /// The bytes of jury j.
 ///
 /// # Panics
-/// Where j is above 63.
+/// If j is above 63.
 pub fn unpack(words: &[u64], j: usize) -> Secret<u8> {
     assert!(j < JURIES, "juries are 0 to 63");
     let mut bytes = Secret::zeros(words.len());
@@ -43,8 +43,8 @@ pub fn unpack(words: &[u64], j: usize) -> Secret<u8> {
     bytes
 }
 
-/// Runs a list on the ballots of 64 juries, with one tape number for each conditional gate. Lengths count
-/// numbers: as many as a single run has bytes. Reasons 5 and 8 never come. `wires` is all zero afterwards.
+/// Runs a list on the ballots of 64 juries, with one tape number for each conditional gate. Lengths count numbers, as
+/// many as a single run has bytes. Reasons 5 and 8 never apply. `wires` is all zero afterwards.
 pub fn run(
     shape: Shape,
     table: &[u32],
@@ -57,8 +57,8 @@ pub fn run(
         .map_err(|refusal| located(shape, ballots, refusal))
 }
 
-/// The core's place of a fault in ballots is the first jury that has it. Where in that jury it is, a test of it
-/// alone says.
+/// For a fault in ballots, the core answers the first jury with it as the place. Counting that jury alone tells where
+/// in its ballots the fault is.
 fn located(shape: Shape, ballots: &[u64], refusal: Refusal) -> JuryRefusal {
     match refusal.reason {
         Reason::BallotRow | Reason::NotAsymmetric | Reason::NotWeakOrder => {
@@ -69,7 +69,7 @@ fn located(shape: Shape, ballots: &[u64], refusal: Refusal) -> JuryRefusal {
     }
 }
 
-/// A list with room to run it for 64 juries, again and again.
+/// A list with the buffers to run it for 64 juries, as often as needed.
 ///
 /// ```
 /// use jugyvaros::batch::pack;
@@ -92,12 +92,12 @@ pub struct Batch<'a> {
 }
 
 impl<'a> Batch<'a> {
-    /// Room for runs of this list.
+    /// Makes the buffers for this list.
     pub fn new(list: &'a GateList) -> Batch<'a> {
         Batch { list, wires: Secret::zeros(list.wires()), board: vec![0; list.board_length()] }
     }
 
-    /// Fresh tapes for 64 juries from the system's random numbers, for one run.
+    /// Fresh tapes for 64 juries from the system's random numbers. Use them for one run.
     pub fn fresh_tape(&self) -> io::Result<Secret<u64>> {
         Secret::random_words(self.list.conditional())
     }

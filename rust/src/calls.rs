@@ -1,10 +1,10 @@
-//! The five entry points on slices that the caller provides: Rust's borrows are all that `c/jugyvaros.h` asks
-//! of a caller.
+//! The five entry points on the caller's slices. Rust's borrow rules guarantee all that `c/jugyvaros.h` asks of a
+//! caller.
 
 use crate::{Reason, Refusal};
 
 pub(crate) mod c {
-    /// Declares the entry points that run a list: they differ in name and in the items of ballots, tape, wires
+    /// Declares the entry points that run a list. They differ in name and in the element type of ballots, tape, wires
     /// and board.
     macro_rules! runs {
         ($($name:ident($item:ty);)*) => {
@@ -66,24 +66,24 @@ pub(crate) mod c {
     }
 }
 
-/// The shape of a jury. Any numbers may stand here: what lies outside the limits is refused with reason 1.
+/// The shape of a jury. It can hold any numbers; the core refuses those outside the limits with reason 1.
 #[derive(Clone, Copy, Debug, PartialEq, Eq)]
 pub struct Shape {
     /// k, from 1 to 8.
     pub candidates: usize,
-    /// d, from 2 to 7, or 0 where the candidates are ranked.
+    /// d, from 2 to 7, or 0 if jurors rank the candidates.
     pub grades: usize,
     /// n, from 1 to 255.
     pub ballots: usize,
 }
 
 impl Shape {
-    /// Jurors give each candidate one of these grades.
+    /// A jury whose jurors give each candidate one of `grades` grades.
     pub const fn graded(candidates: usize, grades: usize, ballots: usize) -> Shape {
         Shape { candidates, grades, ballots }
     }
 
-    /// Jurors rank the candidates, and may put some level.
+    /// A jury whose jurors rank the candidates. Ties are allowed.
     pub const fn ranked(candidates: usize, ballots: usize) -> Shape {
         Shape { candidates, grades: 0, ballots }
     }
@@ -98,7 +98,7 @@ impl Shape {
         [self.candidates, self.grades, self.ballots]
     }
 
-    /// I, the ballot bytes of a jury, where the shape is within its limits.
+    /// I, the ballot bytes of a jury, if the shape is within its limits.
     pub(crate) fn inputs(self) -> usize {
         let columns = if self.is_ranked() { self.candidates } else { self.grades };
         self.ballots * self.candidates * columns
@@ -131,14 +131,14 @@ pub struct Measures {
     pub inputs: usize,
 }
 
-/// Lends an entry point an answer array of the length that it needs, and gives the array back where the call is
+/// Calls an entry point with an answer array of the length that it needs, and returns that array if the call is
 /// accepted.
 pub(crate) fn answered<const N: usize>(call: impl FnOnce(*mut usize, usize) -> usize) -> Result<[usize; N], Refusal> {
     let mut answer = [0; N];
     match call(answer.as_mut_ptr(), N) {
         0 => Ok(answer),
         status => Err(Refusal {
-            // the array is not too short, so the status is one of the reasons
+            // the array is long enough, so the status is one of the reasons
             reason: Reason::of(status).expect("a reason of the list"),
             place: answer[1],
         }),
@@ -165,7 +165,7 @@ pub fn write(shape: Shape, table: &mut [u32]) -> Result<Size, Refusal> {
     sized(|answer, length| unsafe { c::jugy_write(k, d, n, table.as_mut_ptr(), table.len(), answer, length) })
 }
 
-/// Tests anyone's list for a shape.
+/// Tests a list for a shape, whoever wrote it.
 pub fn test(shape: Shape, table: &[u32]) -> Result<Size, Refusal> {
     let [k, d, n] = shape.numbers();
     // SAFETY: as in `write`; the table is only read.
@@ -224,9 +224,9 @@ pub(crate) fn run_by<T>(
     })
 }
 
-/// Runs a list on the ballots, with one tape byte for each conditional gate. The tape is fresh, secret random
-/// bits, never used again; afterwards `wires` is zeros, and `board` may be published. The table is the list and
-/// nothing behind it.
+/// Runs a list on the ballots, with one tape byte for each conditional gate. The tape has to be random, secret, and
+/// used only once. Afterwards `wires` is all zero, and `board` may be published. The table holds the list and nothing
+/// else.
 pub fn run(
     shape: Shape,
     table: &[u32],
@@ -238,7 +238,7 @@ pub fn run(
     run_by(c::jugy_run, shape, table, ballots, tape, wires, board)
 }
 
-/// Counts plainly: a closing byte for each candidate, and zeros behind them up to eight.
+/// Counts plainly, without a list: a closing byte for each candidate, then zeros up to eight.
 pub fn count(shape: Shape, ballots: &[u8]) -> Result<[u8; 8], Refusal> {
     let [k, d, n] = shape.numbers();
     // SAFETY: as in `write`; the ballots are only read.

@@ -1,4 +1,4 @@
-//! Up to eight juries in rounds. `c/jugyvaros.h` draws the tables, which are made here from a list of juries.
+//! Up to eight juries in rounds. This module makes the tables, which `c/jugyvaros.h` draws, from a list of juries.
 
 use crate::calls::answered;
 use crate::{run, Board, GateList, JuryRefusal, Reason, Refusal, Secret, Shape};
@@ -8,8 +8,8 @@ mod c {
         pub fn jugy_dispatch(
             juries: usize,
             gates_per_round: usize,
-            statements: *const usize,
-            statements_length: usize,
+            headers: *const usize,
+            headers_length: usize,
             lists: *const u32,
             lists_length: usize,
             ballots: *const u8,
@@ -35,7 +35,7 @@ pub struct Jury<'a> {
     pub table: &'a [u32],
     /// Its I ballot bytes.
     pub ballots: &'a [u8],
-    /// Its C tape bits, which no other jury has.
+    /// Its C tape bits, used for no other jury.
     pub tape: &'a [u8],
 }
 
@@ -48,8 +48,8 @@ impl std::fmt::Debug for Jury<'_> {
 }
 
 impl Jury<'_> {
-    /// Makes all tests of a run on this jury's pieces. A run on an empty wire table is refused for its length,
-    /// which is never right, once every other test of the pieces has passed; nothing is altered.
+    /// Makes all tests of a run on this jury's data. A run with an empty wire table passes every test up to the one of
+    /// that table's length, and changes nothing.
     fn test(&self) -> Result<(), Refusal> {
         match run(self.shape, self.table, self.ballots, self.tape, &mut [], &mut []) {
             Err(Refusal { reason: Reason::WiresLength, .. }) | Ok(_) => Ok(()),
@@ -58,16 +58,16 @@ impl Jury<'_> {
     }
 }
 
-/// What a jury got: how many rounds had gates of its list, and its finished board.
+/// A finished jury: how many rounds it took, and its board.
 #[derive(Clone, Debug, PartialEq, Eq)]
 pub struct Finished {
-    /// In how many rounds the jury was given gates.
+    /// In how many rounds the jury did gates.
     pub rounds: usize,
-    /// Its board, equal to that of an undivided run.
+    /// Its board, the same as after an undivided run.
     pub board: Board,
 }
 
-/// What the core is lent: of each table, the juries' pieces one after the other.
+/// What the core is lent: in each table, the juries' pieces one after another.
 struct Tables {
     headers: Vec<usize>,
     lists: Vec<u32>,
@@ -78,7 +78,7 @@ struct Tables {
 }
 
 impl Tables {
-    /// The tables of juries that passed their tests: each piece has the length that shape and list ask for.
+    /// The tables of juries that passed their tests, so each piece has the length that shape and list ask for.
     fn of(juries: &[Jury]) -> Tables {
         let wires = juries.iter().map(|jury| jury.ballots.len() + jury.table.len() / 4).sum();
         let boards = juries.iter().map(|jury| jury.tape.len() + jury.shape.candidates).sum();
@@ -124,7 +124,7 @@ impl Tables {
     }
 }
 
-/// Refuses a call that has a bad number of juries or of gates a round: on empty tables these are the first reasons.
+/// Refuses a bad number of juries or of gates per round: with empty tables these reasons come first.
 fn test_call(juries: usize, gates_per_round: usize) -> Result<(), Refusal> {
     match Tables::of(&[]).run(juries, gates_per_round) {
         Err(refusal) if matches!(refusal.reason, Reason::Juries | Reason::GatesPerRound) => Err(refusal),
@@ -132,8 +132,8 @@ fn test_call(juries: usize, gates_per_round: usize) -> Result<(), Refusal> {
     }
 }
 
-/// Runs the juries in rounds of up to so many gates each. The tables are made once every jury has passed its
-/// tests, so no piece can reach into the next jury's.
+/// Runs the juries in rounds of up to `gates_per_round` gates each. Every jury is tested before the tables are made, so
+/// no piece can reach into the next jury's.
 pub fn dispatch(juries: &[Jury], gates_per_round: usize) -> Result<Vec<Finished>, JuryRefusal> {
     test_call(juries.len(), gates_per_round)?;
     for (j, jury) in juries.iter().enumerate() {
@@ -153,7 +153,7 @@ pub fn dispatch(juries: &[Jury], gates_per_round: usize) -> Result<Vec<Finished>
     Ok(finished.collect())
 }
 
-/// Juries that share a unit: up to eight of them, served in rounds.
+/// Up to eight juries that share a unit, in rounds.
 ///
 /// ```
 /// use jugyvaros::{Dispatch, GateList, Shape};
@@ -178,18 +178,18 @@ pub struct Dispatch<'a> {
 }
 
 impl<'a> Dispatch<'a> {
-    /// No jury yet; each will get up to so many gates a round.
+    /// Starts without juries. Each one added does up to `gates_per_round` gates a round.
     pub fn new(gates_per_round: usize) -> Dispatch<'a> {
         Dispatch { gates_per_round, juries: Vec::new() }
     }
 
-    /// Adds a jury behind those that are there, and answers its number.
+    /// Adds a jury after those that are there, and returns its number.
     pub fn add(&mut self, list: &'a GateList, ballots: &'a [u8], tape: &'a [u8]) -> usize {
         self.juries.push(Jury { shape: list.shape(), table: list.table(), ballots, tape });
         self.juries.len() - 1
     }
 
-    /// Runs all of them. The tapes are used up by it.
+    /// Runs all of them. Do not use their tapes again.
     pub fn run(self) -> Result<Vec<Finished>, JuryRefusal> {
         dispatch(&self.juries, self.gates_per_round)
     }

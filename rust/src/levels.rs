@@ -26,7 +26,7 @@ pub struct Depths {
     pub gates: usize,
     /// C, those of them that are conditional.
     pub conditional: usize,
-    /// R, so many rounds of openings.
+    /// R, the number of rounds of openings.
     pub rounds: usize,
 }
 

@@ -16,14 +16,13 @@
 //! # Ok::<(), Box<dyn std::error::Error>>(())
 //! ```
 //!
-//! Besides: an [`Urn`] that ballots go into and come out of, [`trustees`] who each hold a share of every bit, a
-//! [`trustee`] on a machine of its own, who needs the [`levels`] of a list, a [`Dispatch`] of up to eight juries in
-//! rounds, and a [`Batch`] that runs 64 juries at once.
+//! There are other ways to run a list: an [`Urn`] that ballots go into and come out of while tasting goes on;
+//! [`trustees`] who each hold a share of every bit; a [`trustee`] on its own machine, who needs the [`levels`] of the
+//! list; a [`Dispatch`] of up to eight juries in rounds; and a [`Batch`] of 64 juries at once.
 //!
-//! The types own their buffers, which have the right lengths. Those that held ballots or tapes are emptied when
-//! they are dropped. Below them, each function of the same name as an entry point of `c/jugyvaros.h` takes
-//! slices that the caller provides, and answers what the entry point answers. A [`Refusal`] leaves all that was
-//! lent unaltered.
+//! These types own their buffers. Those that held ballots or tapes are emptied when they are dropped. Below them, each
+//! function with the name of an entry point of `c/jugyvaros.h` works on the caller's slices and returns what the entry
+//! point answers. A call that returns a [`Refusal`] has changed nothing.
 
 #![deny(missing_docs)]
 

@@ -1,4 +1,4 @@
-//! A gate list that is known to fit its shape, and the board that a run of it fills.
+//! A gate list that is known to fit its shape, and the board that a run of it leaves.
 
 use crate::calls::{c, run_by};
 use crate::trustees::{self, Dealing, Tally};
@@ -11,12 +11,12 @@ use std::io;
 /// use jugyvaros::{GateList, Reason, Shape};
 ///
 /// let shape = Shape::graded(1, 2, 1);
-/// // anyone's list: one gate, which copies the first ballot byte
+/// // a list of our own: one gate, which copies the first ballot byte
 /// let list = GateList::new(shape, vec![2, 0, 0, 0])?;
 /// assert_eq!((list.gates(), list.conditional(), list.inputs()), (1, 0, 2));
 /// assert_eq!(list.text(), "2 0\n");
 /// assert_eq!(list.run(&[1, 0], &[])?.closing(), [1]);
-/// // wire 2 is what the gate itself makes
+/// // wire 2 is the gate's own, so it is no operand
 /// let refusal = GateList::new(shape, vec![2, 2, 0, 0]).unwrap_err();
 /// assert_eq!((refusal.reason, refusal.place), (Reason::Gate, 0));
 /// # Ok::<(), jugyvaros::Refusal>(())
@@ -36,13 +36,13 @@ impl GateList {
         Ok(GateList { shape, table, size })
     }
 
-    /// Anyone's list, four numbers a gate, where it fits the shape.
+    /// A list that somebody else wrote, four numbers a gate. It is refused if it does not fit the shape.
     pub fn new(shape: Shape, table: Vec<u32>) -> Result<GateList, Refusal> {
         let size = test(shape, &table)?;
         Ok(GateList { shape, table, size })
     }
 
-    /// Anyone's list as text, where it fits the shape.
+    /// A list as text. It is refused if it does not fit the shape.
     pub fn from_text(shape: Shape, text: &str) -> Result<GateList, Refusal> {
         GateList::new(shape, list_of_text(shape, text)?)
     }
@@ -57,17 +57,17 @@ impl GateList {
         self.shape
     }
 
-    /// Four numbers a gate.
+    /// The list's numbers, four a gate.
     pub fn table(&self) -> &[u32] {
         &self.table
     }
 
-    /// G.
+    /// G: how many gates there are.
     pub fn gates(&self) -> usize {
         self.size.gates
     }
 
-    /// C: how many bits a tape has.
+    /// C: how many of them are conditional, and so how many bits a tape has.
     pub fn conditional(&self) -> usize {
         self.size.conditional
     }
@@ -87,19 +87,19 @@ impl GateList {
         self.conditional() + self.shape.candidates
     }
 
-    /// The level of each gate: how many conditional gates the longest chain up to it has.
+    /// The level of each gate: its multiplicative depth.
     pub fn levels(&self) -> Vec<u32> {
         let mut levels = vec![0; self.gates()];
         crate::levels::levels(self.shape, &self.table, &mut levels).expect("the list fits its shape");
         levels
     }
 
-    /// R, the largest level: openings of one level can be made together, so this is how often they wait.
+    /// R, the largest level. Gates of one level can be opened together, so R rounds of openings are enough.
     pub fn rounds(&self) -> usize {
         self.levels().into_iter().max().unwrap_or(0) as usize
     }
 
-    /// A fresh tape from the system's random numbers. It is for one run: a tape used twice gives away what the
+    /// A fresh tape from the system's random numbers. Use it for one run: a tape that is used twice gives away what the
     /// wires hold.
     pub fn fresh_tape(&self) -> io::Result<Secret<u8>> {
         Secret::random_bits(self.conditional())
@@ -110,7 +110,7 @@ impl GateList {
         self.run_with(c::jugy_run, ballots, tape)
     }
 
-    /// Runs the list on the ballots in an urn, in the order of its chain.
+    /// Runs the list on the ballots in an urn, in chain order.
     pub fn run_urn(&self, urn: &Urn, tape: &[u8]) -> Result<Board, Refusal> {
         self.run_with(c::jugy_run_urn, urn.bytes(), tape)
     }
@@ -122,7 +122,8 @@ impl GateList {
         Ok(Board::new(board, self.conditional()))
     }
 
-    /// Shares the ballots, and what a tally of this list needs, among 2 to 5 trustees by the system's random numbers.
+    /// Shares the ballots, and a triple for each conditional gate, among 2 to 5 trustees. The randomness is the
+    /// system's.
     pub fn deal(&self, ballots: &[u8], trustees: usize) -> io::Result<Dealing> {
         Dealing::fresh(ballots, self.conditional(), trustees)
     }
@@ -133,7 +134,7 @@ impl GateList {
     }
 }
 
-/// What a run leaves to be published: the shown bits, masked by the tape, then a closing byte for each candidate.
+/// What a run publishes: the shown bits, masked by the tape, then a closing byte for each candidate.
 #[derive(Clone, Debug, PartialEq, Eq)]
 pub struct Board {
     bytes: Vec<u8>,
@@ -150,12 +151,12 @@ impl Board {
         &self.bytes
     }
 
-    /// The first C bytes: of each conditional gate its wire a, masked by its tape bit.
+    /// The first C bytes: wire a of each conditional gate, masked by its tape bit.
     pub fn shown(&self) -> &[u8] {
         &self.bytes[..self.conditional]
     }
 
-    /// The last k bytes: under the shape's own list, 1 for each candidate that wins.
+    /// The last k bytes. With the shape's own list, they are 1 for each candidate that wins, else 0.
     pub fn closing(&self) -> &[u8] {
         &self.bytes[self.conditional..]
     }

@@ -1,13 +1,12 @@
-//! Why a call is turned away: each reason once, with its number, its words and what its place counts. The words
-//! are those of `c/jugyvaros.h`, and a test holds them to it, so that a reason reads the same in every
-//! language.
+//! Why a call is refused: each reason once, with its number, its words and what its place counts. The words are those
+//! of `c/jugyvaros.h`, which a test checks, so that a reason reads the same in every language.
 
 use std::fmt;
 
 /// Makes the enum of the reasons and the table of their words from one row a reason.
 macro_rules! reasons {
     ($($name:ident = $number:literal: $words:literal $(at $unit:literal)?;)*) => {
-        /// Why a call is turned away. The numbers are those of docs/REQUIREMENTS.md and `c/jugyvaros.h`.
+        /// Why a call is refused. The numbers are those of docs/REQUIREMENTS.md and `c/jugyvaros.h`.
         #[derive(Clone, Copy, Debug, PartialEq, Eq, Hash)]
         #[repr(usize)]
         pub enum Reason {
@@ -18,7 +17,7 @@ macro_rules! reasons {
         }
 
         impl Reason {
-            /// Every reason there is, by number.
+            /// Every reason, in the order of the numbers.
             pub const ALL: &'static [Reason] = &[$(Reason::$name),*];
 
             /// What is wrong, in words.
@@ -28,7 +27,7 @@ macro_rules! reasons {
                 }
             }
 
-            /// What the place counts, where it counts something.
+            /// What the place counts, if the reason has one.
             pub fn unit(self) -> Option<&'static str> {
                 match self {
                     $(Reason::$name => reasons!(@unit $($unit)?),)*
@@ -42,7 +41,7 @@ macro_rules! reasons {
 
 reasons! {
     Shape = 1: "k, d or n is outside its limits";
-    Table = 2: "no room in the gate table to write, or no list of k to 1,048,576 whole gates";
+    Table = 2: "writing: no room in the gate table; otherwise: not k to 1,048,576 whole gates";
     Gate = 3: "a bad kind or operand" at "the gate";
     BallotsLength = 4: "there are not I ballot bytes";
     BallotByte = 5: "a byte of a ballot is neither 0 nor 1" at "the byte";
@@ -52,20 +51,20 @@ reasons! {
     WiresLength = 9: "the wire table's length is not I + G";
     BoardLength = 10: "the board's length is not C + k";
     NotAsymmetric = 11: "ranked: two before each other, or one before itself" at "the first such byte";
-    NotWeakOrder = 12: "ranked: i is before j, a third is neither behind i nor before j" at "the ballot";
+    NotWeakOrder = 12: "ranked: i is before j, a third is not after i and not before j" at "the ballot";
     Urn = 13: "the urn is not sound";
     Juror = 14: "the juror is not 1 to 255, or is in already (admission), or not in (withdrawal)";
-    FullUrn = 15: "no slot of the urn is free";
+    FullUrn = 15: "the urn has no free slot";
     Trustees = 16: "there are fewer than 2 or more than 5 trustees";
-    PartTables = 17: "one of the trustees' four tables has a wrong length";
+    PartTables = 17: "one of the trustees' four tables has the wrong length";
     Dealing = 18: "a part is neither 0 nor 1, or parts do not add up to their ballot byte or product";
     Juries = 19: "there are no juries, or more than 8";
-    GatesPerRound = 20: "a jury's gates of a round are 0 or above 65,536";
-    Line = 23: "not a line of a gate, by form, kind or a number of 2^32 or more" at "the line";
-    Output = 24: "what would be written has no room in the output";
-    Levels = 200: "the level table has not G numbers, or not the list's own levels where they are read";
+    GatesPerRound = 20: "gates_per_round is 0 or above 65,536";
+    Line = 23: "a malformed line, an unknown kind, or a number of 2^32 or more" at "the line";
+    Output = 24: "the output is too short";
+    Levels = 200: "the level table is not G numbers long, or holds other levels than the list's";
     Round = 201: "the round is above R";
-    Heard = 202: "the sums are not 2 C bits";
+    Heard = 202: "the sums heard are not 2 C bits";
 }
 
 impl Reason {
@@ -83,9 +82,9 @@ impl Reason {
 /// The first reason that applies, and its place, counted from 0.
 #[derive(Clone, Copy, Debug, PartialEq, Eq)]
 pub struct Refusal {
-    /// Why the call is turned away.
+    /// Why the call is refused.
     pub reason: Reason,
-    /// Which gate, byte, row, ballot or line; 0 where the reason names no place.
+    /// Which gate, byte, row, ballot or line, counted from 0; 0 if the reason has no place.
     pub place: usize,
 }
 
@@ -101,22 +100,22 @@ impl fmt::Display for Refusal {
 
 impl std::error::Error for Refusal {}
 
-/// The same of a call for several juries: which jury, and what is wrong with it.
+/// The refusal of a call for several juries: which jury, and what is wrong with it.
 #[derive(Clone, Copy, Debug, PartialEq, Eq)]
 pub struct JuryRefusal {
-    /// The jury that the fault was found in, counted from 0; none where the call as a whole is turned away.
+    /// The jury that has the fault, counted from 0; `None` if the call as a whole is refused.
     pub jury: Option<usize>,
-    /// The reason, and its place in what belongs to that jury.
+    /// The reason, and its place in that jury's own data.
     pub refusal: Refusal,
 }
 
 impl JuryRefusal {
-    /// Why the call is turned away.
+    /// Why the call is refused.
     pub fn reason(self) -> Reason {
         self.refusal.reason
     }
 
-    /// The place that the core answers: the jury where one has the fault.
+    /// The place that the core answers: the jury, if one has the fault.
     pub fn place(self) -> usize {
         self.jury.unwrap_or(self.refusal.place)
     }

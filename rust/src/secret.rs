@@ -12,8 +12,7 @@ impl Number for u64 {}
 
 /// Numbers of a fixed length that are overwritten with zeros when they are dropped: ballots, tapes, urns and dealings.
 ///
-/// It reads like a slice. A copy of it is a secret again; what is copied out of it by other means is the
-/// caller's to empty.
+/// It reads like a slice. A clone is a secret too; whatever else is copied out of it, the caller has to empty.
 ///
 /// ```
 /// use jugyvaros::Secret;
@@ -26,13 +25,12 @@ impl Number for u64 {}
 pub struct Secret<T: Number>(Vec<T>);
 
 impl<T: Number> Secret<T> {
-    /// So many zeros.
+    /// `length` zeros.
     pub fn zeros(length: usize) -> Self {
         Secret(vec![T::default(); length])
     }
 
-    /// The pieces one after the other. The buffer has its whole length from the start, so that growing leaves
-    /// no copy behind.
+    /// The pieces one after another. The buffer is allocated at full length, so that no copy is left by growing it.
     pub fn join<'a>(pieces: impl Iterator<Item = &'a [T]> + Clone) -> Self
     where
         T: 'a,
@@ -44,7 +42,7 @@ impl<T: Number> Secret<T> {
 }
 
 impl Secret<u8> {
-    /// So many fresh random bits from the system, a byte each: what a tape is made of.
+    /// `length` fresh random bits from the system, a byte each: a tape.
     pub fn random_bits(length: usize) -> io::Result<Self> {
         let mut bits = Self::zeros(length);
         File::open("/dev/urandom")?.read_exact(&mut bits)?;
@@ -54,7 +52,7 @@ impl Secret<u8> {
 }
 
 impl Secret<u64> {
-    /// So many fresh random numbers from the system: the tapes of 64 juries.
+    /// `length` fresh random numbers from the system: the tapes of 64 juries.
     pub fn random_words(length: usize) -> io::Result<Self> {
         let mut bytes = Secret::<u8>::zeros(8 * length);
         File::open("/dev/urandom")?.read_exact(&mut bytes)?;
@@ -91,7 +89,7 @@ impl<T: Number> AsRef<[T]> for Secret<T> {
     }
 }
 
-/// Says how long it is and not what it holds.
+/// Shows its length, not its contents.
 impl<T: Number> std::fmt::Debug for Secret<T> {
     fn fmt(&self, f: &mut std::fmt::Formatter<'_>) -> std::fmt::Result {
         write!(f, "Secret({} numbers)", self.len())
@@ -100,11 +98,11 @@ impl<T: Number> std::fmt::Debug for Secret<T> {
 
 impl<T: Number> Drop for Secret<T> {
     fn drop(&mut self) {
-        // behind the length there may be numbers that stood there before the list was cut
+        // after the length there may be numbers from before the vector was truncated
         self.0.clear();
         for number in self.0.spare_capacity_mut() {
-            // SAFETY: `number` is an aligned element of the buffer. A volatile write is kept though nobody
-            // reads it again.
+            // SAFETY: `number` is an aligned element of the buffer. The write is volatile, so that the optimiser keeps
+            // it though nobody reads it again.
             unsafe { std::ptr::write_volatile(number.as_mut_ptr(), T::default()) };
         }
         compiler_fence(Ordering::SeqCst);

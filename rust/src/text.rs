@@ -30,7 +30,7 @@ mod c {
     }
 }
 
-/// Writes the text of a list, one line a gate, and answers the number of characters written.
+/// Writes the text of a list, one line a gate, and returns the number of characters written.
 pub fn write_text(shape: Shape, table: &[u32], output: &mut [u8]) -> Result<usize, Refusal> {
     let [k, d, n] = shape.numbers();
     let (to, room) = (output.as_mut_ptr(), output.len());
@@ -41,7 +41,7 @@ pub fn write_text(shape: Shape, table: &[u32], output: &mut [u8]) -> Result<usiz
     .map(|[_, _, characters]| characters)
 }
 
-/// Reads a text as a list for a shape, and answers the count of numbers written, four a line.
+/// Reads a text as a list for a shape, and returns how many numbers were written, four a line.
 pub fn read_text(shape: Shape, text: &[u8], output: &mut [u32]) -> Result<usize, Refusal> {
     let [k, d, n] = shape.numbers();
     let (to, room) = (output.as_mut_ptr(), output.len());
@@ -52,10 +52,10 @@ pub fn read_text(shape: Shape, text: &[u8], output: &mut [u32]) -> Result<usize,
     .map(|[_, _, numbers]| numbers)
 }
 
-/// The most characters that a gate's line has.
+/// The longest line of a gate: a kind, three operands of ten digits, and what is between.
 const LINE: usize = 44;
 
-/// The text of a list.
+/// The text of a list, as a string.
 pub fn text(shape: Shape, table: &[u32]) -> Result<String, Refusal> {
     let mut output = vec![0; LINE * (table.len() / 4)];
     let length = write_text(shape, table, &mut output)?;
@@ -63,7 +63,7 @@ pub fn text(shape: Shape, table: &[u32]) -> Result<String, Refusal> {
     Ok(output.into_iter().map(char::from).collect())
 }
 
-/// The list of a text.
+/// The list of a text, as a vector of four numbers a gate.
 pub fn list_of_text(shape: Shape, text: &str) -> Result<Vec<u32>, Refusal> {
     let mut output = vec![0; 4 * text.lines().count()];
     read_text(shape, text.as_bytes(), &mut output)?;

@@ -1,7 +1,7 @@
-//! A trustee on a machine of its own: it holds its own tables and hears the opened sums.
+//! A trustee on its own machine: it holds its own tables, and hears nothing of the others but opened sums.
 //!
 //! All trustees start, then do the rounds 0 to R together. `c/jugyvaros.h` says what the tables hold and what may be
-//! sent.
+//! sent. The program `houses` runs each trustee as a process.
 
 use crate::calls::{answered, sized};
 use crate::levels::Depths;
@@ -64,7 +64,7 @@ mod c {
     }
 }
 
-/// Who computes: trustee `number`, counted from 0, of `trustees`, for a list of a shape.
+/// One trustee's seat: trustee `number`, counted from 0, of `trustees`, who run a list together.
 #[derive(Clone, Copy, Debug)]
 pub struct Seat<'a> {
     /// The jury's shape.
@@ -78,7 +78,7 @@ pub struct Seat<'a> {
 }
 
 impl Seat<'_> {
-    /// Starts with its I ballot shares and 3 C bits of triples: `wires` is I + G bytes, `published` 2 C + k.
+    /// Starts with I ballot shares and 3 C bits of triples. `wires` has I + G bytes, `published` 2 C + k.
     pub fn start(
         &self,
         ballot_shares: &[u8],
@@ -111,7 +111,8 @@ impl Seat<'_> {
         })
     }
 
-    /// Does a round, once `heard` has the sums of what all published in the rounds before.
+    /// Does a round. `heard` has the sums, modulo 2, of what all trustees have published so far; `published` is then
+    /// what this trustee may send.
     pub fn round(
         &self,
         round: usize,
@@ -150,7 +151,7 @@ impl Seat<'_> {
         .map(Depths::of)
     }
 
-    /// Empties its shares of the wires.
+    /// Empties its shares of the wires. Call it once the closing bits have been sent.
     pub fn finish(&self, wires: &mut [u8]) -> Result<Size, Refusal> {
         let [k, d, n] = self.shape.numbers();
         // SAFETY: every pointer comes from a slice and is handed over with its length; what is written is a `&mut`.

@@ -1,7 +1,7 @@
-//! A tally by trustees, each of whom holds a share of every wire: one bit, and all trustees' bits add up to the
-//! wire modulo 2. `c/jugyvaros.h` draws the four tables.
+//! A tally by trustees, each of whom holds a share of every wire: one bit. Modulo 2, all trustees' bits add up to the
+//! wire. `c/jugyvaros.h` draws the four tables.
 //!
-//! A dealing serves one tally only: its bits are secret, random and fresh, or the trustees learn more than the
+//! Use a dealing for one tally only: its bits have to be random, secret and fresh, or the trustees learn more than the
 //! closing bytes. Whoever deals, and whoever calls the tally, sees the plain ballots.
 //!
 //! ```
@@ -46,8 +46,8 @@ mod c {
     }
 }
 
-/// The trustees' shares of the ballots, and of a triple of bits u, v and u v for each conditional gate, trustee
-/// after trustee.
+/// The trustees' shares of the ballots, and of a Beaver triple u, v, u v for each conditional gate, trustee after
+/// trustee.
 #[derive(Clone, Debug, PartialEq, Eq)]
 pub struct Dealing {
     /// t, from 2 to 5.
@@ -59,9 +59,9 @@ pub struct Dealing {
 }
 
 impl Dealing {
-    /// A dealing for a list of so many conditional gates, by the system's random numbers. A number of trustees
-    /// outside 2 to 5 counts as the nearest within: the tally refuses it by the field `trustees`, which holds
-    /// what was given.
+    /// A dealing for a list of `conditional` conditional gates, by the system's random numbers. For a number of
+    /// trustees outside 2 to 5, the tables are those of the nearest number; the field `trustees` keeps the number
+    /// given, and the tally refuses it.
     pub fn fresh(ballots: &[u8], conditional: usize, trustees: usize) -> io::Result<Dealing> {
         let t = trustees.clamp(2, 5);
         let random = Secret::random_bits(ballots.len() * (t - 1) + conditional * (2 + 3 * (t - 1)))?;
@@ -72,7 +72,7 @@ impl Dealing {
     }
 }
 
-/// Shares a bit: each trustee's share goes to its place in pieces of one size, and all of them but the last are random.
+/// Shares a bit: each trustee's share goes to place `at` of its piece. All shares but the last are random.
 fn share(bit: u8, table: &mut [u8], size: usize, at: usize, random: &mut impl FnMut() -> u8) {
     let last = table.len() / size - 1;
     let mut left = bit;
@@ -84,10 +84,11 @@ fn share(bit: u8, table: &mut [u8], size: usize, at: usize, random: &mut impl Fn
     table[last * size + at] = left;
 }
 
-/// A dealing of these ballots, for a list of so many conditional gates. The random bytes have to be secret and fresh.
+/// A dealing of these ballots for a list of `conditional` conditional gates. The random bytes have to be secret and
+/// fresh.
 ///
 /// # Panics
-/// Where there are not 2 to 5 trustees.
+/// If there are not 2 to 5 trustees.
 pub fn deal(ballots: &[u8], conditional: usize, trustees: usize, mut random: impl FnMut() -> u8) -> Dealing {
     assert!((2..=5).contains(&trustees), "there are 2 to 5 trustees");
     let (inputs, each) = (ballots.len(), 3 * conditional);
@@ -112,11 +113,11 @@ pub struct Tallied {
     pub gates: usize,
     /// C, the conditional ones.
     pub conditional: usize,
-    /// The closing bytes, zeros behind the last candidate.
+    /// The closing bytes, then zeros after the last candidate.
     pub closing: [u8; 8],
 }
 
-/// Tallies: `wires` is t (I + G) bytes and all zero afterwards, `published` t (2 C + k) bytes.
+/// Tallies on the caller's tables: `wires` has t (I + G) bytes and is all zero afterwards; `published` has t (2 C + k).
 pub fn tally(
     shape: Shape,
     table: &[u32],
@@ -153,7 +154,7 @@ pub fn tally(
     Ok(Tallied { gates, conditional, closing })
 }
 
-/// What a tally leaves to be published.
+/// What a tally publishes.
 #[derive(Clone, Debug, PartialEq, Eq)]
 pub struct Tally {
     closing: Vec<u8>,
@@ -162,7 +163,7 @@ pub struct Tally {
 }
 
 impl Tally {
-    /// A byte for each candidate: under the shape's own list, 1 for each that wins.
+    /// A byte for each candidate. With the shape's own list, it is 1 for each that wins, else 0.
     pub fn closing(&self) -> &[u8] {
         &self.closing
     }
@@ -179,8 +180,7 @@ impl Tally {
     }
 }
 
-/// Tallies by a list, with tables of the right lengths. What has none, since there are not 2 to 5 trustees, is
-/// refused for that.
+/// Tallies by a list, with tables of the right lengths. A number of trustees outside 2 to 5 is refused.
 pub(crate) fn tally_list(list: &GateList, ballots: &[u8], dealing: &Dealing) -> Result<Tally, Refusal> {
     let (t, each) = (dealing.trustees.clamp(2, 5), 2 * list.conditional() + list.shape().candidates);
     let mut wires = Secret::zeros(t * list.wires());

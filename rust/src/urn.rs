@@ -1,7 +1,7 @@
-//! An urn for graded ballots: made empty, admission, withdrawal, their previews, and a run on what is in it.
+//! An urn for graded ballots: admission, withdrawal, previews of both, and a run on the ballots in it.
 //! `c/jugyvaros.h` draws the bytes of an urn and says when it is sound.
 //!
-//! Each call answers the number of ballots in the urn afterwards, or its refusal, in which case the urn is as it was.
+//! Each call returns the number of ballots in the urn afterwards. If it returns a refusal, the urn is unchanged.
 
 use crate::calls::{answered, c::jugy_run_urn, run_by};
 use crate::{Reason, Refusal, Secret, Shape, Size};
@@ -64,13 +64,13 @@ fn ballots(call: impl FnOnce(*mut usize, usize) -> usize) -> Result<usize, Refus
     answered(call).map(|[_, _, ballots]| ballots)
 }
 
-/// Makes a table an empty urn, whatever its bytes are; all its slots are free, in order.
+/// Makes a table into an empty urn, whatever its bytes are. All its slots are free, in order.
 pub fn empty(k: usize, d: usize, urn: &mut [u8]) -> Result<usize, Refusal> {
     // SAFETY: every pointer comes from a slice and is handed over with its length; what is written is borrowed mutably.
     ballots(|answer, length| unsafe { c::jugy_empty_urn(k, d, urn.as_mut_ptr(), urn.len(), answer, length) })
 }
 
-/// Admits the ballot of a juror.
+/// Admits a juror's ballot.
 pub fn admit(k: usize, d: usize, urn: &mut [u8], juror: usize, ballot: &[u8]) -> Result<usize, Refusal> {
     let (bytes, size) = (ballot.as_ptr(), ballot.len());
     // SAFETY: as in `empty`.
@@ -79,13 +79,13 @@ pub fn admit(k: usize, d: usize, urn: &mut [u8], juror: usize, ballot: &[u8]) ->
     })
 }
 
-/// Withdraws the ballot of a juror.
+/// Withdraws a juror's ballot.
 pub fn withdraw(k: usize, d: usize, urn: &mut [u8], juror: usize) -> Result<usize, Refusal> {
     // SAFETY: as in `empty`.
     ballots(|answer, length| unsafe { c::jugy_withdraw(k, d, urn.as_mut_ptr(), urn.len(), juror, answer, length) })
 }
 
-/// What `admit` would answer.
+/// What `admit` would return. The urn is not changed.
 pub fn preview_admit(k: usize, d: usize, urn: &[u8], juror: usize, ballot: &[u8]) -> Result<usize, Refusal> {
     let (bytes, size) = (ballot.as_ptr(), ballot.len());
     // SAFETY: as in `empty`; the urn is read alone.
@@ -94,15 +94,14 @@ pub fn preview_admit(k: usize, d: usize, urn: &[u8], juror: usize, ballot: &[u8]
     })
 }
 
-/// What `withdraw` would answer.
+/// What `withdraw` would return. The urn is not changed.
 pub fn preview_withdraw(k: usize, d: usize, urn: &[u8], juror: usize) -> Result<usize, Refusal> {
     // SAFETY: as in `empty`; the urn is read alone.
     ballots(|answer, length| unsafe { c::jugy_preview_withdraw(k, d, urn.as_ptr(), urn.len(), juror, answer, length) })
 }
 
-/// Runs a list on the ballots in an urn, in chain order: what [`crate::run`] does on these ballots one after
-/// the other. The tape is fresh, secret random bits, never used again; afterwards `wires` is all zero, and
-/// `board` may be published.
+/// Runs a list on the ballots in an urn, in chain order, as [`crate::run`] would on these ballots. The tape has to be
+/// random, secret, and used only once. Afterwards `wires` is all zero, and `board` may be published.
 pub fn run(
     shape: Shape,
     table: &[u32],
@@ -114,7 +113,7 @@ pub fn run(
     run_by(jugy_run_urn, shape, table, urn, tape, wires, board)
 }
 
-/// An urn that holds its bytes.
+/// An urn that owns its bytes.
 ///
 /// ```
 /// use jugyvaros::{GateList, Reason, Shape, Urn};
@@ -137,31 +136,31 @@ pub struct Urn {
 }
 
 impl Urn {
-    /// An empty urn of so many slots, 2 to 256, for so many candidates and grades. One slot is not for a ballot.
+    /// An empty urn of 2 to 256 slots. Slot 0 holds no ballot, so there is room for one ballot fewer.
     pub fn new(candidates: usize, grades: usize, slots: usize) -> Result<Urn, Refusal> {
-        // one above each limit is refused as any number above it, so no longer table is needed
+        // one above each limit is refused like any larger number, so no longer table is needed
         let mut bytes = Secret::zeros(slots.min(257) * (2 + candidates.min(9) * grades.min(8)));
         empty(candidates, grades, &mut bytes)?;
         Ok(Urn { candidates, grades, bytes })
     }
 
-    /// An urn that was kept as bytes, where it is sound. The bytes are moved here, and emptied with the urn.
+    /// An urn from its bytes. It is refused if it is not sound. The bytes are moved in, and emptied with the urn.
     pub fn from_bytes(candidates: usize, grades: usize, bytes: Vec<u8>) -> Result<Urn, Refusal> {
         let urn = Urn { candidates, grades, bytes: bytes.into() };
         match urn.preview_withdraw(0) {
-            // 0 is no juror's number: only a sound urn gets as far as this test
+            // 0 is no juror's number, and only a sound urn gets as far as this test
             Err(Refusal { reason: Reason::Juror, .. }) => Ok(urn),
             Err(refusal) => Err(refusal),
             Ok(_) => unreachable!("0 is no juror's number"),
         }
     }
 
-    /// Its bytes, the ballots in clear among them.
+    /// Its bytes, which hold the ballots in clear.
     pub fn bytes(&self) -> &[u8] {
         &self.bytes
     }
 
-    /// How many ballots are in it.
+    /// How many ballots it has.
     pub fn ballots(&self) -> usize {
         let next = |slot: &usize| match usize::from(self.bytes[slot * (2 + self.candidates * self.grades)]) {
             0 => None,
@@ -170,22 +169,22 @@ impl Urn {
         std::iter::successors(next(&0), next).count()
     }
 
-    /// Admits the ballot of a juror.
+    /// Admits a juror's ballot, and returns the number of ballots.
     pub fn admit(&mut self, juror: usize, ballot: &[u8]) -> Result<usize, Refusal> {
         admit(self.candidates, self.grades, &mut self.bytes, juror, ballot)
     }
 
-    /// Withdraws the ballot of a juror.
+    /// Withdraws a juror's ballot, and returns the number of ballots.
     pub fn withdraw(&mut self, juror: usize) -> Result<usize, Refusal> {
         withdraw(self.candidates, self.grades, &mut self.bytes, juror)
     }
 
-    /// What [`Urn::admit`] would answer. The urn stays as it is.
+    /// What [`Urn::admit`] would return. The urn is not changed.
     pub fn preview_admit(&self, juror: usize, ballot: &[u8]) -> Result<usize, Refusal> {
         preview_admit(self.candidates, self.grades, &self.bytes, juror, ballot)
     }
 
-    /// What [`Urn::withdraw`] would answer. The urn stays as it is.
+    /// What [`Urn::withdraw`] would return. The urn is not changed.
     pub fn preview_withdraw(&self, juror: usize) -> Result<usize, Refusal> {
         preview_withdraw(self.candidates, self.grades, &self.bytes, juror)
     }

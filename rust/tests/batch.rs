@@ -47,7 +47,7 @@ fn a_refusal_says_which_jury_and_where_in_it() {
     assert_eq!((bad_row.reason(), bad_row.place()), (Reason::BallotRow, 63));
     let jury = "(place 63, counted from 0: the jury; in it, place 1: the row, b k + c)";
     assert_eq!(bad_row.to_string(), format!("refused 6 63: graded: a row with no 1 or several {jury}"));
-    // rankings: a clash in jury 5, before a gap in jury 4
+    // rankings: 11 in jury 5 comes before 12 in jury 4
     let located = |jury, reason, place| JuryRefusal { jury, refusal: Refusal { reason, place } };
     let ranked = Shape::ranked(3, 1);
     let clash = said(ranked, &[0; 12], &[0, 1 << 4, 0, 0, 1 << 5, 0, 0, 0, 0]);

@@ -76,7 +76,7 @@ fn a_refusal_says_what_is_wrong() {
     assert_eq!([0, 21, 22, 25, 255].map(Reason::of), [None; 5]);
 }
 
-/// A name in capitals, its words apart: as C has it.
+/// A name as C has it: in capitals, with underscores.
 fn in_capitals(name: &str) -> String {
     let apart =
         |letter: char| if letter.is_uppercase() { format!("_{letter}") } else { letter.to_uppercase().to_string() };

@@ -1,4 +1,4 @@
-//! Juries through the dispatcher, against their undivided runs, and what is turned away before any table is made.
+//! Juries through the dispatcher, against their undivided runs, and what is refused before any table is made.
 mod common;
 
 use common::{ballots, bits, numbers};

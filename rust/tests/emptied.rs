@@ -1,6 +1,5 @@
-//! Ballots and tapes leave nothing behind: this program's allocator looks at every buffer of a marked length
-//! that is given back. Run it with `--release` too: only there the optimiser could take out what it believes
-//! nobody reads.
+//! Dropped ballots and tapes leave nothing in memory: this program's allocator looks at every freed buffer of a certain
+//! length. Run it with `--release` too: only there could the optimiser remove writes that nobody reads.
 mod common;
 
 use common::{ballots, numbers};
@@ -9,14 +8,14 @@ use jugyvaros::{Batch, Dispatch, GateList, Secret, Shape, Urn};
 use std::alloc::{GlobalAlloc, Layout, System};
 use std::sync::atomic::{AtomicUsize, Ordering::SeqCst};
 
-/// How many bytes a buffer has that is looked at, how many such were given back, and how many of them held something.
+/// The length of the buffers to look at, how many of them were freed, and how many of those were not empty.
 static MARKED: AtomicUsize = AtomicUsize::new(0);
 static SEEN: AtomicUsize = AtomicUsize::new(0);
 static FULL: AtomicUsize = AtomicUsize::new(0);
 
 struct Looking;
 
-// SAFETY: all of it is the system's allocator; a buffer is read before it is given back, byte by byte as it stands.
+// SAFETY: the system's allocator does all the work; a buffer is read byte by byte before it is freed.
 unsafe impl GlobalAlloc for Looking {
     unsafe fn alloc(&self, layout: Layout) -> *mut u8 {
         System.alloc(layout)
@@ -35,7 +34,7 @@ unsafe impl GlobalAlloc for Looking {
 #[global_allocator]
 static ALLOCATOR: Looking = Looking;
 
-/// Of the buffers of that length that were given back meanwhile: how many, and how many of them were not empty.
+/// How many buffers of that length were freed meanwhile, and how many of them were not empty.
 fn left(length: usize, work: impl FnOnce()) -> (usize, usize) {
     SEEN.store(0, SeqCst);
     FULL.store(0, SeqCst);
@@ -45,14 +44,14 @@ fn left(length: usize, work: impl FnOnce()) -> (usize, usize) {
     (SEEN.load(SeqCst), FULL.load(SeqCst))
 }
 
-/// One test, so that no other thread gives buffers back meanwhile.
+/// A single test, so that no other thread frees buffers meanwhile.
 #[test]
 fn buffers_are_emptied() {
-    // the allocator sees what is left: a plain vector keeps its bytes
+    // the allocator sees what is left: a plain vector is not emptied
     assert_eq!(left(4099, || drop(std::hint::black_box(vec![1u8; 4099]))), (1, 1));
     assert_eq!(left(4099, || drop(Secret::from(vec![1u8; 4099]))), (1, 0));
     assert_eq!(left(8 * 517, || drop(Secret::from(vec![u64::MAX; 517]))), (1, 0));
-    // a list that was cut keeps what stood behind its end
+    // a truncated vector still holds what came after its end
     let mut cut = vec![1u8; 4099];
     cut.truncate(5);
     assert_eq!(left(4099, || drop(Secret::from(cut))), (1, 0));

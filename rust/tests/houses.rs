@@ -1,4 +1,4 @@
-//! Houses in processes of their own, beside the one call and the plain count.
+//! Houses as processes, compared with the single call and with the plain count.
 
 use jugyvaros::{count, GateList, Shape};
 use std::io::Write;
@@ -45,7 +45,7 @@ fn ballots(shape: Shape, seed: &mut u64) -> Vec<u8> {
     bytes
 }
 
-/// The number or numbers behind a word of the output.
+/// The numbers after a word of the output.
 fn told(output: &Output, word: &str) -> Vec<u64> {
     let text = String::from_utf8(output.stdout.clone()).unwrap();
     let line = text.lines().find(|line| line.starts_with(word)).unwrap_or_else(|| panic!("no {word} in {text}"));

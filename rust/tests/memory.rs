@@ -1,5 +1,5 @@
-//! Dropped secrets are nowhere in the program's memory, with the allocator that every program has: it searches itself.
-//! Run it with `--release` too: only there the optimiser could take out what it believes nobody reads.
+//! With the usual allocator, dropped secrets are nowhere in the program's memory, which it searches itself. Run it with
+//! `--release` too: only there could the optimiser remove writes that nobody reads.
 use jugyvaros::Secret;
 use std::fs::{read_to_string, File};
 use std::os::unix::fs::FileExt;
@@ -7,8 +7,8 @@ use std::os::unix::fs::FileExt;
 const LENGTH: usize = 60_000;
 const RUN: usize = 4096;
 
-/// How many places of the writable memory hold a long run of this byte. The buffer is lent, so that none is
-/// taken for it from what was just given back.
+/// How many places of the writable memory hold a long run of this byte. The buffer is passed in, so that it does not
+/// reuse memory that was just freed.
 fn runs(piece: &mut [u8], byte: u8) -> usize {
     let memory = File::open("/proc/self/mem").unwrap();
     let mut found = 0;

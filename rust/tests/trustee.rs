@@ -1,4 +1,4 @@
-//! Trustees apart, in one program, beside the one call: published bits and closing bytes are the same.
+//! Separate trustees in one program, compared with the single call: published bits and closing bytes are the same.
 
 use jugyvaros::trustee::Seat;
 use jugyvaros::{GateList, Reason, Shape};

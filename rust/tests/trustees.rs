@@ -1,4 +1,4 @@
-//! A tally by trustees through the wrapper: the sums are the plain count's bytes, and a bad dealing is turned away.
+//! A tally by trustees through the wrapper: the sums are the plain count's bytes, and a bad dealing is refused.
 mod common;
 
 use common::{ballots, numbers, refusal, BALLOTS, SHAPE};

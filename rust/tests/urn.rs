@@ -1,4 +1,4 @@
-//! The urn through the wrapper: ballots go in and out, previews alter nothing, and a run is that of the chain's
+//! The urn through the wrapper: ballots go in and out, previews change nothing, and a run is the run on the chain's
 //! ballots.
 mod common;
 

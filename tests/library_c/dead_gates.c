@@ -13,7 +13,7 @@ enum { MOST_GATES = 400000, MOST_WIRES = MOST_GATES + 255 * 64 };
 static uint32_t table[4 * MOST_GATES];
 static uint8_t needed[MOST_WIRES];
 
-/* How many gates no closing byte depends on, where `inputs` wires come before the gates. */
+/* How many gates no closing byte depends on; `inputs` wires come before the gates. */
 static size_t dead(size_t inputs, size_t gates, size_t k) {
     size_t count = 0;
     memset(needed, 0, inputs + gates);
@@ -33,7 +33,7 @@ int main(int argc, char **argv) {
     int ranked = argc == 2 && strcmp(argv[1], "ranked") == 0, graded = argc == 2 && strcmp(argv[1], "graded") == 0;
     size_t lists = 0;
     if (!ranked && !graded) {
-        printf("dead_gates: ranked, or graded\n");
+        printf("usage: dead_gates ranked|graded\n");
         return 2;
     }
     for (size_t k = 1; k <= 8; k++)
@@ -51,11 +51,11 @@ int main(int argc, char **argv) {
                 }
                 found = dead(inputs, gates, k);
                 if (found != 0) {
-                    printf("dead_gates: %zu of the %zu gates of %zu %zu %zu tell no closing byte\n", found, gates, k, d, n);
+                    printf("dead_gates: %zu %zu %zu has %zu gates, %zu of them without effect\n", k, d, n, gates, found);
                     return 1;
                 }
                 lists++;
             }
-    printf("dead_gates: %zu %s lists, each of whose gates tells a closing byte\n", lists, argv[1]);
+    printf("dead_gates: %zu %s lists, no gate without effect on a closing byte\n", lists, argv[1]);
     return 0;
 }

@@ -1,6 +1,6 @@
 /* The dispatcher on heap buffers of exactly the lent length, for valgrind: up to eight random juries, good and with
- * up to two faults. Status and answer are those of the reference's runs, jury after jury on the pieces that the
- * statements cut; boards and wires of an accepted call too, and what a refused call was lent stays. */
+ * up to two faults. Status and answer are compared with the reference's runs, jury after jury on the pieces that the
+ * headers name; so are boards and wires of an accepted call; a refused call must change nothing. */
 #include "../../c/jugyvaros.h"
 #include "random_jury.h"
 #include "seen.h"
@@ -22,7 +22,7 @@ struct call {
 
 static size_t item(int table) { return table == LISTS ? sizeof(uint32_t) : 1; }
 
-/* Puts more items behind those of a table. */
+/* Appends items to a table. */
 static void append(struct call *c, int table, const void *items, size_t count) {
     size_t old = c->lengths[table] * item(table), more = count * item(table);
     uint8_t *longer = lent(old + more);
@@ -59,7 +59,7 @@ static void add_jury(struct call *c, size_t *statement) {
     free(table), free(ballots), free(tape), free(rest);
 }
 
-/* A good call, but for a rare gap in a ranking. */
+/* A good call, except that now and then a ranking has fault 12. */
 static struct call good_call(void) {
     struct call c = {.juries = 1 + below(MOST), .gates_per_round = 1 + below(below(2) ? 5 : 400)};
     c.statements_length = STATED * c.juries;
@@ -110,7 +110,7 @@ static void damage(struct call *c) {
 
 static size_t stated(const struct call *c, size_t at) { return at < c->statements_length ? c->statements[at] : 0; }
 
-/* Where a jury's piece of a table begins, and its length: 0 where the table is too short for it. */
+/* Where a jury's piece of a table begins, and its length: 0 if the table is too short for it. */
 static void *piece(const struct call *c, int table, size_t *from, size_t *length) {
     uint8_t *begin = (uint8_t *)c->tables[table] + *from * item(table);
     if (*from > c->lengths[table] || c->lengths[table] - *from < *length)
@@ -119,7 +119,7 @@ static void *piece(const struct call *c, int table, size_t *from, size_t *length
     return begin;
 }
 
-/* The reference's run on a jury's pieces, which fills its part of boards and wires where it is accepted. */
+/* The reference's run on a jury's pieces, which fills its part of boards and wires if it is accepted. */
 static struct said run_jury(const struct call *c, size_t jury, size_t *from) {
     size_t k = stated(c, STATED * jury), d = stated(c, STATED * jury + 1), n = stated(c, STATED * jury + 2);
     size_t gates = stated(c, STATED * jury + 3), lengths[TABLES] = {4 * gates, ballot_bytes(k, d, n), 0, 0, 0};
@@ -136,8 +136,8 @@ static struct said run_jury(const struct call *c, size_t jury, size_t *from) {
                          lengths[TAPES], pieces[WIRES], lengths[WIRES], pieces[BOARDS], lengths[BOARDS]);
 }
 
-/* The whole answer array. A refused call's tables have been filled for the juries before the bad one: they are not
- * looked at. */
+/* The whole answer array. If the call is refused, the expected tables are filled for the juries before the bad one;
+ * they are not compared. */
 static void expect(const struct call *c, size_t *right) {
     size_t from[TABLES] = {0};
     memset(right, 0, JUGY_DISPATCH_ANSWER * sizeof *right);

@@ -1,5 +1,5 @@
-/* The table of the eight kinds of gates, once for all programs in C beside the core: how many operands a kind uses,
- * and whether its gates are conditional. The reference in Python has its own. */
+/* The table of the eight kinds of gates for the test programs in C: how many operands a kind uses, and whether its
+ * gates are conditional. The reference in Python has its own. */
 #ifndef KINDS_H
 #define KINDS_H
 

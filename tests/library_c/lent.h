@@ -12,7 +12,7 @@ static inline uint32_t below(uint32_t n) {
     return (uint32_t)((uint64_t)state * n >> 32);
 }
 
-/* Not filled: valgrind tells where it is read before it is written. */
+/* Not filled, so that valgrind reports bytes that are read before they are written. */
 static inline void *lent(size_t bytes) {
     void *p = malloc(bytes ? bytes : 1);
     if (!p)

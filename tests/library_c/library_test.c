@@ -1,9 +1,9 @@
 /* The five exported functions against the reference, on exact-size heap buffers.
  *   library_test edges          each entry point, accepted and for each reason
- *   library_test shapes         each shape there is: measured, its list written, tested, and run on a jury
+ *   library_test shapes         every shape: measured, its list written, tested, and run on a jury
  *   library_test random N SEED  N random juries, each with calls of every kind, good and damaged, of right and wrong
  *                               lengths
- * It prints how many calls it compared, and ends with 1 at the first that differs or where a reason never came. */
+ * It prints how many calls it compared, and ends with 1 at the first that differs, or if a reason never came. */
 #include "../../c/jugyvaros.h"
 #include "kinds.h"
 #include "reference.h"
@@ -50,8 +50,7 @@ static int same(const void *a, const void *b, size_t bytes) { return bytes == 0 
 
 /* ---- one call each: the answer array, exact, too short or longer, and everything lent, against the reference */
 
-/* A status and an answer array against what should have been said in `needed` numbers, `rest` being those from 2
- * on. */
+/* Compares a status and an answer array with the `needed` numbers expected; `rest` has those from 2 on. */
 static void compare(struct said s, const size_t *rest, size_t needed, size_t status, const size_t *answer,
                     const size_t *before, size_t length) {
     seen(status);
@@ -67,7 +66,7 @@ static void compare(struct said s, const size_t *rest, size_t needed, size_t sta
     CHECK(same(answer + needed, before + needed, (length - needed) * sizeof *answer));
 }
 
-/* The length of an answer array: mostly what is needed, else shorter or longer. */
+/* The length of an answer array: mostly what is needed, sometimes shorter or longer. */
 static size_t answer_length(size_t needed) {
     uint64_t way = draw(8);
     return way == 0 ? draw(needed) : way == 1 ? needed + draw(5) : needed;
@@ -115,7 +114,7 @@ static struct said call_run(size_t k, size_t d, size_t n, const uint32_t *list, 
     struct said s;
     if (al < 4)
         s = (struct said){JUGY_SHORT_ANSWER, 0, 0, 0, {0}};
-    else /* it leaves the expected wires and board as they were where it refuses */
+    else /* if it refuses, it leaves the expected wires and board as they were */
         s = reference_run(k, d, n, list, length, ballots, ballots_length, masks, tape_length, expected_wires, wires_length,
                           expected_board, board_length);
     size_t rest[2] = {s.gates, s.conditional};
@@ -130,7 +129,7 @@ static struct said call_run(size_t k, size_t d, size_t n, const uint32_t *list, 
     return s;
 }
 
-/* Measures a shape; G, C and I are held to what writing says by call_write. */
+/* Measures a shape; call_write compares G, C and I with what writing answers. */
 static struct said call_measure(size_t k, size_t d, size_t n, size_t al) {
     what = "measure";
     size_t *answer = take(al * sizeof *answer), *before = copy(answer, al * sizeof *answer);
@@ -146,9 +145,9 @@ static struct said call_measure(size_t k, size_t d, size_t n, size_t al) {
     return s;
 }
 
-/* Writes the own list into a table of some length over noise. The list itself is left to the core: it is held to the
- * measure, to the bound, to the tester, and by the callers to the rule. Returns the table where the call is
- * accepted. */
+/* Writes the own list into a table of some length, over noise. The reference has no list of its own: the core's is
+ * compared with the measure, the bound and the test, and by the callers with the rule. Returns the table if the call
+ * is accepted. */
 static uint32_t *call_write(size_t k, size_t d, size_t n, size_t length, struct said measured, size_t al) {
     what = "write";
     uint32_t *table = take(length * 4), *before_table = copy(table, length * 4);
@@ -194,7 +193,7 @@ static void fill_ballots(uint8_t *b, size_t k, size_t d, size_t n) {
         fill_rankings(b, k, n);
         return;
     }
-    /* a few grades only, so that medians meet */
+    /* a few grades only, so that medians are often equal */
     size_t favourite = draw(d), spread = 1 + draw(d);
     for (size_t row = 0; row < n * k; row++) {
         memset(b + row * d, 0, d);
@@ -346,7 +345,7 @@ static void edges(void) {
     CHECK(call_test(2, 3, 3, list, 4, 4).reason == 2);
     CHECK(call_test(2, 3, 3, list, 0, 4).reason == 2);
     CHECK(call_run(2, 3, 3, list, 4, ballots, 18, tape, c, 18 + g, c + 2, 4, NULL).reason == 2);
-    /* reason 3: gate 0 naming wire I; naming I − 1 is accepted; kind 8; an operand not in use; the place is the first */
+    /* reason 3: gate 0 naming wire I (I − 1 is accepted); kind 8; an unused operand; the first bad gate is the place */
     uint32_t two[8] = {2, 18, 0, 0, 3, 18, 0, 0};
     struct said s = call_test(2, 3, 3, two, 8, 4);
     CHECK(s.reason == 3 && s.place == 0);
@@ -474,7 +473,7 @@ int main(int argc, char **argv) {
             draw(2);
         random_juries(strtoull(argv[2], NULL, 10));
     } else {
-        printf("library_test: edges, shapes, or random N SEED\n");
+        printf("usage: library_test edges | shapes | random N SEED\n");
         return 2;
     }
     if (strcmp(argv[1], "shapes") == 0)

@@ -20,8 +20,8 @@ static inline void random_ballots(uint8_t *ballots, size_t k, size_t d, size_t n
     }
 }
 
-/* Whether three candidates or more are ranked: then a ballot that says no more than that 0 is before 1 leaves a third
- * beside both, which is reason 12. */
+/* Whether three candidates or more are ranked: then a ballot that only puts 0 before 1 leaves a third tied with both,
+ * which is reason 12. */
 static inline int can_have_gap(size_t k, size_t d, size_t ballots_length) {
     return d == 0 && k > 2 && k <= 8 && ballots_length >= k * k;
 }
@@ -31,7 +31,7 @@ static inline void random_bits(uint8_t *bits, size_t length) {
         bits[i] = (uint8_t)below(2);
 }
 
-/* A list of so many gates of all kinds that the tester accepts. */
+/* A list of this many gates, of all kinds, that the test accepts. */
 static inline void random_list(uint32_t *table, size_t inputs, size_t gates) {
     for (size_t g = 0; g < gates; g++) {
         table[4 * g] = below(KINDS);
@@ -40,7 +40,7 @@ static inline void random_list(uint32_t *table, size_t inputs, size_t gates) {
     }
 }
 
-/* C of a list that the tester accepts. */
+/* C of a list that the test accepts. */
 static inline size_t marks_in(const uint32_t *table, size_t gates) {
     size_t marks = 0;
     for (size_t g = 0; g < gates; g++)

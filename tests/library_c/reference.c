@@ -54,7 +54,7 @@ struct said reference_test(size_t k, size_t d, size_t n, const uint32_t *table, 
     return s;
 }
 
-/* Reasons 11 and 12 of rankings of bits; a ballot says of i and j whether i is before j. */
+/* Reasons 11 and 12 of rankings whose bytes are bits. */
 static struct said test_rankings(size_t k, size_t n, const uint8_t *ballots) {
     for (size_t b = 0; b < n; b++)
         for (size_t i = 0; i < k; i++)
@@ -71,7 +71,7 @@ static struct said test_rankings(size_t k, size_t n, const uint8_t *ballots) {
     return refused(0, 0);
 }
 
-/* Reasons 4 to 6, or 4, 5, 11 and 12 of rankings; reason 0 where the ballots are accepted. */
+/* Reasons 4 to 6, or 4, 5, 11 and 12 for rankings; 0 if the ballots are accepted. */
 static struct said test_ballots(size_t k, size_t d, size_t n, const uint8_t *ballots, size_t length) {
     if (length != ballot_bytes(k, d, n))
         return refused(4, 0);
@@ -157,7 +157,7 @@ static size_t median_of(const size_t *counts, size_t d, size_t n) {
     return d;
 }
 
-/* The sequence of a candidate: the median of what is left, struck each time. */
+/* The sequence of a candidate: the median of the grades that are left, which is then struck. */
 static void sequence_of(const size_t *counts, size_t d, size_t n, size_t *sequence) {
     size_t left[7];
     for (size_t g = 0; g < d; g++)
@@ -175,7 +175,7 @@ static int comes_before(const size_t *a, const size_t *b, size_t n) {
     return 0;
 }
 
-/* The strongest path from i to j over candidates that are not met yet, by trying all of them. */
+/* The strongest path from i to j over candidates that are not visited yet, by trying all of them. */
 static size_t strongest(size_t k, size_t links[8][8], size_t i, size_t j, unsigned met) {
     size_t best = links[i][j];
     for (size_t l = 0; l < k; l++) {

@@ -1,5 +1,5 @@
-/* The requirements in C, written apart from the core: what an entry point must answer, and what it must leave.
- * Written for plainness. `struct said` holds such an answer; closing bytes only for a count. */
+/* An independent reference implementation in C: what an entry point must answer, and what it must leave. It is written
+ * to be simple. `struct said` holds an answer; it has closing bytes only for a count. */
 #ifndef REFERENCE_H
 #define REFERENCE_H
 
@@ -16,7 +16,7 @@ int shape_within(size_t k, size_t d, size_t n);
 /* I. */
 size_t ballot_bytes(size_t k, size_t d, size_t n);
 
-/* The bound on G: [bound] and [judgment-bound], of rankings [ranking-bound]. */
+/* The bound on G: [bound] and [judgment-bound], or [ranking-bound] for rankings. */
 size_t gate_bound(size_t k, size_t d, size_t n);
 
 struct said reference_test(size_t k, size_t d, size_t n, const uint32_t *table, size_t length);

@@ -1,5 +1,5 @@
-/* The reasons that a program's calls were answered with. Each program names those that can come, and ends with 1
- * where one of them never did, or another one did. */
+/* The reasons that a program's calls were answered with. Each program names those that can come, and ends with 1 if one
+ * of them never came, or if another came. */
 #ifndef SEEN_H
 #define SEEN_H
 
@@ -10,7 +10,7 @@ enum { STATUSES = 256 };
 
 static size_t seen_statuses[STATUSES];
 
-/* Counts a status, and hands it on. */
+/* Counts a status, and returns it. */
 static inline size_t seen(size_t status) {
     if (status < STATUSES)
         seen_statuses[status]++;

@@ -40,7 +40,7 @@ struct text_said reference_write_text(size_t k, size_t d, size_t n, const uint32
     return s;
 }
 
-/* A line is a gate where the gate that strtoull finds in it prints as the very same characters. */
+/* A line is a gate if the gate that strtoull finds in it prints as exactly the same characters. */
 static int line_is_gate(const uint8_t *line, size_t length, uint32_t *gate) {
     char copy[64], again[64];
     if (length == 0 || length >= sizeof copy || line[length - 1] != '\n')

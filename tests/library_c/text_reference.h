@@ -1,4 +1,4 @@
-/* Gate lists on paper, written apart from the core, for plainness. */
+/* Lists as text: an independent reference implementation, written to be simple. */
 #ifndef TEXT_REFERENCE_H
 #define TEXT_REFERENCE_H
 
@@ -9,11 +9,11 @@ struct text_said {
     size_t reason, place, length;
 };
 
-/* The text of a list, into `output` where the call is accepted. */
+/* Writes the text of a list to `output` if the call is accepted. */
 struct text_said reference_write_text(size_t k, size_t d, size_t n, const uint32_t *table, size_t length, uint8_t *output,
                                       size_t output_length);
 
-/* The list of a text, into `output` where the call is accepted. */
+/* Writes the list of a text to `output` if the call is accepted. */
 struct text_said reference_read_text(size_t k, size_t d, size_t n, const uint8_t *text, size_t length, uint32_t *output,
                                      size_t output_length);
 

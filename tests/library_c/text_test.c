@@ -1,8 +1,8 @@
 /* Texts of gate lists through the exported functions, against the reference, on exact-size heap buffers:
- *     text_test short CHARACTERS   every text of up to so many characters over digits, space and line feed
+ *     text_test short CHARACTERS   every text of up to CHARACTERS digits, spaces and line feeds
  *     text_test edits ROUNDS SEED  random lists written, read back, and read again after an edit of one character
- *     text_test faults             every pair of faults, and the forms that are turned away
- *     text_test long               as many lines as there may be, and one more */
+ *     text_test faults             every pair of faults, and malformed lines
+ *     text_test long               as many lines as a list may have, and one more */
 #include "../../c/jugyvaros.h"
 #include "kinds.h"
 #include "reference.h"
@@ -20,7 +20,7 @@ static void fail(const char *what, const uint8_t *text, size_t length) {
     exit(1);
 }
 
-/* Reads a text both ways; answers the library's answer. */
+/* Reads a text with both; returns the library's answer. */
 static struct text_said read_both(struct shape s, const uint8_t *text, size_t length, size_t room) {
     uint8_t *lent = malloc(length + !length);
     uint32_t *output = malloc(4 * room + !room), *expected = malloc(4 * room + !room);
@@ -39,7 +39,7 @@ static struct text_said read_both(struct shape s, const uint8_t *text, size_t le
     return is;
 }
 
-/* Writes a list both ways; the text stands in `text` where the call is accepted. */
+/* Writes a list with both; the text is in `text` if the call is accepted. */
 static struct text_said write_both(struct shape s, const uint32_t *table, size_t length, size_t room, uint8_t *text) {
     uint32_t *lent = malloc(4 * length + !length);
     uint8_t *output = malloc(room + !room), *expected = malloc(room + !room);
@@ -131,7 +131,7 @@ static void edits(size_t rounds, uint64_t seed) {
     }
 }
 
-/* A part that shows each reason, put together in all ways: shape, lines, form, gate, room; graded and ranked. */
+/* For each reason a part that causes it, in all combinations: shape, lines, form, gate, room; graded and ranked. */
 static void read_faults(size_t grades) {
     static const char *bad_forms[] = {"",    " 0",  "0 ",       "00",         "01",          "2  0",       "2 01",  "2",     "2 0 0",
                                       "0 0", "8",   "+0",       "-1",         "2\t0",        "0\r",        "2 0 ",  "x",     "4 0",
@@ -150,7 +150,7 @@ static void read_faults(size_t grades) {
         }
 }
 
-/* The same of writing: shape, length of the table, gate, room. */
+/* The same for writing: shape, length of the table, gate, room. */
 static void write_faults(size_t grades) {
     static const uint32_t second[][4] = {{3, 4, 0, 0}, {8, 0, 0, 0}, {2, 5, 0, 0}, {3, 4, 1, 0}, {7, 1, 2, 4}, {2, 4294967295u, 0, 0}};
     for (size_t g = 0; g < sizeof second / sizeof *second; g++)

@@ -14,7 +14,7 @@ struct trustee {
 
 static struct said refused(size_t reason) { return (struct said){reason, 0, 0, 0, {0}}; }
 
-/* The sum modulo 2 of what stands at one place of all pieces. */
+/* The sum modulo 2 of one place of all pieces. */
 static uint8_t sum(const uint8_t *pieces, size_t size, size_t trustees, size_t at) {
     size_t total = 0;
     for (size_t p = 0; p < trustees; p++)
@@ -55,7 +55,7 @@ static uint8_t product(const struct trustee *who, size_t i, const uint8_t *opene
     return (who->is_first ? bit + opened[0] * opened[1] : bit) % 2;
 }
 
-/* A trustee's bit of what a gate makes; z is its bit of the product, where the gate has one. */
+/* A trustee's bit of a gate's wire; z is its bit of the product, if the gate has one. */
 static uint8_t own_bit(const struct trustee *who, const uint32_t *gate, uint8_t z) {
     const uint8_t *held = who->held;
     switch (gate[0]) {
@@ -70,7 +70,7 @@ static uint8_t own_bit(const struct trustee *who, const uint32_t *gate, uint8_t 
     }
 }
 
-/* All trustees publish their masked factors of conditional gate i; what is opened are the sums. */
+/* All trustees publish their masked factors of conditional gate i; the sums are opened. */
 static void publish(struct trustee *trustees, size_t t, const uint32_t *gate, size_t i, uint8_t *opened) {
     opened[0] = opened[1] = 0;
     for (size_t p = 0; p < t; p++) {

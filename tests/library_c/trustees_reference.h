@@ -1,6 +1,6 @@
-/* The trustees' tally once more in C, written apart from the core: each trustee for itself, from what it holds and
- * what is opened. Arguments are those of c/jugyvaros.h; closing bytes are the opened sums. Where the call is
- * accepted, `published` is filled and `wires` emptied, else both stay. */
+/* The trustees' tally: an independent reference implementation in C, in which each trustee works from what it holds and
+ * what is opened. Arguments are those of c/jugyvaros.h; closing bytes are the opened sums. If the call is accepted,
+ * `published` is filled and `wires` emptied, otherwise both stay. */
 #ifndef TRUSTEES_REFERENCE_H
 #define TRUSTEES_REFERENCE_H
 

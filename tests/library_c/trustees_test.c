@@ -96,7 +96,7 @@ static struct said expected(const struct call *c) {
                               c->tables[WIRES], c->lengths[WIRES], c->tables[PUBLISHED], c->lengths[PUBLISHED]);
 }
 
-/* The answer array of what the reference says. */
+/* The reference's answer as an array. */
 static void compare_answer(const struct call *c, struct said s, const size_t *answer) {
     size_t right[JUGY_TRUSTEES_ANSWER] = {s.reason, s.place, s.gates, s.conditional}, counted[JUGY_COUNT_ANSWER];
     for (int i = 0; !s.reason && i < 8; i++)
@@ -128,7 +128,7 @@ static void one_call(size_t faults) {
             fail("another status");
         compare_answer(&c, s, answer);
     }
-    /* filled in by the reference where the call is accepted, and as they were where it is not */
+    /* filled in by the reference if the call is accepted, otherwise unchanged */
     if (memcmp(wires, c.tables[WIRES], c.lengths[WIRES]))
         fail("other wire parts");
     if (memcmp(published, c.tables[PUBLISHED], c.lengths[PUBLISHED]))

@@ -4,7 +4,7 @@
 
 enum { SHORT_ANSWER = 255 };
 
-/* What is asked of a sound urn. */
+/* The facts of a sound urn. */
 typedef struct {
     size_t ballots, slot, before; /* slot 0: the juror has no ballot */
     bool sound;
@@ -22,7 +22,7 @@ static size_t slots_in(size_t size, size_t length) {
     return length % size || slots < 2 || slots > 256 ? 0 : slots;
 }
 
-/* The reason of a ballot of the right length, 0 where it is good. */
+/* The reason to refuse a ballot of the right length, 0 if it is good. */
 static size_t ballot_reason(size_t k, size_t d, const uint8_t *ballot, size_t *place) {
     for (size_t i = 0; i < k * d; i++)
         if (ballot[i] > 1) {

@@ -1,5 +1,5 @@
-/* The calls on an urn once more in C, written apart from the core: what its tests and the benchmark compare with.
- * Arguments and answer array are those of c/jugyvaros.h. */
+/* The calls on an urn: an independent reference implementation in C, for the tests and the benchmark. Arguments and
+ * answer array are those of c/jugyvaros.h. */
 #ifndef URN_REFERENCE_H
 #define URN_REFERENCE_H
 

@@ -11,7 +11,7 @@ static void fail(const char *what) {
     exit(1);
 }
 
-/* Too short an answer array: nothing is altered, and no call answers. */
+/* An answer array that is too short: nothing changes. */
 static void short_answers(size_t k, size_t d, uint8_t *urn, size_t length, const uint8_t *ballot,
                           size_t ballot_length) {
     size_t room = below(JUGY_URN_ANSWER), *answer = filled(room * sizeof *answer, 9),

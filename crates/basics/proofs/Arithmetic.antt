@@ -23,7 +23,7 @@ above-7 k l h₄ h₅ h₆ h₇ = omega arith
 pub count-down : (n : ℕ) → 0 < n → n ≡ suc (n - 1)
 count-down n h = omega arith
 
--- the places of entries of one size
+-- the place of an entry, in entries of equal size
 pub one-less : (t k : ℕ) → 0 < t → t * k ≡ k + (t - 1) * k
 one-less t k h = omega (arith, ap (λ (x : ℕ). x * k) (count-down t h), suc-mul (t - 1) k)
 

@@ -1,4 +1,4 @@
--- Tests that are joined by `&&` or `||` in the code: the flag where the two ways meet.
+-- Tests joined by `&&` or `||` in the code: the value of the flag where the two branches meet.
 -- Assumes nothing.
 use mathlib.Core.Path.{_≡_, _∙_, refl, sym, ap}
 use mathlib.Core.Bool.{Bool, true, false, cond, _&&_, _||_}
@@ -23,7 +23,7 @@ or-taken t u r h e = e ∙ h ∙ ap (λ (x : Bool). x || u) (sym h)
 pub or-left : (t u r : Bool) → t ≡ false → r ≡ u → r ≡ (t || u)
 or-left t u r h e = e ∙ ap (λ (x : Bool). x || u) (sym h)
 
--- both parts of a conjunction hold where it does
+-- if a conjunction holds, so do both its parts
 pub and-first : (t u : Bool) → (t && u) ≡ true → t ≡ true
 and-first true u e = refl
 and-first false u e = e
@@ -37,7 +37,7 @@ pub and-both : (t u : Bool) → t ≡ true → u ≡ true → (t && u) ≡ true
 and-both true u h e = e
 and-both false u h e = h
 
--- a disjunction holds where one of its parts does
+-- if a disjunction holds, so does one of its parts
 pub or-either : (t u : Bool) → (t || u) ≡ true → (t ≡ true) ⊎ (u ≡ true)
 or-either true u e = inl refl
 or-either false u e = inr e
@@ -62,7 +62,7 @@ T-true false h = absurd h
 pub true-T : (t : Bool) → t ≡ true → T t
 true-T t e = rw e tt
 
--- a conjunction fails where one of its parts does
+-- a conjunction fails if one of its parts does
 pub and-first-fails : (t u : Bool) → t ≡ false → (t && u) ≡ false
 and-first-fails t u e = ap (λ (x : Bool). x && u) e
 

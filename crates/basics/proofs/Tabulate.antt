@@ -1,4 +1,4 @@
--- Tables of the values of a function, and a loop that puts the entries of one table into another, one a turn.
+-- Tables of a function's values, and a loop that copies one table into another, one entry a turn.
 -- Assumes nothing.
 use mathlib.Core.Path.{_≡_, _∙_, refl, sym, ap}
 use mathlib.Core.Bool.{Bool, cond}
@@ -25,7 +25,7 @@ module _ {A : Type 0} where
   getD-tabulate (suc n) zero f d h = refl
   getD-tabulate (suc n) (suc i) f d h = getD-tabulate n i (λ j. f (suc j)) d (omega arith)
 
-  -- a table depends on its function below its length alone
+  -- a table depends only on the function's values below its length
   pub tabulate-cong : (n : ℕ) (f g : ℕ → A) → ((i : ℕ) → i < n → f i ≡ g i) → tabulate n f ≡ tabulate n g
   unfolding tabulate
   tabulate-cong zero f g h = refl
@@ -100,7 +100,7 @@ module _ {A : Type 0} where
           ∙ upTo-kept i j new old e
           ∙ sym (getD-tabulate n j (upTo (suc i) new old) (new i) l)
 
-  -- a turn that has nothing to put in
+  -- a turn whose entry is there already
   pub fill-skip : (n i : ℕ) (new old : ℕ → A) → i < n → new i ≡ old i → tabulate n (upTo i new old) ≡ tabulate n (upTo (suc i) new old)
   fill-skip n i new old h e = tabulate-cong n (upTo i new old) (upTo (suc i) new old) (λ j l. ⊎-elim (λ s. same j s) (upTo-kept i j new old) (same-or-not j i))
     where
@@ -110,7 +110,7 @@ module _ {A : Type 0} where
       same : (j : ℕ) → j ≡ i → upTo i new old j ≡ upTo (suc i) new old j
       same j s = rw s here
 
-  -- the end, where the two tables agree from i on
+  -- the end: from i on the two tables agree
   pub fill-end : (n i : ℕ) (new old : ℕ → A) → ((j : ℕ) → i ≤ j → j < n → new j ≡ old j) → tabulate n (upTo i new old) ≡ tabulate n new
   fill-end n i new old h =
       tabulate-cong n (upTo i new old) new

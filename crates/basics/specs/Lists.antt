@@ -1,4 +1,4 @@
--- Lists of numbers and tables of a function's values, as every floor uses them.
+-- Lists of numbers, and tables of a function's values.
 use mathlib.Core.Bool.{Bool, true, false, not, _&&_, _||_}
 use mathlib.Core.List.{List, [], _∷_}
 use Prim.Native.Nat.{ℕ, zero, suc, _+_}

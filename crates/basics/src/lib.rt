@@ -1,3 +1,3 @@
-// What several floors need and none of them owns: bytes as numbers, tables that are emptied and copied.
+// What several floors use and none owns: bytes as numbers, and emptying and copying tables.
 pub mod byte;
 pub mod table;

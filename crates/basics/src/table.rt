@@ -1,4 +1,4 @@
-// Lent tables as a whole: emptied, and words copied. The kit's crate `bytes` copies bytes.
+// Whole tables: emptying them, and copying words. (The toolchain's crate `bytes` copies bytes.)
 ghost use mathlib.Core.Path.{_≡_};
 ghost use mathlib.Core.List.{_++_};
 ghost use Prim.Native.Nat.{_≤_};

@@ -1,4 +1,4 @@
--- The first jury with a fault: the first lane that is set in the word of faults.
+-- The first jury with a fault: the lowest bit that is set in the word of faults.
 -- Assumes nothing.
 use mathlib.Core.Path.{_≡_, _∙_, refl, sym, ap}
 use mathlib.Core.Bool.{Bool, cond}
@@ -16,7 +16,7 @@ use Rattle.batch_lanes.proofs.LaneLaws.{lane-first, lane-next}
 use Rattle.batch.specs.Ballots.{inJury}
 use Rattle.batch.specs.inner.Found.{foundBit, firstSet}
 
--- below its trailing zeros a word has no bit, and there it has one
+-- the lowest set bit of a word is after its trailing zeros
 pub zeros-below : (m w j : ℕ) → j < trailingZeros m w → lane j w ≡ 0
 unfolding trailingZeros
 zeros-below zero w j h = absurd (omega arith)
@@ -67,7 +67,7 @@ first-same zero f g e = refl
 first-same (suc m) f g e =
     ap (λ (p : Place). orElse p (f m)) (first-same m f g (λ j h. e j (omega arith))) ∙ ap (orElse (firstOver m g)) (e m (omega arith))
 
--- a word of the juries in which a search finds something says which is the first
+-- if a word marks the juries in which a search finds something, its lowest set bit is the first of them
 pub first-by-bits : (w : ℕ) (found : ℕ → Place) → ((j : ℕ) → j < laneCount → lane j w ≡ foundBit (found j)) → firstSet w ≡ firstOver laneCount (λ j. inJury j (found j))
 unfolding firstSet
 first-by-bits w found e = first-same 64 (λ j. cond (eqb (lane j w) 1) (At j) Nowhere) (λ j. inJury j (found j)) (λ j h. by j (found j) (e j h))

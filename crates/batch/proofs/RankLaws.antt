@@ -1,4 +1,5 @@
--- The tests of ranked ballots on words: a word that collects what each turn finds says of each lane whether anything was found.
+-- The tests of ranked ballots on words: a word that collects the findings of each turn says for each lane whether
+-- anything was found.
 -- Assumes nothing.
 use mathlib.Core.Path.{_≡_, _∙_, refl, sym, ap, ap₂}
 use mathlib.Core.Bool.{Bool, true, false, cond, not, _&&_, _||_}

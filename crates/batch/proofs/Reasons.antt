@@ -1,4 +1,4 @@
--- The reasons of a run for 64 juries: what their order answers, and what is known where none applies.
+-- The reasons of a run for 64 juries: what their order answers, and what is known if none applies.
 -- Assumes nothing.
 use mathlib.Core.Path.{_≡_, _∙_, refl, sym, ap}
 use mathlib.Core.Bool.{Bool, true, false, cond}
@@ -84,11 +84,11 @@ clash s = firstNotAsymmetric (s .candidates) (s .ballots)
 abbrev pub notWeakOrder : Shape → List ℕ → Place
 notWeakOrder s = firstNotWeakOrder (s .candidates) (s .ballots)
 
--- the tests of the kind of the shape, from their outcomes
+-- the tests of the shape's kind, from their outcomes
 unfoldable pub kindFound : Bool → Place → Place → Place → Option Reason
 kindFound ranking row clash notWeakOrder = firstOf (cond ranking (foundAt 11 clash ∷ foundAt 12 notWeakOrder ∷ []) (foundAt 6 row ∷ []))
 
--- those of them that are made find nothing
+-- the tests of the shape's kind find nothing
 unfoldable pub Clear : Bool → Place → Place → Place → Type 0
 Clear true row clash notWeakOrder = (clash ≡ Nowhere) × (notWeakOrder ≡ Nowhere)
 Clear false row clash notWeakOrder = row ≡ Nowhere
@@ -125,7 +125,7 @@ none-over f e j h = in-no-jury j (f j) (none-first (λ j. inJury j (f j)) laneCo
 over-none : (f : ℕ → Place) → ((j : ℕ) → j < laneCount → f j ≡ Nowhere) → over f ≡ Nowhere
 over-none f e = first-none (λ j. inJury j (f j)) laneCount (λ j h. not-in-jury j (f j) (e j h))
 
--- the tests over all juries find nothing where those of each jury find nothing
+-- the tests over all juries find nothing if those of each jury find nothing
 pub none-in-juries : (t : Bool) (p c g : ℕ → Place) → kindFound t (over p) (over c) (over g) ≡ none → (j : ℕ) → j < laneCount → kindFound t (p j) (c j) (g j) ≡ none
 unfolding Clear
 none-in-juries t p c g e j h = clear-kind t (p j) (c j) (g j) (each t (kind-clear t (over p) (over c) (over g) e))
@@ -290,11 +290,11 @@ module _ (c : Call) where
         boardLength = r .boardLength;
       }
 
-  -- the whole of a call by its first reason
+  -- what a call leaves, by its first reason
   pub result-by : (o : Option Reason) → firstOf (batchReasons c) ≡ o → batchResult c ≡ batchResultAfter o c
   unfolding batchResult
   result-by o e = ap (λ (r : Option Reason). batchResultAfter r c) e
 
--- a result is told by what it consists of
+-- two results are equal if their parts are
 pub same-result : (x y : RunResult) → x .answer ≡ y .answer → x .wires ≡ y .wires → x .board ≡ y .board → x ≡ y
 same-result x y a b c = rw (a, b, c) refl

@@ -1,4 +1,4 @@
--- A refused call for 64 juries beside their single runs.
+-- A refused call for 64 juries, compared with their single runs.
 -- Assumes nothing.
 use mathlib.Core.Path.{_≡_, _∙_, refl, sym, ap, subst}
 use mathlib.Core.Bool.{Bool, true, false, _||_, true≢false}
@@ -34,7 +34,7 @@ use Rattle.batch.specs.Run.{wordBufferReasons, batchReasons, batchResult
 use Rattle.batch.specs.Theorems.{runAlone, isOfBallots, RefusedAsAlone, FaultAsAlone}
 use Rattle.batch.proofs.Reasons.{in-no-jury, none-over, over, lentFound, lent-by, badRow, clash, notWeakOrder, kindFound, none-in-juries, ballotsFound, alone-kind, wordKind, word-kind, ballots-by, batch-first, result-by}
 
--- the tests of what is lent, where no tape byte is above 1
+-- the tests of the buffers, if no tape byte is above 1
 lent-bits : (t u v : Bool) → single.lentFound t Nowhere u v ≡ lentFound t u v
 unfolding single.lentFound lentFound unless foundAt firstOf
 lent-bits true u v = refl
@@ -49,7 +49,7 @@ place-is : (n place : ℕ) (r : Reason) → some (reasonAt n place) ≡ some r �
 unfolding reasonAt
 place-is n place r e = let same : reasonAt n place ≡ r = cc in ap (λ (x : Reason). At (x .place)) same
 
--- no test of what is lent, and no test of a list, looks at what ballots say
+-- no test of buffers or of a list is about the contents of ballots
 other : (n place : ℕ) (r : Reason) → isOfBallots (reasonAt n 0) ≡ false → some (reasonAt n place) ≡ some r → isOfBallots r ≡ false
 unfolding isOfBallots hasNumberIn reasonAt
 other n place r f e = ap (λ (m : ℕ). eqb m 6 || (eqb m 11 || (eqb m 12 || false))) (sym (number-is n place r e)) ∙ f
@@ -76,7 +76,7 @@ test-other s table r e =
     small-other (r .number) (eqb (r .number) 6) (eqb (r .number) 11) (eqb (r .number) 12) refl refl refl
     (numbering.test-number s table r (ap (λ (o : Option Reason). outcome o (sizeOf (gatesOf table))) e))
 
--- what the first jury in which something is found tells
+-- what the first jury in which something is found says
 abbrev Found : ℕ → ℕ → (ℕ → Place) → Type 0
 Found m p f = (p < m) × ((row : ℕ) × (f p ≡ At row)) × ((j : ℕ) → j < p → f j ≡ Nowhere)
 
@@ -97,7 +97,7 @@ unfolding firstOver
 first-found zero p f e = let z : _≡_ {A = ℕ} 0 1 = cc in absurd (omega arith)
 first-found (suc m) p f e = found-by m p f (firstOver m (λ j. inJury j (f j))) refl (first-found m p f) e
 
--- the first reason of a call and of a single run, by the same outcomes: they part at what ballots say only
+-- the first reason of a call and of a single run are equal, unless it is about the contents of ballots
 same-otherwise : (t : Option Reason) (sz : Bool) (k q l : Option Reason) (r : Reason) → (k ≡ none → q ≡ none) → (k ≡ some r → ⊥)
     → single.firstOfThree t (ballotsFound sz k) l ≡ some r → single.firstOfThree t (ballotsFound sz q) l ≡ some r
 unfolding single.firstOfThree test.orElse ballotsFound unless firstOf
@@ -106,7 +106,7 @@ same-otherwise none false k q l r n h e = e
 same-otherwise none true (some x) q l r n h e = absurd (h e)
 same-otherwise none true none q l r n h e = ap (λ (x : Option Reason). single.firstOfThree none (ballotsFound true x) l) (n refl) ∙ e
 
--- a reason that is none of the others' is that of the kind
+-- a reason that no other test gives comes from the tests of the shape's kind
 is-of-kind : (t : Option Reason) (sz : Bool) (k l : Option Reason) (r : Reason) → (t ≡ some r → ⊥) → (l ≡ some r → ⊥) → r .number ≢ 4
     → single.firstOfThree t (ballotsFound sz k) l ≡ some r → (t ≡ none) × (sz ≡ true) × (k ≡ some r)
 unfolding single.firstOfThree test.orElse ballotsFound unless firstOf
@@ -119,7 +119,7 @@ kind-alone : (k l : Option Reason) (r : Reason) → k ≡ some r → single.firs
 unfolding single.firstOfThree test.orElse ballotsFound unless firstOf
 kind-alone k l r e = ap (λ (x : Option Reason). single.firstOfThree none (ballotsFound true x) l) e
 
--- the tests of the kind look at what ballots say
+-- the tests of the shape's kind are about the contents of ballots
 kind-number : (t : Bool) (p c g : Place) (r : Reason) → kindFound t p c g ≡ some r → isOfBallots r ≡ true
 unfolding kindFound foundAt firstOf isOfBallots hasNumberIn
 kind-number true p (At i) g r e = ap (λ (m : ℕ). eqb m 6 || (eqb m 11 || (eqb m 12 || false))) (sym (number-is 11 i r e))
@@ -128,7 +128,7 @@ kind-number true p Nowhere Nowhere r e = let z : _≡_ {A = ℕ} 0 1 = cc in abs
 kind-number false (At i) c g r e = ap (λ (m : ℕ). eqb m 6 || (eqb m 11 || (eqb m 12 || false))) (sym (number-is 6 i r e))
 kind-number false Nowhere c g r e = let z : _≡_ {A = ℕ} 0 1 = cc in absurd (omega arith)
 
--- a fault over all juries is that of its jury, and no jury before has one of the same number; where it is 12, no jury has 11
+-- a fault over all juries is its jury's, and no jury before has one of the same number; if it is 12, no jury has 11
 abbrev Faulty : Bool → (ℕ → Place) → (ℕ → Place) → (ℕ → Place) → ℕ → ℕ → Type 0
 Faulty t p c g n j₀ =
     (j₀ < laneCount) × ((place : ℕ) × (kindFound t (p j₀) (c j₀) (g j₀) ≡ some (reasonAt n place)))
@@ -195,7 +195,7 @@ faulty true p c g x Nowhere (At i) r ep ec eg e =
     )
 faulty true p c g x Nowhere Nowhere r ep ec eg e = let o : _≡_ {A = ℕ} 0 1 = cc in absurd (omega arith)
 
--- where bytes are bits, 5 does not part the two
+-- if bytes are bits, 5 makes no difference
 judged-bits : (sz : Bool) (k : Option Reason) → judged sz Nowhere k ≡ ballotsFound sz k
 unfolding judged ballotsFound unless foundAt firstOf
 judged-bits true k = refl
@@ -320,7 +320,7 @@ fault-as-alone c r e n =
         ≡ single.firstOfThree none (ballotsFound true (kindReason (c .shape) (laneOf j (c .ballots)))) (lentFound (tapeRight c) (wiresRight c) (boardRight c))
     passed a b j = alone-reason c j ∙ rw (a, b)
 
-    -- a single run that is refused for what its ballots say
+    -- a single run that is refused for the contents of its ballots
     its-kind : firstOf (testReasons (c .shape) (c .table)) ≡ none → sizeRight c ≡ true → (j : ℕ) (q : Reason) → isOfBallots q ≡ true
         → runAlone j c .answer ≡ refused q → kindFound (isRanking (c .shape)) (rows (c .shape) (c .ballots) j) (not_asymmetric (c .shape) (c .ballots) j) (not_weak_order (c .shape) (c .ballots) j) ≡ some q
     its-kind a b j q m x =

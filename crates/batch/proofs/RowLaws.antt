@@ -1,4 +1,5 @@
--- The rows of 64 juries at once: what the words `once` and `twice` say of each lane, and a word of faults of the first bad row of each.
+-- Rows of 64 juries at once: what the words `once` and `twice` say about each lane, and a word of faults about the
+-- first bad row of each.
 -- Assumes nothing.
 use mathlib.Core.Path.{_≡_, _∙_, refl, sym, ap, ap₂}
 use mathlib.Core.Bool.{Bool, true, false, cond}
@@ -20,12 +21,12 @@ use Rattle.batch_lanes.proofs.ListLaws.{lanes-length, lanes-at}
 use Rattle.batch.specs.inner.Found.{foundBit}
 use Rattle.basics.proofs.Arithmetic.{bit-cases}
 
--- after some words of a row, m of which are 1 in lane j: whether there was one, and whether there was a second
+-- after words of a row of which m are 1 in lane j: whether there was a 1, and whether there was a second
 pub record Seen (j : ℕ) (once twice m : ℕ) : Type 0 where
   pub one : lane j once ≡ min m 1
   pub two : lane j twice ≡ min (m - 1) 1
 
--- so many of these bytes are 1, the rest from place i on counted apart
+-- how many of these bytes are 1, with those from place i on counted apart
 pub record RowLane (j : ℕ) (words : List ℕ) (once twice i : ℕ) : Type 0 where
   pub count : ℕ
   pub seen : Seen j once twice count
@@ -86,7 +87,7 @@ row-turn j words once twice i h r = ⊎-elim none one (bit-cases (lane j (getD w
           all = omega (arith, r .all, ones-here (laneOf j words) i within (lanes-at j words i ∙ e));
         }
 
--- a row is bad where there was no 1, or a second one
+-- a row is bad if there was no 1, or a second one
 bad-by : (m : ℕ) → max (min (m - 1) 1) ((min m 1 + 1) % 2) ≡ cond (eqb m 1) 0 1
 bad-by zero = refl
 bad-by (suc zero) = refl

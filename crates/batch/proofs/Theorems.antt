@@ -76,13 +76,13 @@ board-bits ws gs k tape good bits enough l x = ⊎-elim shown closing (below-or-
         ∙ output-is k (wiresOf ws gs) (x - c) in
         omega (arith, e, wire-bit (wiresOf ws gs) (wires-bits ws gs good bits) (length (wiresOf ws gs) - k + (x - c)))
 
--- of bits of the right length, only the tests of the kind decide
+-- for bits of the right length, only the tests of the shape's kind decide
 by-kind : (s : Shape) (xs : List ℕ) → length xs ≡ ballotBytes s → ((i : ℕ) → getD xs i 0 ≤ 1) → firstOf (ballotReasons s xs) ≡ kindReason s xs
 by-kind s xs size bits =
     judged-by s xs true Nowhere (kindReason s xs) (eq-eqb (length xs) (ballotBytes s) size) (none-above 0 xs bits) refl ∙ judged-kind (kindReason s xs)
 
 module _ (c : Call) where
-  -- a call that answers G and C is one to which no reason applies, and both numbers are those of the list
+  -- no reason applies to a call that answers G and C, and both numbers are the list's
   answered : (size : Size) (o : Option Reason) → firstOf (batchReasons c) ≡ o
       → batchResultAfter o c .answer ≡ accepted size → (firstOf (batchReasons c) ≡ none) × (size ≡ sizeOf (gatesOf (c .table)))
   unfolding batchResultAfter
@@ -188,7 +188,7 @@ accepted-as-all c size e =
           boardLength = sym (lanes-length 0 (c .board)) ∙ q .boardLength;
         }
 
--- the numbers of the reasons that concern the call
+-- the numbers of the call's reasons
 concerned : List ℕ
 concerned = 1 ∷ 2 ∷ 3 ∷ 4 ∷ 6 ∷ 11 ∷ 12 ∷ 7 ∷ 9 ∷ 10 ∷ []
 

@@ -1,5 +1,4 @@
--- The entry point [lanes]: one list run on 64 juries that share a shape, bit j of each number being jury j's (request
--- 2.11).
+-- The entry point [lanes]: one list run on 64 juries of one shape; bit j of each number is jury j's (request 2.11).
 use mathlib.Core.Option.{Option, none, some}
 use mathlib.Core.List.{List, [], _∷_, _++_}
 use Prim.Native.Nat.{ℕ, _+_}
@@ -17,8 +16,8 @@ use Rattle.batch_lanes.specs.Lane.{laneOf, wordsOf}
 use Rattle.batch.specs.Call.{Call}
 use Rattle.batch.specs.Ballots.{wordBallotReasons}
 
--- The tests of what is lent besides the list and the ballots, in checking order: 7, 9, 10. They count words, as many
--- as a single run has bytes; 8 does not concern words.
+-- The tests of tape, wire table and board, in checking order: 7, 9, 10. They count words, as many as a single run has
+-- bytes. 8 never applies.
 unfoldable pub wordBufferReasons : ℕ → ℕ → Size → List ℕ → List ℕ → List ℕ → List (Option Reason)
 wordBufferReasons i k size tape wires board =
     unless (eqb (length tape) (size .conditional)) 7
@@ -26,7 +25,7 @@ wordBufferReasons i k size tape wires board =
     ∷ unless (eqb (length board) (size .conditional + k)) 10
     ∷ []
 
--- All reasons in checking order: 1, 2, 3, 4, then 6 or, of rankings, 11 and 12, then 7, 9, 10.
+-- All reasons in checking order: 1, 2, 3, 4, then 6 for grades or 11 and 12 for rankings, then 7, 9, 10.
 unfoldable pub batchReasons : Call → List (Option Reason)
 batchReasons c =
     testReasons (c .shape) (c .table)
@@ -35,14 +34,14 @@ batchReasons c =
     (c .wires)
     (c .board)
 
--- The board of jury j: that of its own ballots and tape.
+-- The board of jury j, from its own ballots and tape.
 abbrev pub boardAlone : Call → ℕ → List ℕ
 boardAlone c j =
     let gs = gatesOf (c .table) in
     boardOf (wiresOf (laneOf j (c .ballots)) gs) gs (c .shape .candidates) (laneOf j (c .tape))
 
--- A refusal alters nothing that is lent. An accepted call answers the list's own G and C, leaves zeros in the wire
--- table, and on the board words in which each jury has its own board.
+-- A refusal changes nothing. An accepted call answers the list's own G and C, leaves zeros in the wire table, and
+-- leaves a board in which each jury has its own.
 unfoldable pub batchResultAfter : Option Reason → Call → RunResult
 batchResultAfter (some r) c = record { answer = refused r; wires = c .wires; board = c .board }
 batchResultAfter none c =

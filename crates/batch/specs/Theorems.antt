@@ -1,4 +1,4 @@
--- What holds of a run for 64 juries: each jury has its single run, so the three demands hold jury by jury.
+-- What holds for a run of 64 juries: each jury has its single run, so the three demands hold jury by jury.
 use mathlib.Core.Path.{_≡_}
 use mathlib.Core.Bool.{Bool, true, false}
 use mathlib.Core.List.{List, [], _∷_}
@@ -23,9 +23,9 @@ runAlone j c =
     runResult (c .shape) (c .table) (laneOf j (c .ballots)) (laneOf j (c .tape)) (laneOf j (c .wires))
     (laneOf j (c .board))
 
--- Each jury of an accepted call has what its single run gives: the answer, its bits of the wire table and its bits of
--- the board. Both wire tables are zeros by then; that each jury's wires were those of its single run before they were
--- emptied is what the contract of `batch_lanes::step::run` says.
+-- Each jury of an accepted call has what its single run gives: the answer, and its bits of wire table and board. Both
+-- wire tables are zeros by then; before that each jury's wires were those of its single run, says the contract of
+-- `batch_lanes::step::run`.
 abbrev pub EachAsAlone : Type 0
 EachAsAlone =
     (c : Call) (size : Size) → batchResult c .answer ≡ accepted size → (j : ℕ) → j < laneCount
@@ -33,25 +33,24 @@ EachAsAlone =
     × (laneOf j (batchResult c .wires) ≡ runAlone j c .wires)
     × (laneOf j (batchResult c .board) ≡ runAlone j c .board)
 
--- And a call is accepted where all 64 single runs are.
+-- A call is accepted if all 64 single runs are.
 abbrev pub AcceptedAsAll : Type 0
 AcceptedAsAll =
     (c : Call) (size : Size) → ((j : ℕ) → j < laneCount → runAlone j c .answer ≡ accepted size)
     → batchResult c .answer ≡ accepted size
 
--- The reasons that look at what the ballots say: their place is a jury.
+-- The reasons that are about the contents of ballots: their place is a jury.
 unfoldable pub isOfBallots : Reason → Bool
 isOfBallots = hasNumberIn (6 ∷ 11 ∷ 12 ∷ [])
 
--- A call that is refused for another reason than these is refused as every single run is.
+-- If a call is refused for any other reason, so is every single run.
 abbrev pub RefusedAsAlone : Type 0
 RefusedAsAlone =
     (c : Call) (r : Reason) → batchResult c .answer ≡ refused r → isOfBallots r ≡ false
     → (j : ℕ) → j < laneCount → runAlone j c .answer ≡ refused r
 
--- One that is refused for one of them has as its place a jury whose single run is refused for the same reason, and no
--- jury before it is. 11 comes before 12 over all juries: where a call is refused for 12, no single run is refused for
--- 11.
+-- If a call is refused for one of them, its place is the first jury whose single run is refused for the same reason.
+-- 11 comes before 12 over all juries: if a call is refused for 12, no single run is refused for 11.
 abbrev pub FaultAsAlone : Type 0
 FaultAsAlone =
     (c : Call) (r : Reason) → batchResult c .answer ≡ refused r → isOfBallots r ≡ true
@@ -60,13 +59,13 @@ FaultAsAlone =
     × ((j place : ℕ) → j < r .place → runAlone j c .answer ≡ refused (reasonAt (r .number) place) → ⊥)
     × (r .number ≡ 12 → (j place : ℕ) → j < laneCount → runAlone j c .answer ≡ refused (reasonAt 11 place) → ⊥)
 
--- Demand 1, as of every call that leaves a board; 5 and 8 do not concern words.
+-- Demand 1, as for every call that leaves a board. 5 and 8 never apply.
 abbrev pub BatchMemory : Type 0
 BatchMemory =
     (c : Call) → BoardKeepsMemory (1 ∷ 2 ∷ 3 ∷ 4 ∷ 6 ∷ 11 ∷ 12 ∷ 7 ∷ 9 ∷ 10 ∷ []) (c .wires) (c .board) (batchResult c)
 
--- Demand 2: with the list that the core writes for a shape, a jury's closing bytes are those of its plain count, and
--- say who wins in that jury.
+-- Demand 2: with the own list of a shape, a jury's closing bytes are those of its plain count, and say who wins in
+-- that jury.
 abbrev pub BatchAccuracy : Type 0
 BatchAccuracy =
     (c : Call) (table : List ℕ) (size answer : Size) → writeOutcome (c .shape) table ≡ accepted size
@@ -75,8 +74,8 @@ BatchAccuracy =
     (bytes ≡ take (c .shape .candidates) (plainClosing (c .shape) (laneOf j (c .ballots))))
     × SaysWhoWins (c .shape) (laneOf j (c .ballots)) bytes
 
--- Demand 3: any jury i of one accepted call and any jury j of another, of one shape and one list, that end with the
--- same closing bytes: their boards tell no more of their ballots than these bytes. The calls may be the same.
+-- Demand 3: for jury i of one accepted call and jury j of another, with one shape and list and equal closing bytes,
+-- the boards reveal of their ballots no more than these bytes. The two calls may be the same.
 abbrev pub BatchHiding : Type 0
 BatchHiding =
     (c c′ : Call) (first second : Size) → c .shape ≡ c′ .shape → c .table ≡ c′ .table

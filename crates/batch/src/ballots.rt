@@ -1,4 +1,4 @@
-// The tests of the ballots of 64 juries, all of them at once: bit j of a word says whether jury j has the fault.
+// The tests of the ballots of 64 juries at once: bit j of a word of faults says whether jury j has the fault.
 use batch_lanes::word;
 use gates::place::Place;
 use jury::reason::Refusal;
@@ -9,17 +9,18 @@ ghost use mathlib.Core.Bool.{cond};
 ghost use Prim.Native.Nat.{ℕ, _*_, _<_};
 ghost use lib.Dec.{T, eqb};
 ghost use lib.ListN.{length};
-ghost use Rattle.jury.specs.Shape.{gradedLimits, withinLimits};
+ghost use Rattle.jury.specs.Shape.{withinLimits};
 ghost use Rattle.jury.specs.Reason.{refusedFor, firstOf};
 ghost use Rattle.jury.specs.Ballots.{ones, rowsOf, firstBadRow};
 ghost use Rattle.batch_lanes.specs.Lane.{laneCount, lane, laneOf};
 ghost use Rattle.batch.specs.Ballots.{wordGradedReasons, wordRankedReasons, wordBallotReasons};
 ghost use Rattle.batch.specs.inner.Found.{foundBit, firstSet};
+ghost use Rattle.jury.specs.inner.Ballots.{GradedSize};
 
 // How many juries a word serves.
 const JURIES: u32 = 64;
 
-// Reason 4, then those of the kind of the shape.
+// Reason 4, then those of the shape's kind: 6 for grades, 11 and 12 for rankings.
 pub fn test(shape: Shape, ballots: &[u64]) -> Verdict
     requires { ⌜ T (withinLimits shape) ⌝ }
     ensures { λ r. ⌜ refusedFor r ≡ firstOf (wordBallotReasons shape (now (ballots .entry))) ⌝ }
@@ -34,10 +35,9 @@ pub fn test(shape: Shape, ballots: &[u64]) -> Verdict
     }
 }
 
-// Reason 6.
+// Reason 6, of graded ballots.
 fn test_grades(shape: Shape, ballots: &[u64]) -> Verdict
-    requires { ⌜ T (gradedLimits shape) × (length (now ballots)
-        ≡ shape .ballots * shape .candidates * shape .grades) ⌝ }
+    requires { ⌜ GradedSize shape (now ballots) ⌝ }
     ensures { λ r. ⌜ refusedFor r ≡ firstOf (wordGradedReasons shape (now (ballots .entry))) ⌝ }
 {
     let faults = bad_rows(ballots, shape.grades, shape.ballots * shape.candidates);
@@ -47,7 +47,7 @@ fn test_grades(shape: Shape, ballots: &[u64]) -> Verdict
     }
 }
 
-// Reasons 11 and 12: 11 looks at all juries before 12 begins.
+// Reasons 11 and 12, of rankings. 11 looks at all juries before 12 begins.
 fn test_rankings(shape: Shape, ballots: &[u64]) -> Verdict
     requires { ⌜ length (now ballots) ≡ shape .ballots * shape .candidates * shape .candidates ⌝ }
     ensures { λ r. ⌜ refusedFor r ≡ firstOf (wordRankedReasons shape (now (ballots .entry))) ⌝ }
@@ -63,7 +63,7 @@ fn test_rankings(shape: Shape, ballots: &[u64]) -> Verdict
     }
 }
 
-// The juries that have, among so many rows of d words, a row without a 1 or with several.
+// The juries in which one of the rows of d words has no 1 or several.
 fn bad_rows(words: &[u64], d: usize, rows: usize) -> u64
     requires { ⌜ length (now words) ≡ rows * d ⌝ }
     ensures { λ r.
@@ -82,7 +82,7 @@ fn bad_rows(words: &[u64], d: usize, rows: usize) -> u64
     faults
 }
 
-// The juries to which this row is a fault: those that had no 1 in it, and those that had a second one.
+// The juries in which this row is bad: it has no 1, or a second one.
 fn bad_row(words: &[u64]) -> u64
     ensures { λ r. ⌜ ((j : ℕ) → j < laneCount → lane j r ≡ cond (eqb (ones (laneOf j (now (words .entry)))) 1) 0 1) ⌝ }
 {

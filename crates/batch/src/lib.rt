@@ -1,4 +1,4 @@
-// The entry point that serves 64 juries of a shape in one call.
+// The entry point that runs 64 juries of one shape in one call.
 pub mod ballots;
 pub mod rankings;
 pub mod run;

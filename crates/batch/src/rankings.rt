@@ -1,5 +1,5 @@
 // The tests of ranked ballots for 64 juries at once, each over all ballots: bit j of a word says whether jury j has
-// the fault. What a ballot may not say is told in `jury::rankings`.
+// the fault. `jury::rankings` has the same tests for one jury.
 use batch_lanes::word;
 ghost use mathlib.Core.Path.{_≡_};
 ghost use mathlib.Core.Bool.{cond};
@@ -9,7 +9,7 @@ ghost use Rattle.jury.specs.Rankings as spec;
 ghost use Rattle.batch_lanes.specs.Lane.{laneCount, lane, laneOf};
 ghost use Rattle.batch.specs.inner.Found.{foundBit};
 
-// The juries in which some byte is 1 while its opposite is 1 too.
+// Reason 11: the juries in which some byte is 1 and its opposite is 1 too.
 pub fn not_asymmetric(words: &[u64], k: usize, n: usize) -> u64
     requires { ⌜ length (now words) ≡ n * k * k ⌝ }
     ensures { λ r.
@@ -59,8 +59,7 @@ fn not_asymmetric_in_row(words: &[u64], k: usize, b: usize, i: usize) -> u64
     faults
 }
 
-// The juries in which some ballot puts a candidate before another while a third is neither after the one nor before the
-// other.
+// Reason 12: the juries with a ballot in which i is before j and a third candidate is not after i and not before j.
 pub fn not_weak_order(words: &[u64], k: usize, n: usize) -> u64
     requires { ⌜ length (now words) ≡ n * k * k ⌝ }
     ensures { λ r.
@@ -91,7 +90,7 @@ fn not_weak_order_in_ballot(words: &[u64], k: usize, b: usize) -> u64
     faults
 }
 
-// Those in which i is the one put before.
+// Those for this i.
 fn not_weak_order_after(words: &[u64], k: usize, b: usize, i: usize) -> u64
     requires { ⌜ ((b + 1) * k * k ≤ length (now words)) × (i < k) ⌝ }
     ensures { λ r.
@@ -109,7 +108,7 @@ fn not_weak_order_after(words: &[u64], k: usize, b: usize, i: usize) -> u64
     faults
 }
 
-// The juries in which i is not put before some candidate that is not put before j either.
+// The juries in which some candidate is not after i and not before j.
 fn neither_after_nor_before(words: &[u64], k: usize, b: usize, i: usize, j: usize) -> u64
     requires { ⌜ ((b + 1) * k * k ≤ length (now words)) × (i < k) × (j < k) ⌝ }
     ensures { λ r.

@@ -11,7 +11,7 @@ ghost use Rattle.tally.specs.Answer.{outcomeOf, outcome, sizeOf};
 ghost use Rattle.tally.specs.Run.{RunResult};
 ghost use Rattle.batch.specs.Run.{wordBufferReasons, batchReasons, batchResult};
 
-// Reasons 7, 9 and 10, for a list of so many inputs, outputs, gates and conditional gates.
+// Reasons 7, 9 and 10, for a list with this many inputs, outputs, gates and conditional gates.
 fn test_buffers(
     inputs: usize,
     outputs: usize,
@@ -81,9 +81,8 @@ fn test_run(
     }
 }
 
-// Runs a list, whoever wrote it, on the ballots of 64 juries of one shape. Bit j of each number is jury j's. The wire
-// table holds all ballots and values in clear while it runs, so it is emptied once the closing words stand on the
-// board.
+// Runs a list, whoever wrote it, on the ballots of 64 juries of one shape; bit j of each number is jury j's. While it
+// runs, the wire table holds ballots and values in clear; it is emptied once the closing words are on the board.
 pub fn run(
     shape: Shape,
     table: &[u32],

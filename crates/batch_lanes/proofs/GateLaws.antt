@@ -1,4 +1,4 @@
--- One gate in all lanes: what its word does to the lanes of the wire table, and its shown word to those of the board.
+-- One gate in all lanes: its value in the lanes of the wire table, and its shown word in those of the board.
 -- Assumes nothing.
 use mathlib.Core.Path.{_≡_, _∙_, sym, ap, subst}
 use mathlib.Core.Bool.{Bool, true, false, cond}
@@ -44,7 +44,7 @@ module _ (t : List ℕ) (g : ℕ) where
   mark-is : (m : Bool) → m ≡ conditionalOf (getD t (4 * g) 0) → conditionalOf (gateAt t g .kind) ≡ m
   mark-is m e = ap (λ (x : Gate). conditionalOf (x .kind)) (gate-numbers t g) ∙ sym e
 
-  -- a gate with the mark counts one, and one without it none
+  -- a gate with the mark counts 1, one without it 0
   pub count-is : (m : Bool) → m ≡ conditionalOf (getD t (4 * g) 0) → conditionalCount (gateAt t g ∷ []) ≡ cond m 1 0
   count-is m e = count-one (gateAt t g) ∙ ap (λ (b : Bool). cond {A = ℕ} b 1 0) (mark-is m e)
 

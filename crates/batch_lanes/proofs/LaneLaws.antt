@@ -1,4 +1,4 @@
--- The lanes of a word: of what the operations on words give, of all ones, and that a word is what its lanes say.
+-- The lanes of a word: after each operation on words, and of all ones; and a word is determined by its 64 bits.
 -- Assumes nothing.
 use mathlib.Core.Path.{_≡_, _∙_, refl, sym, ap, ap₂}
 use Prim.Native.Nat.{ℕ, zero, suc, _+_, _-_, _*_, _/_, _%_, _^_, _≤_, _<_, min, max}
@@ -21,7 +21,7 @@ pub lane-first : (w : ℕ) → lane 0 w ≡ w % 2
 unfolding lane
 lane-first w = ap (λ (x : ℕ). x % 2) (div-one w)
 
--- the lane above, in the word without its lowest bit
+-- the next lane is this lane of half the word
 pub lane-next : (j w : ℕ) → lane (suc j) w ≡ lane j (w / 2)
 unfolding lane
 lane-next j w = ap (λ (n : ℕ). w / 2 ^ n % 2) (sym (one-add j)) ∙ ap (λ (x : ℕ). x % 2) (sym (shr-shr w 1 j))
@@ -54,7 +54,7 @@ differ-small zero y hx hy = hy
 differ-small (suc x) zero hx hy = hx
 differ-small (suc x) (suc y) hx hy = differ-small x y (omega arith) (omega arith)
 
--- two bits differ as their sum is odd
+-- two bits differ exactly if their sum is odd
 differ-sum : (x y : ℕ) → x ≤ 1 → y ≤ 1 → differ x y ≡ (x + y) % 2
 differ-sum zero zero hx hy = refl
 differ-sum zero (suc zero) hx hy = refl
@@ -73,13 +73,13 @@ lane-or j a b = lane-op bitOr max (λ x y hx hy. omega arith) or-step or-shr j a
 pub lane-xor : (j a b : ℕ) → lane j (bitXor a b) ≡ (lane j a + lane j b) % 2
 lane-xor j a b = lane-op bitXor differ differ-small xor-step xor-shr j a b ∙ differ-sum (lane j a) (lane j b) (lane-bit j a) (lane-bit j b)
 
--- numbers of equal bits are equal
+-- numbers with equal bits are equal
 pub packed-same : (m : ℕ) (f g : ℕ → ℕ) → ((j : ℕ) → j < m → f j ≡ g j) → packed m f ≡ packed m g
 unfolding packed
 packed-same zero f g e = refl
 packed-same (suc m) f g e = ap₂ (λ (x y : ℕ). x + 2 * y) (e 0 (omega arith)) (packed-same m (λ j. f (suc j)) (λ j. g (suc j)) (λ j h. e (suc j) (omega arith)))
 
--- a word of m bits is packed of its lanes
+-- packing the lanes of a word gives the word
 pub packed-lanes : (m w : ℕ) → w < 2 ^ m → packed m (λ j. lane j w) ≡ w
 unfolding packed
 packed-lanes zero w h = omega arith
@@ -87,7 +87,7 @@ packed-lanes (suc m) w h =
     let rest : packed m (λ j. lane (suc j) w) ≡ w / 2 = packed-same m (λ j. lane (suc j) w) (λ j. lane j (w / 2)) (λ j l. lane-next j w) ∙ packed-lanes m (w / 2) (omega (arith, pow-suc 2 m)) in
     omega (arith, lane-first w, rest)
 
--- lane j of what is packed is bit j
+-- lane j of a packed number is its bit j
 pub lane-packed : (m j : ℕ) (bit : ℕ → ℕ) → j < m → ((i : ℕ) → bit i ≤ 1) → lane j (packed m bit) ≡ bit j
 unfolding packed
 lane-packed zero j bit h small = absurd (omega arith)

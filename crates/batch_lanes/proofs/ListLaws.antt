@@ -48,7 +48,7 @@ pub lanes-set : (j : ℕ) (ws : List ℕ) (i v : ℕ) → laneOf j (set ws i v) 
 unfolding laneOf
 lanes-set j ws i v = map-set (lane j) ws i v
 
--- the lane of the word at a place, 0 where there is none
+-- the lane of the word at a place, 0 past the last
 pub lanes-at : (j : ℕ) (ws : List ℕ) (i : ℕ) → getD (laneOf j ws) i 0 ≡ lane j (getD ws i 0)
 unfolding laneOf
 lanes-at j ws i = ap (getD (map (lane j) ws) i) (sym (lane-none j)) ∙ List·getD-map (lane j) ws i 0
@@ -66,7 +66,7 @@ length-words (suc n) lists = ap suc (length-words n (λ j. drop 1 (lists j)))
 pub lanes-bits : (j : ℕ) (ws : List ℕ) (i : ℕ) → getD (laneOf j ws) i 0 ≤ 1
 lanes-bits j ws i = rw (lanes-at j ws i) (lane-bit j (getD ws i 0))
 
--- Words of 64 bits are what their lanes say.
+-- Words are determined by their 64 lanes.
 pub words-are : (ws : List ℕ) (lists : ℕ → List ℕ) → ((i : ℕ) → getD ws i 0 < 2 ^ 64) → ((j : ℕ) → j < laneCount → laneOf j ws ≡ lists j) → ws ≡ wordsOf (length ws) lists
 unfolding laneOf wordsOf
 words-are [] lists small e = refl
@@ -75,7 +75,7 @@ words-are (w ∷ ws) lists small e =
     sym (packed-lanes 64 w (small 0)) ∙ packed-same 64 (λ j. lane j w) (λ j. getD (lists j) 0 0) (λ j h. ap (λ (l : List ℕ). getD l 0 0) (e j h)) in
     ap₂ (λ (x : ℕ) (l : List ℕ). x ∷ l) first (words-are ws (λ j. drop 1 (lists j)) (λ i. small (suc i)) (λ j h. ap (drop 1) (e j h)))
 
--- and the lanes of words are the lists that they were made of
+-- and the lanes of packed lists are these lists
 pub lanes-of-words : (n : ℕ) (lists : ℕ → List ℕ) (j : ℕ) → j < laneCount → ((i : ℕ) → length (lists i) ≡ n) → ((i x : ℕ) → getD (lists i) x 0 ≤ 1) → laneOf j (wordsOf n lists) ≡ lists j
 unfolding laneOf wordsOf
 lanes-of-words zero lists j h size small = none (lists j) (size j)

@@ -39,7 +39,7 @@ module _ (inputs t : List ℕ) (k : ℕ) (tape ws board : List ℕ) (ready : Run
         inBoard = omega (arith, count-all, ready .boardLength);
       }
 
-  -- the step has worked over all gates
+  -- the step has done all gates
   module _ (shown : ℕ) (ws₂ board₂ : List ℕ) (n : shown ≡ 0 + conditionalCount (rangeOf t 0 (length t / 4))) (lw : length ws₂ ≡ length ws₁) (lb : length board₂ ≡ length board) where
     shown-all : shown ≡ conditionalCount (gatesOf t)
     shown-all = omega (arith, count-all)

@@ -1,4 +1,4 @@
--- The step over words: in every lane, what is left of the range makes what the whole range makes there.
+-- The step over words: in every lane, the gates that are left make what the whole range makes there.
 -- Assumes nothing.
 use mathlib.Core.Path.{_≡_, _∙_}
 use mathlib.Core.Bool.{cond}
@@ -27,7 +27,7 @@ pub record LanesLeft (inputs : ℕ) (t : List ℕ) (from to : ℕ) (tape : List 
   pub boardLength : length board ≡ length board₀
   pub lanes : (j : ℕ) → j < laneCount → LeftIn j inputs t from to tape shown ws₀ board₀ ws board next g
 
--- a lane asks what the words ask: lengths
+-- the lanes have the words' lengths, so they are ready if the words are
 pub lane-ready : (j inputs : ℕ) (t : List ℕ) (from to : ℕ) (tape : List ℕ) (shown : ℕ) (ws board : List ℕ) → StepReady inputs t from to tape shown ws board
     → StepReady inputs t from to (laneOf j tape) shown (laneOf j ws) (laneOf j board)
 lane-ready j inputs t from to tape shown ws board r =
@@ -51,7 +51,7 @@ module _ (inputs : ℕ) (t : List ℕ) (from to : ℕ) (tape : List ℕ) (shown 
       }
 
   module _ (ws board : List ℕ) (next g : ℕ) (left : LanesLeft inputs t from to tape shown ws₀ board₀ ws board next g) where
-    -- what the next gate asks, as lane 0 has it
+    -- what the next gate asks, by lane 0
     pub gate-ready : g < to → GateReady t g (inputs + g) tape next ws board
     gate-ready h =
         let r = lane-ready 0 inputs t from to tape shown ws₀ board₀ ready in

@@ -35,7 +35,7 @@ module _ (j : ℕ) (h : j < laneCount) (a b c : ℕ) where
   pub xor-lane : lane j (bitXor a b) ≡ valueOf 6 (lane j a) (lane j b) (lane j c)
   xor-lane = lane-xor j a b ∙ sym (xor-value (lane j a) (lane j b) (lane j c) (lane-bit j a) (lane-bit j b))
 
-  -- c, altered where a is 1 to what b says
+  -- c, replaced by b where a is 1
   pub choice-lane : lane j (bitXor c (bitAnd a (bitXor b c))) ≡ valueOf 7 (lane j a) (lane j b) (lane j c)
   choice-lane = lane-xor j c (bitAnd a (bitXor b c)) ∙ rw (lane-and j a (bitXor b c), lane-xor j b c) (chosen (lane j a) (lane j b) (lane j c) (lane-bit j a) (lane-bit j b) (lane-bit j c))
     where

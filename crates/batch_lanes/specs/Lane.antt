@@ -11,16 +11,16 @@ laneCount = 64
 unfoldable pub lane : ℕ → ℕ → ℕ
 lane j w = w / 2 ^ j % 2
 
--- Bit j of each word: the bytes that jury j would have in their place.
+-- Bit j of each word: the bytes of jury j.
 unfoldable pub laneOf : ℕ → List ℕ → List ℕ
 laneOf j ws = map (lane j) ws
 
--- The number that has these bits, the lowest first, so many of them.
+-- The number with this many bits, lowest first.
 unfoldable pub packed : ℕ → (ℕ → ℕ) → ℕ
 packed zero bit = 0
 packed (suc m) bit = bit 0 + 2 * packed m (λ j. bit (suc j))
 
--- So many words, in which jury j has the bytes of list j.
+-- This many words, in which jury j has the bytes of list j.
 unfoldable pub wordsOf : ℕ → (ℕ → List ℕ) → List ℕ
 wordsOf zero lists = []
 wordsOf (suc n) lists = packed laneCount (λ j. getD (lists j) 0 0) ∷ wordsOf n (λ j. drop 1 (lists j))

@@ -1,5 +1,5 @@
--- What the evaluation of a whole list over words leaves: in each lane, the wires and the board of that lane's inputs
--- and tape.
+-- What evaluating a whole list over words leaves: in each lane, the wires and the board of that lane's inputs and
+-- tape.
 use mathlib.Core.Path.{_≡_}
 use mathlib.Core.List.{List}
 use Prim.Native.Nat.{ℕ, _<_}

@@ -1,4 +1,4 @@
-// Gate lists evaluated for 64 juries at once: each wire is a 64-bit word, and its bit j belongs to jury j.
-// This crate knows gates, wires and words, and nothing of juries but their number.
+// Gate lists evaluated for 64 juries at once (bit-slicing): each wire is a 64-bit word, and bit j belongs to jury j.
+// This crate knows gates, wires and words; of juries it knows only their number.
 pub mod step;
 pub mod word;

@@ -1,5 +1,5 @@
-// The evaluating step over words, which is no entry point: its `requires` is what the tests of a list and of what is
-// lent establish. It asks of the words' lengths what the step over bytes asks of the bytes'.
+// Evaluation over words. Nothing here is an entry point: what a `requires` asks, the tests of list and buffers
+// establish. It asks of words what the step over bytes asks of bytes.
 use crate::word;
 use gates::kind;
 ghost use mathlib.Core.Path.{_≡_};
@@ -10,8 +10,8 @@ ghost use Rattle.gates.specs.inner.Step.{StepReady, RunReady};
 ghost use Rattle.batch_lanes.specs.Run.{RunDone};
 ghost use Rattle.batch_lanes.specs.inner.Step.{GateAsks, GateDone, StepDone, CloseFits};
 
-// Gate g of the table in all lanes: its value goes to wire own and, where it is conditional, wire a under the tape's
-// word to the board. Answers the number of shown words after it.
+// Evaluates gate g of the table in all lanes: stores its value in wire `own` and, if it is conditional, wire a under
+// the tape's word on the board. Answers the number of shown words after it.
 fn run_gate(
     marks: &[bool; 8],
     table: &[u32],
@@ -43,8 +43,8 @@ fn run_gate(
     shown
 }
 
-// Evaluates gates from..to of a list over a wire table whose first words, as many as the inputs and the gates before
-// from, are there already. shown is the number of shown words before; the answer is their number after.
+// Evaluates gates from..to of a list. The inputs and the wires of the gates before `from` are in the table already.
+// `shown` is the number of shown words before this range; the answer is their number after it.
 pub fn step(
     inputs: usize,
     table: &[u32],
@@ -71,7 +71,7 @@ pub fn step(
     next
 }
 
-// Puts the last wires behind the shown words.
+// Puts the last wires after the shown words.
 fn close(outputs: usize, wires: &[u64], shown: usize, board: &mut [u64])
     requires { ⌜ CloseFits outputs (now wires) shown (now board) ⌝ }
     ensures { λ _.

@@ -9,7 +9,7 @@ ghost use Rattle.batch_lanes.specs.Lane.{laneCount, lane};
 // A word whose 64 bits are all 1.
 pub const ALL: u64 = 18446744073709551615;
 
-// The value of a kind in all lanes at once. A choice takes b in the lanes where a is 1, and c in the others.
+// The value of a kind in all lanes at once. A choice is b in the lanes where a is 1, and c in the others.
 pub fn value(kind: u32, a: u64, b: u64, c: u64) -> u64
     requires { ⌜ kind < 8 ⌝ }
     ensures { λ r. ⌜ ((j : ℕ) → j < laneCount → lane j r ≡ valueOf kind (lane j a) (lane j b) (lane j c)) ⌝ }
@@ -27,7 +27,7 @@ pub fn value(kind: u32, a: u64, b: u64, c: u64) -> u64
     }
 }
 
-// Whether words are as many as first and second together. The sum is never formed: it could wrap.
+// Whether there are first + second words. The sum is never formed, because it could wrap.
 pub fn has_length(words: &[u64], first: usize, second: usize) -> bool
     ensures { λ r. ⌜ r ≡ eqb (length (now (words .entry))) (first + second) ⌝ }
 {

@@ -15,11 +15,11 @@ use Rattle.c_answers.specs.inner.Puts.{Puts}
 pub two : (a b c d : ℕ) (rest : List ℕ) → a ≡ c → b ≡ d → a ∷ b ∷ rest ≡ c ∷ d ∷ rest
 two a b c d rest e f = ap (λ (n : ℕ). n ∷ b ∷ rest) e ∙ ap (λ (n : ℕ). c ∷ n ∷ rest) f
 
--- the numbers of an answer follow its two parts
+-- equal parts make equal numbers
 pub counted : (o q : Option Reason) (bytes closing : List ℕ) → o ≡ q → bytes ≡ closing → answerNumbers o bytes ≡ answerNumbers q closing
 counted o q bytes closing e f = ap (λ (r : Option Reason). answerNumbers r bytes) e ∙ ap (answerNumbers q) f
 
--- what was put are these numbers
+-- the numbers that were put are these
 pub puts-same : {needed result : ℕ} {numbers others before after : List ℕ} → numbers ≡ others
     → Puts needed numbers before after result → Puts needed others before after result
 puts-same {needed} {result} {numbers} {others} {before} {after} e puts =
@@ -28,7 +28,7 @@ puts-same {needed} {result} {numbers} {others} {before} {after} e puts =
       writes = puts .writes ∙ ap (λ (z : List ℕ). z ++ drop needed before) e;
     }
 
--- three parts make the result of a call
+-- the result of a call is equal if its three parts are
 same-call : {r r′ : ℕ} {answer answer′ : List ℕ} {lent lent′ : List (List ℕ)} → r ≡ r′ → answer ≡ answer′ → lent ≡ lent′
     → _≡_ {A = CallResult} (record { returned = r; answer = answer; lent = lent }) (record { returned = r′; answer = answer′; lent = lent′ })
 same-call {r} {r′} {answer} {answer′} {lent} {lent′} e f g =
@@ -66,7 +66,7 @@ module _ (needed : ℕ) (answer : List ℕ) where
         (puts .writes ∙ ap (λ (z : List ℕ). z ++ drop needed answer) e ∙ sym (room-answered numbers))
         (same ∙ sym (ap (λ (b : Bool). cond b before after) (le-ltb (length answer) needed enough)))
 
-  -- a call that finds no room leaves all as it was
+  -- a call whose answer array is too short changes nothing
   pub short-call : length answer < needed → (numbers : List ℕ) (before after : List (List ℕ))
       → _≡_ {A = CallResult} (record { returned = shortAnswer; answer = answer; lent = before }) (callResult needed numbers answer before after)
   unfolding callResult

@@ -1,4 +1,4 @@
--- Laws of the answer array: numbers are copied to its start, and what stands behind them stays.
+-- Laws of the answer array: numbers are copied to its start, and the rest stays.
 -- Assumes nothing.
 use mathlib.Core.Path.{_≡_, _∙_, refl, sym, ap}
 use mathlib.Core.List.{List, [], _∷_, _++_}

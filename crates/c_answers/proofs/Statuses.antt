@@ -1,4 +1,4 @@
--- A status tells what it has to where each reason has a number from 1 to the last, which is below that of a short answer array.
+-- A status means what `Status` says if each reason has a number from 1 to the last, which is below 255.
 -- Assumes nothing.
 use mathlib.Core.Path.{_≡_, _∙_, refl, sym}
 use mathlib.Core.Logic.{_↔_}
@@ -18,7 +18,7 @@ use Rattle.c_answers.specs.Numbers.{sizeNumbers, measureNumbers, answerN
 use Rattle.c_answers.specs.Status.{isAccepted, StatusReads, SizeStatus, MeasureStatus, OneStatus, CountStatus}
 use Rattle.c_answers.proofs.Answering.{short-status, room-status}
 
--- each of these numbers is one from 1 to the last
+-- each of these numbers is between 1 and the last
 unfoldable pub fit : ℕ → List ℕ → Bool
 fit last [] = true
 fit last (n ∷ ns) = (leb 1 n && leb n last) && fit last ns
@@ -57,7 +57,7 @@ module _ (last : ℕ) where
       by-length true t e = ltb-true (length answer) needed t
       by-length false t e = absurd (omega (arith, few, room-status needed answer (ltb-false (length answer) needed t) numbers))
 
-  -- of a call whose answer begins with its reason's number, or with 0 where it is accepted
+  -- for a call whose answer begins with its reason's number, or with 0 if it is accepted
   pub outcome-tells : {Values : Type 0} → last < shortAnswer → (needed : ℕ) (numbers : Outcome Values → List ℕ) (answer : List ℕ)
       → ((r : Reason) → statusOf (numbers (refused r)) ≡ r .number) → ((v : Values) → statusOf (numbers (accepted v)) ≡ 0)
       → (outcome : Outcome Values) → ((r : Reason) → outcome ≡ refused r → Numbered last r) → StatusReads last needed (numbers outcome) answer (isAccepted outcome)
@@ -68,7 +68,7 @@ module _ (last : ℕ) where
   outcome-tells few needed numbers answer refusal acceptance (accepted v) h =
       tells few needed (numbers (accepted v)) answer true (omega (arith, acceptance v)) (λ e. tt, λ a. acceptance v)
 
-  -- of each kind of answer
+  -- for each kind of answer
   pub size-tells : last < shortAnswer → (answer : List ℕ) (outcome : Outcome Size) → ((r : Reason) → outcome ≡ refused r → Numbered last r) → SizeStatus last answer outcome
   unfolding statusOf sizeNumbers
   size-tells few answer outcome h = outcome-tells few 4 sizeNumbers answer (λ r. refl) (λ v. refl) outcome h
@@ -81,7 +81,7 @@ module _ (last : ℕ) where
   unfolding statusOf oneNumber
   one-tells few answer outcome h = outcome-tells few 3 oneNumber answer (λ r. refl) (λ v. refl) outcome h
 
-  -- reason and place stand before the eight numbers
+  -- reason and place come before the eight numbers
   pub count-tells : last < shortAnswer → (answer : List ℕ) (o : Option Reason) (told : List ℕ)
       → ((r : Reason) → o ≡ some r → Numbered last r) → CountStatus last answer o told
   unfolding statusOf answerNumbers isAccepted outcome

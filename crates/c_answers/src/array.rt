@@ -1,4 +1,4 @@
-// The lent array that a call leaves its answer in.
+// The lent array in which a call leaves its answer.
 ghost use mathlib.Core.Path.{_≡_};
 ghost use mathlib.Core.List.{[], _∷_, _++_};
 ghost use Prim.Native.Nat.{_≤_};
@@ -6,15 +6,15 @@ ghost use lib.ListN.{length, drop};
 ghost use Rattle.c_answers.specs.Numbers.{oneAnswer, countAnswer};
 ghost use Rattle.c_answers.specs.inner.Puts.{Puts};
 
-// The status of a call whose answer array is too short: none of the reasons' numbers. Such a call alters nothing.
+// The status of a call whose answer array is too short. No reason has this number, and such a call changes nothing.
 pub const SHORT_ANSWER: usize = 255;
 
-// How many numbers an answer has that tells one, or eight: reason, place, and what it tells.
+// The length of an answer with one number, or with eight, after reason and place.
 pub const ONE_ANSWER: usize = 3;
 
 pub const COUNT_ANSWER: usize = 10;
 
-// The numbers of an answer, at the start of the lent array.
+// Puts the numbers of an answer at the start of the lent array.
 pub fn put(numbers: &[usize], answer: &mut [usize])
     requires { ⌜ length (now numbers) ≤ length (now answer) ⌝ }
     ensures { λ _.
@@ -28,7 +28,7 @@ pub fn put(numbers: &[usize], answer: &mut [usize])
     }
 }
 
-// The answer of a call that tells one number, as the length of a text or the ballots of an urn, and its status.
+// Puts an answer with one number, such as the length of a text or the ballots in an urn, and returns its status.
 pub fn put_one(reason: usize, place: usize, told: usize, answer: &mut [usize]) -> usize
     requires { ⌜ oneAnswer ≤ length (now answer) ⌝ }
     ensures { λ r. ⌜ Puts oneAnswer (reason ∷ place ∷ told ∷ []) (now (answer .entry)) (now (answer .exit)) r ⌝ }
@@ -37,7 +37,7 @@ pub fn put_one(reason: usize, place: usize, told: usize, answer: &mut [usize]) -
     reason
 }
 
-// The answer of a call that tells eight numbers, as the closing bytes of a count, and its status.
+// Puts an answer with eight numbers, such as the closing bytes of a count, and returns its status.
 pub fn put_eight(reason: usize, place: usize, told: [usize; 8], answer: &mut [usize]) -> usize
     requires { ⌜ countAnswer ≤ length (now answer) ⌝ }
     ensures { λ r. ⌜ Puts countAnswer (reason ∷ place ∷ told) (now (answer .entry)) (now (answer .exit)) r ⌝ }

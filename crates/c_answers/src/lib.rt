@@ -1,3 +1,4 @@
-// Answers as numbers in a lent array, for the functions that C and Rust call: reason, place, and what the call tells.
+// Answers as numbers in a lent array, for the functions that C and Rust call: reason, place, then the call's own
+// numbers.
 pub mod array;
 pub mod size;

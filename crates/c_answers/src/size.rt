@@ -1,4 +1,4 @@
-// The answer of writing, testing or running, as numbers in a lent array.
+// The answer of write, test or run, as numbers in a lent array.
 use crate::array::put;
 use tally::answer::Answer;
 ghost use Prim.Native.Nat.{_≤_};
@@ -7,10 +7,10 @@ ghost use Rattle.tally.specs.Answer.{outcomeOf};
 ghost use Rattle.c_answers.specs.Numbers.{sizeAnswer, sizeNumbers};
 ghost use Rattle.c_answers.specs.inner.Puts.{Puts};
 
-// How many numbers such an answer has: reason, place, G and C.
+// The length of such an answer: reason, place, G and C.
 pub const SIZE_ANSWER: usize = 4;
 
-// The answer of writing, testing or running, and its status.
+// Puts the answer of write, test or run, and returns its status.
 pub fn put_size(outcome: Answer, answer: &mut [usize]) -> usize
     requires { ⌜ sizeAnswer ≤ length (now answer) ⌝ }
     ensures { λ r.

@@ -1,4 +1,4 @@
--- The status of a run for 64 juries means what it has to, by the numbers of the reasons that concern it.
+-- The status of a run for 64 juries means what `Status` says, by the numbers of its reasons.
 -- Assumes nothing.
 use native.Mathlib.Omega.{arith}
 use Rattle.c_answers.proofs.Statuses.{fit, numbered, size-tells}

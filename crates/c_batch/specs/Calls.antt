@@ -1,5 +1,4 @@
--- What a run for 64 juries leaves that a C program calls: the entry point's own result, where the answer array has room
--- for it.
+-- What a run for 64 juries leaves when C calls it: the entry point's result, if the answer array has room for it.
 use mathlib.Core.List.{List, [], _∷_}
 use Prim.Native.Nat.{ℕ}
 use Rattle.c_answers.specs.Numbers.{sizeAnswer, sizeNumbers, CallResult, callResult}

@@ -1,4 +1,4 @@
--- The status of the dispatcher means what it has to, by the numbers of the reasons that concern it.
+-- The status of the dispatcher means what `Status` says, by the numbers of its reasons.
 -- Assumes nothing.
 use mathlib.Core.Path.{_≡_, refl, ap}
 use mathlib.Core.Option.{Option, none, some}
@@ -23,7 +23,7 @@ reason-numbered c r e =
     numbered lastReason _ r tt
     (dispatching .memory c .number r (ap (λ (o : Option Reason). outcome o (dispatchResult c .rounds)) e))
 
--- reason and place stand before the numbers of rounds
+-- reason and place come before the numbers of rounds
 rounds-tell : (answer : List ℕ) (o : Option Reason) (rounds : List ℕ) → ((r : Reason) → o ≡ some r → Numbered lastReason r)
     → StatusReads lastReason dispatchAnswer (answerNumbers o rounds) answer (isAccepted (outcome o rounds))
 unfolding statusOf answerNumbers isAccepted outcome

@@ -7,8 +7,8 @@ use Rattle.dispatch.specs.Call.{Call}
 use Rattle.dispatch.specs.Result.{DispatchResult, dispatchResult}
 use Rattle.c_answers.specs.Numbers.{answerNumbers, CallResult, callResult}
 
--- Four numbers a jury: k, d, n and G. A number that the array does not hold counts as 0, and a header with k = 0 is
--- turned away for reason 1.
+-- Four numbers a jury: k, d, n and G. A number that the array does not hold counts as 0; a header with k = 0 is
+-- refused for reason 1.
 unfoldable pub headerAt : List ℕ → ℕ → JuryHeader
 headerAt numbers j =
     record {
@@ -24,14 +24,14 @@ headersIn numbers =
     headerAt numbers 0 ∷ headerAt numbers 1 ∷ headerAt numbers 2 ∷ headerAt numbers 3
     ∷ headerAt numbers 4 ∷ headerAt numbers 5 ∷ headerAt numbers 6 ∷ headerAt numbers 7 ∷ []
 
--- Reason, 0 where accepted; place; then the juries' numbers of rounds, eight of them, which are 0 on a refusal.
+-- The reason, 0 if accepted; the place; then the juries' eight numbers of rounds, 0 on a refusal.
 abbrev pub dispatchNumbers : DispatchResult → List ℕ
 dispatchNumbers d = answerNumbers (d .reason) (d .rounds)
 
 abbrev pub dispatchAnswer : ℕ
 dispatchAnswer = 10
 
--- What a call from C leaves: the entry point's own result, where the answer array has room for it.
+-- What a call from C leaves: the entry point's result, if the answer array has room for it.
 abbrev pub dispatchCall : Call → (answer : List ℕ) → CallResult
 dispatchCall c answer =
     let r = dispatchResult c in

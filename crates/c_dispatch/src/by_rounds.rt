@@ -1,4 +1,4 @@
-// The dispatcher, as a C program calls it.
+// The dispatcher, for C.
 use c_answers::array::SHORT_ANSWER;
 use c_answers::array::put_eight;
 use dispatch::dispatch::Dispatched;
@@ -14,17 +14,17 @@ ghost use Rattle.c_answers.specs.Numbers.{answerNumbers};
 ghost use Rattle.c_answers.specs.inner.Puts.{Puts};
 ghost use Rattle.c_dispatch.specs.Numbers.{headerAt, headersIn, dispatchAnswer, dispatchCall};
 
-// How many numbers the answer has: reason, place and eight numbers of rounds.
+// The length of the answer: reason, place and eight numbers of rounds.
 const DISPATCH_ANSWER: usize = 10;
 
-// Number i of an array, 0 where it has none.
+// Number i of an array, 0 past its end.
 fn number_at(numbers: &[usize], i: usize) -> usize
     ensures { λ r. ⌜ r ≡ getD (now (numbers .entry)) i 0 ⌝ }
 {
     if i < numbers.len() { numbers[i] } else { 0 }
 }
 
-// What jury j states.
+// Jury j's header.
 fn header_at(numbers: &[usize], j: usize) -> JuryHeader
     requires { ⌜ j < 8 ⌝ }
     ensures { λ r. ⌜ r ≡ headerAt (now (numbers .entry)) j ⌝ }
@@ -38,7 +38,7 @@ fn header_at(numbers: &[usize], j: usize) -> JuryHeader
     }
 }
 
-// The eight headers, four numbers each. Those that the array does not hold are zeros, which no jury may state.
+// The eight headers, four numbers each. Those that the array does not hold are zeros, which reason 1 refuses.
 fn headers_in(numbers: &[usize]) -> [JuryHeader; 8]
     ensures { λ r. ⌜ r ≡ headersIn (now (numbers .entry)) ⌝ }
 {
@@ -54,7 +54,7 @@ fn headers_in(numbers: &[usize]) -> [JuryHeader; 8]
     ]
 }
 
-// The answer of the dispatcher, and its status.
+// Puts the answer of the dispatcher, and returns its status.
 fn put_rounds(outcome: Dispatched, answer: &mut [usize]) -> usize
     requires { ⌜ dispatchAnswer ≤ length (now answer) ⌝ }
     ensures { λ r.

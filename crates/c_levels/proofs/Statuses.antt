@@ -1,4 +1,4 @@
--- The status of the call tells what it has to, by the numbers of the reasons that concern it.
+-- The status of the call means what `Status` says, by the numbers of its reasons.
 -- Assumes nothing.
 use mathlib.Core.Path.{_≡_, refl}
 use mathlib.Core.List.{List}
@@ -14,7 +14,7 @@ use Rattle.c_answers.proofs.Statuses.{fit, Numbered, numbered, outcome-tells}
 use Rattle.c_levels.specs.Numbers.{depthNumbers}
 use Rattle.c_levels.specs.Status.{lastReason, DepthStatus, StatusMeans}
 
--- of any call that answers G, C and R
+-- for any call that answers G, C and R
 pub depth-tells : (last : ℕ) → last < shortAnswer → (answer : List ℕ) (outcome : Outcome Depths) → ((r : Reason) → outcome ≡ refused r → Numbered last r) → DepthStatus last answer outcome
 unfolding statusOf depthNumbers
 depth-tells last few answer outcome h = outcome-tells last few 5 depthNumbers answer (λ r. refl) (λ v. refl) outcome h

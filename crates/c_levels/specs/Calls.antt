@@ -1,4 +1,4 @@
--- What the exported call leaves, by the shape, what is lent, and the answer array.
+-- What the exported call leaves, given the shape, what is lent, and the answer array.
 use mathlib.Core.List.{List, [], _∷_}
 use Prim.Native.Nat.{ℕ}
 use Rattle.jury.specs.declared.shape.Shape.{Shape}

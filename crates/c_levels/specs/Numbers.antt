@@ -4,7 +4,7 @@ use Prim.Native.Nat.{ℕ}
 use Rattle.tally.specs.Answer.{Outcome, refused, accepted}
 use Rattle.levels.specs.Answer.{Depths}
 
--- Reason, 0 where accepted; place; G; C; R. On a refusal the last three are 0.
+-- The reason, 0 if accepted; the place; G; C; R. On a refusal the last three are 0.
 unfoldable pub depthNumbers : Outcome Depths → List ℕ
 depthNumbers (refused r) = r .number ∷ r .place ∷ 0 ∷ 0 ∷ 0 ∷ []
 depthNumbers (accepted d) = 0 ∷ 0 ∷ d .gates ∷ d .conditional ∷ d .rounds ∷ []

@@ -1,4 +1,4 @@
--- What the status of the call [levels] means, whatever is handed and lent: its reasons end at 200.
+-- What the status of the call [levels] means, for any arguments. The largest number of its reasons is 200.
 use mathlib.Core.List.{List}
 use Prim.Native.Nat.{ℕ}
 use Rattle.jury.specs.declared.shape.Shape.{Shape}
@@ -11,7 +11,7 @@ use Rattle.c_levels.specs.Numbers.{depthAnswer, depthNumbers}
 abbrev pub lastReason : ℕ
 lastReason = 200
 
--- Of an answer that tells G, C and R.
+-- For an answer with G, C and R.
 abbrev pub DepthStatus : (last : ℕ) (answer : List ℕ) → Outcome Depths → Type 0
 DepthStatus last answer o = StatusReads last depthAnswer (depthNumbers o) answer (isAccepted o)
 

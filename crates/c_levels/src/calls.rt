@@ -1,4 +1,4 @@
-// Levels, as a C program calls for them.
+// Levels, for C.
 use c_answers::array::SHORT_ANSWER;
 use c_answers::array::put;
 use jury::shape::Shape;
@@ -13,10 +13,10 @@ ghost use Rattle.c_answers.specs.inner.Puts.{Puts};
 ghost use Rattle.c_levels.specs.Numbers.{depthAnswer, depthNumbers};
 ghost use Rattle.c_levels.specs.Calls.{levelsCall};
 
-// How many numbers an answer has: reason, place, G, C and R.
+// The length of an answer: reason, place, G, C and R.
 pub const DEPTH_ANSWER: usize = 5;
 
-// The answer of a call by levels, and its status.
+// Puts the answer of a call by levels, and returns its status.
 pub fn put_depths(outcome: Answer, answer: &mut [usize]) -> usize
     requires { ⌜ depthAnswer ≤ length (now answer) ⌝ }
     ensures { λ r.
@@ -40,7 +40,7 @@ pub fn put_depths(outcome: Answer, answer: &mut [usize]) -> usize
     }
 }
 
-// Writes the level of each gate of a list, whoever wrote the list, for a shape: reason, place, G, C and R.
+// Writes the level of each gate of a list, whoever wrote it: reason, place, G, C and R.
 #[no_mangle]
 pub extern "C" fn jugy_levels(
     candidates: usize,

@@ -1,4 +1,5 @@
--- What each exported call leaves, by the shape, what is lent, and the answer array.
+-- What each exported call leaves, given the shape, what is lent, and the answer array.
+use mathlib.Core.Path.{_≡_}
 use mathlib.Core.List.{List, [], _∷_}
 use Prim.Native.Nat.{ℕ}
 use Rattle.jury.specs.declared.shape.Shape.{Shape}
@@ -6,7 +7,7 @@ use Rattle.tally.specs.Count.{countReason, plainClosing}
 use Rattle.tally.specs.Measure.{measureOutcome}
 use Rattle.tally.specs.Run.{RunResult, runResult}
 use Rattle.tally.specs.Test.{testOutcome}
-use Rattle.tally.specs.Write.{writeOutcome, writeResult}
+use Rattle.tally.specs.Write.{writeOutcome, writeResult, HoldsWithin}
 use Rattle.c_answers.specs.Numbers.{sizeAnswer, measureAnswer, countAnswer, sizeNumbers, measureNumbers, answerNumbers}
 use Rattle.c_answers.specs.Numbers.{CallResult, callResult}
 
@@ -17,10 +18,15 @@ abbrev pub writeCall : (s : Shape) (table answer : List ℕ) → CallResult
 writeCall s table answer =
     callResult sizeAnswer (sizeNumbers (writeOutcome s table)) answer (table ∷ []) (writeResult s table ∷ [])
 
+-- What writing promises besides: what holds for the list of a shape within the limits.
+pub record WriteLeaves (s : Shape) (table answer : List ℕ) (left : CallResult) : Type 0 where
+  pub leaves : left ≡ writeCall s table answer
+  pub holds : HoldsWithin s
+
 abbrev pub testCall : (s : Shape) (table answer : List ℕ) → CallResult
 testCall s table answer = callResult sizeAnswer (sizeNumbers (testOutcome s table)) answer [] []
 
--- By what a run leaves.
+-- The same from what a run leaves.
 abbrev pub boardCall : (r : RunResult) (wires board answer : List ℕ) → CallResult
 boardCall r wires board answer =
     callResult sizeAnswer (sizeNumbers (r .answer)) answer (wires ∷ board ∷ []) (r .wires ∷ r .board ∷ [])

@@ -1,5 +1,4 @@
--- What the status of each call means, whatever is handed and lent: the reasons of these calls end at 12, those of
--- rankings.
+-- What the status of each call means, for any arguments. The largest number of their reasons is 12, of rankings.
 use mathlib.Core.List.{List}
 use Prim.Native.Nat.{ℕ}
 use Rattle.jury.specs.declared.shape.Shape.{Shape}

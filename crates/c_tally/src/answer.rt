@@ -1,4 +1,4 @@
-// The answers of measuring and of counting, as numbers in a lent array.
+// The answers of measure and count, as numbers in a lent array.
 use basics::byte::wide;
 use c_answers::array::put;
 use c_answers::array::put_eight;
@@ -13,10 +13,10 @@ ghost use Rattle.tally.specs.Measure.{measuredBy};
 ghost use Rattle.c_answers.specs.Numbers.{measureAnswer, countAnswer, measureNumbers, answerNumbers};
 ghost use Rattle.c_answers.specs.inner.Puts.{Puts};
 
-// How many numbers the answer of measuring has: reason and place, then G, C and I.
+// The length of the answer of measure: reason and place, then G, C and I.
 pub(crate) const MEASURE_ANSWER: usize = 5;
 
-// The answer of measuring, and its status.
+// Puts the answer of measure, and returns its status.
 pub(crate) fn put_measures(outcome: Measured, answer: &mut [usize]) -> usize
     requires { ⌜ measureAnswer ≤ length (now answer) ⌝ }
     ensures { λ r.
@@ -56,7 +56,7 @@ fn numbers(closing: [u8; 8]) -> [usize; 8]
     ]
 }
 
-// The answer of a plain count, and its status.
+// Puts the answer of a plain count, and returns its status.
 pub(crate) fn put_count(counted: Counted, answer: &mut [usize]) -> usize
     requires { ⌜ countAnswer ≤ length (now answer) ⌝ }
     ensures { λ r.

@@ -1,4 +1,4 @@
-// Counting plainly, as a C program calls it.
+// The plain count, for C.
 use crate::answer::put_count;
 use c_answers::array::COUNT_ANSWER;
 use c_answers::array::SHORT_ANSWER;

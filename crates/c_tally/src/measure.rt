@@ -1,4 +1,4 @@
-// Measuring a shape, as a C program calls it.
+// Measuring a shape, for C.
 use crate::answer::MEASURE_ANSWER;
 use crate::answer::put_measures;
 use c_answers::array::SHORT_ANSWER;

@@ -1,4 +1,4 @@
-// Writing the list of a shape, as a C program calls it.
+// Writing the own list of a shape, for C.
 use c_answers::array::SHORT_ANSWER;
 use c_answers::size::SIZE_ANSWER;
 use c_answers::size::put_size;
@@ -6,11 +6,9 @@ use jury::reason::Refusal;
 use jury::shape::Shape;
 use jury::shape::ShapeResult;
 use tally::answer::Answer;
-ghost use mathlib.Core.Path.{_≡_};
 ghost use mathlib.Core.List.{[], _∷_};
-ghost use Rattle.tally.specs.Write.{HoldsWithin};
 ghost use Rattle.c_answers.specs.Numbers.{shapeOf};
-ghost use Rattle.c_tally.specs.Calls.{writeCall};
+ghost use Rattle.c_tally.specs.Calls.{WriteLeaves};
 
 // Writes the own list of a shape: reason, place, G and C.
 #[no_mangle]
@@ -21,10 +19,10 @@ pub extern "C" fn jugy_write(
     table: &mut [u32],
     answer: &mut [usize],
 ) -> usize
-    ensures leaves { λ r.
-        ⌜ record { returned = r; answer = now (answer .exit); lent = now (table .exit) ∷ [] }
-        ≡ writeCall (shapeOf candidates grades ballots) (now (table .entry)) (now (answer .entry)) ⌝ }
-    ensures holds { λ _. ⌜ HoldsWithin (shapeOf candidates grades ballots) ⌝ }
+    ensures { λ r. ⌜
+        WriteLeaves (shapeOf candidates grades ballots) (now (table .entry)) (now (answer .entry))
+        (record { returned = r; answer = now (answer .exit); lent = now (table .exit) ∷ [] })
+        ⌝ }
 {
     if answer.len() < SIZE_ANSWER {
         return SHORT_ANSWER;

@@ -1,4 +1,4 @@
--- The status of each call tells what it has to, by the numbers of the reasons that concern it.
+-- The status of each call means what `Status` says, by the numbers of its reasons.
 -- Assumes nothing.
 use native.Mathlib.Omega.{arith}
 use Rattle.text.specs.Write.{textOutcome}

@@ -1,4 +1,4 @@
--- What each exported call leaves, by the shape, what is lent, and the answer array.
+-- What each exported call leaves, given the shape, what is lent, and the answer array.
 use mathlib.Core.List.{List, [], _∷_}
 use Prim.Native.Nat.{ℕ}
 use Rattle.jury.specs.declared.shape.Shape.{Shape}
@@ -7,7 +7,7 @@ use Rattle.text.specs.Write.{writeTextResult}
 use Rattle.text.specs.Read.{readTextResult}
 use Rattle.c_answers.specs.Numbers.{oneAnswer, oneNumber, CallResult, callResult}
 
--- By what the entry point leaves.
+-- The same from what the entry point leaves.
 abbrev pub textCall : (r : TextResult) (output answer : List ℕ) → CallResult
 textCall r output answer = callResult oneAnswer (oneNumber (r .answer)) answer (output ∷ []) (r .output ∷ [])
 

@@ -1,4 +1,4 @@
-// Lists as text, as a C program calls for them.
+// Lists as text, for C.
 use c_answers::array::ONE_ANSWER;
 use c_answers::array::SHORT_ANSWER;
 use c_answers::array::put_one;
@@ -16,7 +16,7 @@ ghost use Rattle.c_answers.specs.Numbers.{oneAnswer, oneNumber, shapeOf};
 ghost use Rattle.c_answers.specs.inner.Puts.{Puts};
 ghost use Rattle.c_text.specs.Calls.{writeTextCall, readTextCall};
 
-// The answer of writing or reading a text, and its status.
+// Puts the answer of writing or reading a text, and returns its status.
 fn put_length(outcome: Answer, answer: &mut [usize]) -> usize
     requires { ⌜ oneAnswer ≤ length (now answer) ⌝ }
     ensures { λ r.
@@ -28,7 +28,7 @@ fn put_length(outcome: Answer, answer: &mut [usize]) -> usize
     }
 }
 
-// Writes the text of a list, whoever wrote the list, for a shape: reason, place and the characters written.
+// Writes the text of a list, whoever wrote it: reason, place and the number of characters written.
 #[no_mangle]
 pub extern "C" fn jugy_write_text(
     candidates: usize,
@@ -53,7 +53,7 @@ pub extern "C" fn jugy_write_text(
     put_length(outcome, answer)
 }
 
-// Reads a text as a list for a shape: reason, place and the numbers written.
+// Reads a text as a list: reason, place and how many numbers were written.
 #[no_mangle]
 pub extern "C" fn jugy_read_text(
     candidates: usize,

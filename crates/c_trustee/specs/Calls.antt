@@ -1,4 +1,4 @@
--- What each exported call leaves, by the shape, what is handed and lent, and the answer array.
+-- What each exported call leaves, given the shape, its numbers, what is lent, and the answer array.
 use mathlib.Core.List.{List, [], _∷_}
 use Prim.Native.Nat.{ℕ}
 use Rattle.jury.specs.declared.shape.Shape.{Shape}
@@ -8,7 +8,7 @@ use Rattle.trustee_alone.specs.Finish.{finishOutcome, finishedWires}
 use Rattle.c_answers.specs.Numbers.{sizeAnswer, sizeNumbers, CallResult, callResult}
 use Rattle.c_levels.specs.Numbers.{depthAnswer, depthNumbers}
 
--- Trustee p of t: its start, its round r, and its end.
+-- Trustee p of t: its start, its round r, and its finish.
 abbrev pub startCall : (s : Shape) (table : List ℕ) (t p : ℕ) (parts dealt wires published answer : List ℕ) → CallResult
 startCall s table t p parts dealt wires published answer =
     callResult sizeAnswer (sizeNumbers (startOutcome s table t p parts dealt wires published)) answer

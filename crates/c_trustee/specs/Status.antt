@@ -1,5 +1,5 @@
--- What the status of a trustee's calls means, whatever is handed and lent: the reasons of start and finish end at 18,
--- those of a round at 202.
+-- What the status of a trustee's calls means, for any arguments. The largest number of the reasons is 18 for start
+-- and finish, 202 for a round.
 use mathlib.Core.List.{List}
 use Prim.Native.Nat.{ℕ}
 use Rattle.jury.specs.declared.shape.Shape.{Shape}

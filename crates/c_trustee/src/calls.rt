@@ -1,4 +1,4 @@
-// A trustee on a machine of its own, as a C program calls it.
+// A trustee on its own machine, for C.
 use c_answers::array::SHORT_ANSWER;
 use c_answers::size::SIZE_ANSWER;
 use c_answers::size::put_size;
@@ -10,7 +10,7 @@ ghost use mathlib.Core.List.{[], _∷_};
 ghost use Rattle.c_answers.specs.Numbers.{shapeOf};
 ghost use Rattle.c_trustee.specs.Calls.{startCall, roundCall, finishCall};
 
-// A trustee starts: reason, place, G and C. Its wire parts are its ballot parts and zeros, and nothing is published.
+// A trustee starts: reason, place, G and C. Its wire parts are its ballot parts, then zeros; nothing is published.
 #[no_mangle]
 pub extern "C" fn jugy_trustee_start(
     candidates: usize,
@@ -54,7 +54,7 @@ pub extern "C" fn jugy_trustee_start(
     put_size(outcome, answer)
 }
 
-// A round of a trustee: reason, place, G, C and R. It enters the parts of its level and publishes for the next.
+// A round of a trustee: reason, place, G, C and R. It enters the parts of this level and publishes for the next.
 #[no_mangle]
 pub extern "C" fn jugy_trustee_round(
     candidates: usize,
@@ -103,7 +103,7 @@ pub extern "C" fn jugy_trustee_round(
     put_depths(outcome, answer)
 }
 
-// A trustee finishes: reason, place, G and C. Its wire parts are zeros.
+// A trustee finishes: reason, place, G and C. Its wire parts are emptied.
 #[no_mangle]
 pub extern "C" fn jugy_trustee_finish(
     candidates: usize,

@@ -1,2 +1,2 @@
-// A trustee on a machine of its own, for programs in C and Rust.
+// A trustee on its own machine, for programs in C and Rust.
 pub mod calls;

@@ -1,4 +1,4 @@
--- The status of the trustees' call means what it has to, by the numbers of the reasons that concern it.
+-- The status of the trustees' call means what `Status` says, by the numbers of its reasons.
 -- Assumes nothing.
 use mathlib.Core.Path.{refl}
 use native.Mathlib.Omega.{arith}

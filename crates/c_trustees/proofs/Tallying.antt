@@ -26,7 +26,7 @@ unfolding sizeNumbers
 size-long (refused r) = refl
 size-long (accepted size) = refl
 
--- four numbers and the bytes behind them
+-- four numbers, then the bytes
 pub all-put : (outcome : Outcome Size) (closing answer answer₁ answer₂ : List ℕ) → length closing ≡ 8 → tallyAnswer ≤ length answer → answer₁ ≡ sizeNumbers outcome ++ drop 4 answer → answer₂ ≡ sets answer₁ 4 closing
     → answer₂ ≡ tallyNumbers outcome closing ++ drop tallyAnswer answer
 unfolding tallyNumbers

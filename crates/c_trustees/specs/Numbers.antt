@@ -6,7 +6,8 @@ use Rattle.trustees.specs.Call.{Call}
 use Rattle.trustees.specs.Result.{trusteesResult}
 use Rattle.c_answers.specs.Numbers.{sizeNumbers, CallResult, callResult}
 
--- Reason, 0 where accepted; place; G; C; then the sums of the closing bits as eight bytes, all of them 0 on a refusal.
+-- The reason, 0 if accepted; the place; G; C; then the sums of the closing bits as eight bytes. On a refusal all of
+-- these but the reason and the place are 0.
 unfoldable pub tallyNumbers : Outcome Size → List ℕ → List ℕ
 tallyNumbers outcome closing = sizeNumbers outcome ++ closing
 
@@ -14,7 +15,7 @@ tallyNumbers outcome closing = sizeNumbers outcome ++ closing
 abbrev pub tallyAnswer : ℕ
 tallyAnswer = 12
 
--- What a call from C leaves: the entry point's own result, where the answer array has room for it.
+-- What a call from C leaves: the entry point's result, if the answer array has room for it.
 abbrev pub trusteesCall : Call → (answer : List ℕ) → CallResult
 trusteesCall c answer =
     let r = trusteesResult c in

@@ -1,4 +1,4 @@
--- What the status of the trustees' call means, whatever is handed and lent: its reasons end at 18.
+-- What the status of the trustees' call means, for any arguments. The largest number of its reasons is 18.
 use mathlib.Core.List.{List}
 use Prim.Native.Nat.{ℕ}
 use Rattle.c_answers.specs.Status.{isAccepted, StatusReads}

@@ -1,4 +1,4 @@
-// The tally by trustees, as a C program calls it.
+// The tally by trustees, for C.
 use basics::byte::wide;
 use c_answers::array::SHORT_ANSWER;
 use c_answers::size::SIZE_ANSWER;
@@ -16,13 +16,13 @@ ghost use Rattle.c_answers.specs.inner.Puts.{Puts};
 ghost use Rattle.c_trustees.specs.inner.Put.{PutClosing};
 ghost use Rattle.c_trustees.specs.Numbers.{tallyNumbers, tallyAnswer, trusteesCall};
 
-// How many numbers an answer has: reason, place, G, C and the eight bytes.
+// The length of an answer: reason, place, G, C and the eight closing bytes.
 const TALLY_ANSWER: usize = 12;
 
-// The closing bytes, one for each candidate there may be.
+// The number of closing bytes, one for each possible candidate.
 const CLOSING_BYTES: usize = 8;
 
-// The eight bytes, behind reason, place, G and C. That there are eight is what their type says.
+// Puts the eight bytes after reason, place, G and C. Their type says that there are eight.
 fn put_closing(closing: [u8; 8], answer: &mut [usize])
     requires { ⌜ tallyAnswer ≤ length (now answer) ⌝ }
     ensures { λ _. ⌜ PutClosing closing (now (answer .entry)) (now (answer .exit)) ⌝ }
@@ -34,7 +34,7 @@ fn put_closing(closing: [u8; 8], answer: &mut [usize])
     }
 }
 
-// The whole answer, and its status.
+// Puts the whole answer, and returns its status.
 fn put_tally(outcome: Tallied, answer: &mut [usize]) -> usize
     requires { ⌜ tallyAnswer ≤ length (now answer) ⌝ }
     ensures { λ r.

@@ -1,4 +1,4 @@
--- What each exported call leaves, by the numbers and tables that are handed over, and the answer array.
+-- What each exported call leaves, given its numbers, the lent tables, and the answer array.
 use mathlib.Core.List.{List, [], _∷_}
 use Prim.Native.Nat.{ℕ}
 use Rattle.jury.specs.declared.shape.Shape.{Shape}
@@ -10,7 +10,7 @@ use Rattle.urn.specs.Withdraw.{withdrawOutcome, withdrawal}
 use Rattle.urn_run.specs.Run.{urnRunResult}
 use Rattle.c_answers.specs.Numbers.{oneAnswer, sizeAnswer, oneNumber, sizeNumbers, CallResult, callResult}
 
--- By what a call leaves of the urn that it is lent.
+-- The same from what a call leaves of its urn.
 abbrev pub urnCall : (r : UrnResult) (urn answer : List ℕ) → CallResult
 urnCall r urn answer = callResult oneAnswer (oneNumber (r .answer)) answer (urn ∷ []) (r .urn ∷ [])
 
@@ -23,7 +23,7 @@ admitCall k d urn juror ballot answer = urnCall (admission k d urn juror ballot)
 abbrev pub withdrawCall : (k d : ℕ) (urn : List ℕ) (juror : ℕ) (answer : List ℕ) → CallResult
 withdrawCall k d urn juror answer = urnCall (withdrawal k d urn juror) urn answer
 
--- The previews are lent nothing that they could alter but the answer array.
+-- The previews are lent nothing to write to but the answer array.
 abbrev pub previewAdmitCall : (k d : ℕ) (urn : List ℕ) (juror : ℕ) (ballot answer : List ℕ) → CallResult
 previewAdmitCall k d urn juror ballot answer =
     callResult oneAnswer (oneNumber (admitOutcome k d urn juror ballot)) answer [] []
@@ -31,7 +31,7 @@ previewAdmitCall k d urn juror ballot answer =
 abbrev pub previewWithdrawCall : (k d : ℕ) (urn : List ℕ) (juror : ℕ) (answer : List ℕ) → CallResult
 previewWithdrawCall k d urn juror answer = callResult oneAnswer (oneNumber (withdrawOutcome k d urn juror)) answer [] []
 
--- By what a run leaves of the wire table and the board.
+-- The same from what a run leaves.
 abbrev pub boardCall : (r : RunResult) (wires board answer : List ℕ) → CallResult
 boardCall r wires board answer =
     callResult sizeAnswer (sizeNumbers (r .answer)) answer (wires ∷ board ∷ []) (r .wires ∷ r .board ∷ [])

@@ -7,7 +7,7 @@ ghost use Rattle.urn.specs.Facts.{countedBy};
 ghost use Rattle.c_answers.specs.Numbers.{oneAnswer, oneNumber};
 ghost use Rattle.c_answers.specs.inner.Puts.{Puts};
 
-// The answer, and its status.
+// Puts the answer, and returns its status.
 pub(crate) fn put_answer(outcome: Answer, answer: &mut [usize]) -> usize
     requires { ⌜ oneAnswer ≤ length (now answer) ⌝ }
     ensures { λ r.

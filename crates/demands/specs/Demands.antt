@@ -1,6 +1,6 @@
--- The demands on every call of the core, side by side: each layer states its part over the definitions that its
--- contracts equate with the program's answers and with all that is lent. That every call ends, and reads and writes
--- lent memory only inside its length, is part of what is proved of every function.
+-- The demands on every call of the core, side by side: each layer states its part about the definitions that its
+-- contracts equate with answers and all that is lent. That a call ends, and reads and writes only inside what it was
+-- lent, is part of what is proved for every function.
 use mathlib.Core.Path.{_≡_}
 use mathlib.Core.List.{List, [], _∷_}
 use Prim.Native.Nat.{ℕ}
@@ -28,15 +28,15 @@ use Rattle.dispatch.specs.Theorems.{Dispatching}
 use Rattle.batch.specs.Theorems.{EachAsAlone, AcceptedAsAll, RefusedAsAlone, FaultAsAlone}
 use Rattle.batch.specs.Theorems.{BatchMemory, BatchAccuracy, BatchHiding}
 
--- The season sheet's own crate knows no answers of the core, so its instance stands here: it is lent nothing to write
--- to, and is turned away for 21 or 22.
+-- The crate of the season sheet knows no answers of the core, so its instance is here: it is lent nothing to write to,
+-- and refuses with 21 or 22.
 abbrev pub SheetMemory : Type 0
 SheetMemory =
     (bytes : List ℕ)
     → KeepsMemory (21 ∷ 22 ∷ []) (outcome (firstOf (sheetReasons bytes)) (totalsOf (runsIn bytes))) [] []
 
--- The demand [memory] of the five entry points, the calls on a text, the season sheet, the urn, and 64 juries. Of the
--- other calls the records below have it.
+-- The demand [memory] for the five entry points, the calls on text, the season sheet, the urn, and 64 juries. For the
+-- other calls it is in the records below.
 pub record Memory : Type 0 where
   pub base : run.Memory
   pub text : TextMemory
@@ -44,13 +44,13 @@ pub record Memory : Type 0 where
   pub urn : UrnMemory
   pub lanes : BatchMemory
 
--- The demand [accuracy] for the five entry points: under the own list of a shape, and of the plain count by itself.
+-- The demand [accuracy] for the five entry points: with the own list of a shape, and for the plain count by itself.
 pub record Accuracy : Type 0 where
   pub own-list : (s : Shape) (table : List ℕ) (size : Size) → writeOutcome s table ≡ accepted size
       → run.RunAccuracy s table size
   pub plain-count : run.CountAccuracy
 
--- The rules: what they name is what they should name.
+-- The rules: their winners are the ones that the rules describe in words.
 pub record Rules : Type 0 where
   -- majority judgment: a byte says who wins, somebody wins, and the gauge's winner wins alone [judgment-gauge]
   pub judgment-bytes : BytesSay
@@ -65,7 +65,7 @@ pub record AllDemands : Type 0 where
   pub accuracy : Accuracy
   pub hiding : RunTellsNoMore
   pub rules : Rules
-  -- [text]: what is written is read back, and what is read is what was written
+  -- [text]: what is written is read back, and what is read was written
   pub text : RoundTrip
   -- [sheet]: the totals are sums over the runs
   pub sheet : SheetSums
@@ -76,19 +76,19 @@ pub record AllDemands : Type 0 where
   pub previews : PreviewsTell
   -- [urn-run]: memory, accuracy, hiding
   pub urn-run : UrnRunHolds
-  -- [trustees]: memory, accuracy, and that views tell no more than the closing bytes
+  -- [trustees]: memory, accuracy, and that views reveal no more than the closing bytes
   pub by-trustees : trustees.Demands
-  -- [dispatcher]: rounds, memory, refusals, each jury as alone, accuracy, hiding
+  -- [dispatcher]: rounds, memory, refusals, each jury as if alone, accuracy, hiding
   pub dispatcher : Dispatching
-  -- [lanes]: each jury of an accepted call as alone, which calls are accepted, what a refusal says of the juries;
-  -- accuracy, hiding
+  -- [lanes]: each jury of an accepted call as if alone, which calls are accepted, what a refusal says about the
+  -- juries; accuracy, hiding
   pub lanes-alone : EachAsAlone
   pub lanes-accepted : AcceptedAsAll
   pub lanes-refused : RefusedAsAlone
   pub lanes-fault : FaultAsAlone
   pub lanes-accuracy : BatchAccuracy
   pub lanes-hiding : BatchHiding
-  -- ours, beyond the requests: the levels of a list; a trustee on a machine of its own, and that all of them end as the
-  -- one call does
+  -- ours, beyond the requests: the levels of a list; a trustee on its own machine, and that all of them end as the
+  -- single call does
   pub levels : levels.Demands
   pub trustees-apart : alone.Demands

@@ -1,1 +1,1 @@
-// What is shown of all calls, side by side. There is no program here.
+// What is shown of every call, side by side. There is no program here.

@@ -1,4 +1,4 @@
--- The tests of all juries, one after the other.
+-- The tests of all juries, one after another.
 -- Assumes nothing.
 use mathlib.Core.Path.{_≡_, _∙_, refl, sym, ap, subst}
 use mathlib.Core.Bool.{Bool, true, false, cond}
@@ -64,7 +64,7 @@ module _ (s : JuryHeader) (t : Tables) where
   unfolding piecesOf pieceOf
   board-piece c n h e = ap (λ (x : ℕ). take x (t .boards)) (e ∙ ap (λ (x : ℕ). fitting (x + s .candidates) (length (t .boards))) h)
 
-  -- a jury that passes leaves the word to the next, and a bad one has the last word
+  -- after a jury that passes, the next ones decide; a bad one decides itself
   pub next-jury : (j : ℕ) (ss : List JuryHeader) → firstOf (reasonsOf s t) ≡ none → firstOf (juryReasons j (s ∷ ss) t) ≡ firstOf (juryReasons (suc j) ss (behind s t))
   unfolding juryReasons atJury firstOf
   next-jury j ss e = ap (λ (o : Option Reason). firstOf (atJury j o ∷ juryReasons (suc j) ss (behind s t))) e
@@ -81,12 +81,12 @@ refusal-is (answer.Accepted g c) (some r) size e = never (record { gates = g; co
 refusal-is (answer.Refused q) none size e = never size (reasonOf q) e
 refusal-is (answer.Refused q) (some r) size e = let same : reasonOf q ≡ r = cc in ap some same
 
--- a bad jury is no acceptance
+-- a bad jury means a refusal
 pub at-jury-some : {A : Type 0} (j : ℕ) (r : Reason) → atJury j (some r) ≡ none → A
 unfolding atJury
 at-jury-some j r e = let z : _≡_ {A = ℕ} 0 1 = cc in absurd (omega arith)
 
--- an accepted answer: no reason applies, and it counts the marks of the list
+-- an accepted answer: no reason applies, and it has the list's C
 pub accepted-mark : (a : Answer) (o : Option Reason) (gs : List Gate) (g c : ℕ) → outcomeOf a ≡ outcome o (sizeOf gs) → a ≡ answer.Accepted g c → (o ≡ none) × (c ≡ conditionalCount gs)
 unfolding outcomeOf outcome sizeOf
 accepted-mark a none gs g c e f =
@@ -97,7 +97,7 @@ accepted-mark a none gs g c e f =
     same-size h = cc
 accepted-mark a (some r) gs g c e f = never (record { gates = g; conditional = c }) r (sym e ∙ ap outcomeOf f)
 
--- The juries before j passed, and the first reason is that of the juries ahead.
+-- The juries before j passed, so the first reason is that of the juries ahead.
 pub record TestedSoFar (ss : List JuryHeader) (t : Tables) (j : ℕ) (left : List JuryHeader) (at : Places) (conditional : List ℕ) : Type 0 where
   pub reasons : firstOf (juryReasons j left (from at t)) ≡ firstOf (juryReasons 0 ss t)
   pub marksUp : Upto (oneOf (λ (s : JuryHeader) (p : Tables). 0)) (oneOf marks) (padding ss) left (from at t) j conditional (eightOf marks ss t)
@@ -153,7 +153,7 @@ rest-is a xs = take-all (length xs - a) (drop a xs) (omega (arith, length-drop a
 pub lent-same : (l l′ b b′ m m′ w w′ o o′ : List ℕ) → l ≡ l′ → b ≡ b′ → m ≡ m′ → w ≡ w′ → o ≡ o′ → lent l b m w o ≡ lent l′ b′ m′ w′ o′
 lent-same l l′ b b′ m m′ w w′ o o′ e₀ e₁ e₂ e₃ e₄ = λ x. record { lists = e₀ x; ballots = e₁ x; tapes = e₂ x; wires = e₃ x; boards = e₄ x }
 
--- an accepted list has the gates that were stated, and its marks
+-- an accepted list has as many gates as its header says, and its own C
 pub stated-size : (s : JuryHeader) (t : Tables) (size : Size) → TestPassed (shapeOf s) (piecesOf s t .lists) size → (size .gates ≡ s .gates) × (size .conditional ≡ conditionalIn s t)
 unfolding piecesOf conditionalIn sizeOf
 stated-size s t size k =

@@ -91,7 +91,7 @@ outside least n most e h =
     let yes = and-both (leb least n) (leb n most) (le-leb least n (h .0)) (le-leb n most (h .1)) in
     let z : _≡_ {A = ℕ} 0 1 = cc in absurd (omega arith)
 
--- an accepted call turns no jury away
+-- an accepted call refuses no jury
 reason-is : (o : Option Reason) (c : Call) → dispatchResultAfter o c .reason ≡ o
 unfolding dispatchResultAfter
 reason-is none c = refl
@@ -116,7 +116,7 @@ accepted-at i j [] t e h = absurd (omega arith)
 accepted-at i zero (s ∷ ss) t e h = first-accepted i s ss t e .0
 accepted-at i (suc j) (s ∷ ss) t e h = accepted-at (suc i) j ss (behind s t) (first-accepted i s ss t e .1) (omega arith)
 
--- a run on the pieces of a jury that is not turned away
+-- a run on the pieces of a jury that is not refused
 run-accepted : (ss : List JuryHeader) (t : Tables) (j : ℕ) → firstOf (reasonsOf (juryAt j ss) (tablesFrom j ss t)) ≡ none → RunsAt j ss t
 run-accepted ss t j e =
     let p = piecesAt j ss t in
@@ -129,7 +129,7 @@ number-at f rest j [] t h = absurd (omega arith)
 number-at f rest zero (s ∷ ss) t h = refl
 number-at f rest (suc j) (s ∷ ss) t h = number-at f rest j ss (behind s t) (omega arith)
 
--- a run's board has its length
+-- the length of a run's board
 ran-long : (s : JuryHeader) (t : Tables) → firstOf (reasonsOf s t) ≡ none → length (runBoard s (piecesOf s t)) ≡ conditionalIn s t + s .candidates
 unfolding runBoard
 ran-long s t e =
@@ -193,7 +193,7 @@ wires-at i (suc j) (s ∷ ss) t o e h =
     ap (λ (x : List ℕ). piecesAt j ss (lent (later .lists) (later .ballots) (later .tapes) x left) .wires) cut
     ∙ wires-at (suc i) j ss (behind s t) left (a .1) (omega arith)
 
--- what lies behind the pieces of all juries
+-- what follows the pieces of all juries
 wires-behind : (i : ℕ) (ss : List JuryHeader) (t : Tables) (o : List ℕ) → firstOf (juryReasons i ss t) ≡ none
     → tablesFrom (length ss) ss (lent (t .lists) (t .ballots) (t .tapes) (through zeroWires (λ (t : Tables). t .wires) ss t) o) .wires ≡ tablesFrom (length ss) ss t .wires
 unfolding through tablesFrom behind conditionalIn listOf
@@ -278,7 +278,7 @@ all-boards i (s ∷ ss) t e =
       jury-passed s t (a .0) .inBoards,
     )
 
--- the first bad jury, counted from the first of these, which is jury i
+-- the first bad jury, where the first of these is jury i
 record Found (i : ℕ) (ss : List JuryHeader) (t : Tables) (r : Reason) : Type 0 where
   pub which : ℕ
   pub its : Reason
@@ -539,11 +539,11 @@ memory c =
     reason : (r : Reason) → outcome (dispatchResult c .reason) (dispatchResult c .rounds) ≡ refused r → dispatchResult c .reason ≡ some r
     reason r e = outcome-refused (dispatchResult c .reason) (dispatchResult c .rounds) r e
 
--- what lies behind all pieces after a call that leaves d
+-- what follows all pieces after a call that leaves d
 abbrev left : List JuryHeader → Tables → DispatchResult → Tables
 left qs t d = tablesFrom (length qs) qs (lent (t .lists) (t .ballots) (t .tapes) (d .wires) (d .boards))
 
--- nothing of it is altered
+-- none of it changes
 untouched : (c : Call) → Untouched c
 untouched c = by (firstOf (dispatchReasons c)) refl
   where

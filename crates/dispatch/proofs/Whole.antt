@@ -38,7 +38,7 @@ wiresLeft t = t .wires
 abbrev boardsLeft : Tables → List ℕ
 boardsLeft t = t .boards
 
--- before the first round everything stands as it was lent
+-- before the first round everything is as it was lent
 pub wires-start : (j : ℕ) (ss : List JuryHeader) (t : Tables) → firstOf (juryReasons j ss t) ≡ none → wiresGiven 0 ss t ≡ t .wires
 unfolding wiresGiven through behind
 wires-start j [] t e = refl
@@ -84,7 +84,7 @@ few-gates j (s ∷ ss) t e =
     let a = first-accepted j s ss t e in
     omega (arith, jury-passed s t (a .0) .few-gates, few-gates (suc j) ss (behind s t) (a .1))
 
--- nor do the juries from j on
+-- nor have the juries from j on
 pub most-left : (j : ℕ) (ss : List JuryHeader) → mostGates (drop j ss) ≤ mostGates ss
 unfolding mostGates
 most-left zero ss = omega arith
@@ -174,7 +174,7 @@ module _ (c : Call) where
   unfolding dispatchResult
   result-by o e = ap (λ (r : Option Reason). dispatchResultAfter r c) e
 
--- a result is told by what it consists of
+-- two results are equal if their parts are
 pub same-result : (x y : DispatchResult) → x .reason ≡ y .reason → x .rounds ≡ y .rounds → x .wires ≡ y .wires
     → x .boards ≡ y .boards → x ≡ y
 same-result x y a b c d = rw (a, b, c, d) refl

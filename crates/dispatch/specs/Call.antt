@@ -5,8 +5,7 @@ use lib.ListN.{take}
 use Rattle.dispatch_rounds.specs.declared.header.JuryHeader.{JuryHeader}
 use Rattle.dispatch_rounds.specs.Tables.{Tables}
 
--- The quantum is how many gates a jury gets in a round at most. There are eight headers, of which the first `count` are
--- looked at.
+-- `quantum` is the most gates that a jury does in a round (S). Of the eight headers the first `count` are read.
 pub record Call : Type 0 where
   pub count : ℕ
   pub headers : List JuryHeader

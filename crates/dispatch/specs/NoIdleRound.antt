@@ -4,15 +4,15 @@ use Prim.Native.Nat.{ℕ, suc, _*_, _≤_, _<_, min}
 use lib.ListN.{length, getD}
 use Rattle.dispatch_rounds.specs.declared.header.JuryHeader.{JuryHeader}
 
--- What jury j stated.
+-- Jury j's header.
 abbrev pub juryAt : ℕ → List JuryHeader → JuryHeader
 juryAt j ss = getD ss j (record { candidates = 0; grades = 0; ballots = 0; gates = 0 })
 
--- Jury j has done more of its gates after round r than before it.
+-- Jury j has done more gates after round r than before it.
 abbrev pub GetsGate : (quantum r : ℕ) → List JuryHeader → ℕ → Type 0
 GetsGate quantum r ss j = min (r * quantum) (juryAt j ss .gates) < min (suc r * quantum) (juryAt j ss .gates)
 
--- `done` rounds of a quantum that is at least 1, the first of them round 0.
+-- `done` rounds, counted from 0, of a quantum of at least 1.
 abbrev pub NoIdleRound : (quantum done : ℕ) → List JuryHeader → Type 0
 NoIdleRound quantum done ss = (r : ℕ) → r < done → (j : ℕ) × (j < length ss) × GetsGate quantum r ss j
 

@@ -1,4 +1,4 @@
--- The reasons to turn a call of the dispatcher away, in checking order (request 2.8).
+-- The reasons to refuse a call of the dispatcher, in checking order (request 2.8).
 use mathlib.Core.Bool.{_&&_}
 use mathlib.Core.Option.{Option, none, some}
 use mathlib.Core.List.{List, _∷_}
@@ -9,14 +9,14 @@ use Rattle.dispatch.specs.Call.{Call, juriesIn}
 use Rattle.dispatch.specs.declared.verdict.JuriesVerdict.{JuriesVerdict}
 use Rattle.dispatch.specs.declared.verdict.JuriesVerdict.the-variants.{Accepted, Refused}
 
--- All of them: 19 for the number of juries, 20 for the gates of a round, then those of the juries.
+-- All of them: 19 for the number of juries, 20 for the quantum, then those of the juries.
 unfoldable pub dispatchReasons : Call → List (Option Reason)
 dispatchReasons c =
     unless (leb 1 (c .count) && leb (c .count) 8) 19
     ∷ unless (leb 1 (c .quantum) && leb (c .quantum) 65536) 20
     ∷ juryReasons 0 (juriesIn c) (c .tables)
 
--- The number and place for each case of the program's enum.
+-- The number and place of each case of the program's enum.
 unfoldable pub verdictReason : JuriesVerdict → Option Reason
 verdictReason Accepted = none
 verdictReason (Refused reason jury) = some (reasonAt (reasonOf reason .number) jury)

@@ -1,4 +1,4 @@
--- The entry point: what a whole call answers and leaves (request 2.8).
+-- What a whole call answers and leaves (request 2.8).
 use mathlib.Core.Option.{Option, none, some}
 use mathlib.Core.List.{List}
 use Prim.Native.Nat.{ℕ}
@@ -15,19 +15,19 @@ use Rattle.dispatch_rounds.specs.Rounds.{eightOf, roundsFor}
 unfoldable pub runBoard : JuryHeader → Tables → List ℕ
 runBoard s p = runResult (shapeOf s) (p .lists) (p .ballots) (p .tapes) (p .wires) (p .boards) .board
 
--- As many zeros as it has wires.
+-- Zeros, as many as it has wires.
 abbrev pub zeroWires : JuryHeader → Tables → List ℕ
 zeroWires s p = replicate (length (p .wires)) 0
 
--- What a call leaves: its reason, if any, how many rounds each jury took, the wire table and the boards.
+-- What a call leaves: its reason, if any, each jury's number of rounds, the wire table and the boards.
 pub record DispatchResult : Type 0 where
   pub reason : Option Reason
   pub rounds : List ℕ
   pub wires : List ℕ
   pub boards : List ℕ
 
--- A refusal alters nothing and answers no rounds. An accepted call answers the rounds of each jury, empties each jury's
--- wires (request 2.13) and leaves the boards of undivided runs; what lies behind the last piece stays.
+-- A refusal changes nothing and answers no rounds. An accepted call answers each jury's rounds, empties its wires
+-- (request 2.13) and leaves the boards of undivided runs; what follows the last piece stays.
 unfoldable pub dispatchResultAfter : Option Reason → Call → DispatchResult
 dispatchResultAfter (some r) c =
     record { reason = some r; rounds = replicate 8 0; wires = c .tables .wires; boards = c .tables .boards }

@@ -1,5 +1,5 @@
--- What holds of every call of the dispatcher (requests 2.8 and 2.13), over the definition that its contract equates
--- with the answer and with all that is lent.
+-- What holds for every call of the dispatcher (requests 2.8 and 2.13), about the definition that its contract equates
+-- with the answer and all that is lent.
 use mathlib.Core.Path.{_≡_}
 use mathlib.Core.Logic.{_↔_, _⊎_}
 use mathlib.Core.Option.{none, some}
@@ -48,7 +48,7 @@ tablesAfter c =
     let t = c .tables in
     lent (t .lists) (t .ballots) (t .tapes) (dispatchResult c .wires) (dispatchResult c .boards)
 
--- Of jury j in a call: what it stated, its pieces as they are lent, and its pieces after the call.
+-- Jury j of a call: its header, its pieces as they are lent, and its pieces after the call.
 abbrev pub jury : Call → ℕ → JuryHeader
 jury c j = juryAt j (juriesIn c)
 
@@ -58,31 +58,31 @@ pieces c j = piecesAt j (juriesIn c) (c .tables)
 abbrev pub piecesAfter : Call → ℕ → Tables
 piecesAfter c j = piecesAt j (juriesIn c) (tablesAfter c)
 
--- The number of rounds: after r of them a jury has all its gates exactly where r is at least that number, and the next
--- round gives it a gate exactly where r is below it.
+-- The number of rounds: after r rounds a jury has done all its gates exactly if r is at least that number, and the
+-- next round gives it a gate exactly if r is below it.
 pub record RoundsExact : Type 0 where
   pub finished : (gates quantum r : ℕ) → 1 ≤ quantum
       → (min (r * quantum) gates ≡ gates) ↔ (roundsFor gates quantum ≤ r)
   pub given : (gates quantum r : ℕ) → 1 ≤ quantum
       → (min (r * quantum) gates < min (suc r * quantum) gates) ↔ (r < roundsFor gates quantum)
 
--- Jury j of a call is accepted with all others.
+-- Jury j of an accepted call.
 pub record AcceptedJury (c : Call) (j : ℕ) : Type 0 where
   pub accepts : dispatchResult c .reason ≡ none
   pub among : j < length (juriesIn c)
 
--- Such a jury, whatever the other juries are.
+-- What holds for such a jury, whatever the other juries are.
 pub record EachJury (c : Call) (j : ℕ) : Type 0 where
   pub rounds : getD (dispatchResult c .rounds) j 0 ≡ roundsFor (jury c j .gates) (c .quantum)
-  -- an undivided run on its pieces is accepted, and leaves the board that the call leaves it
+  -- an undivided run on its pieces is accepted, and leaves the same board
   pub runs : RunsAt j (juriesIn c) (c .tables)
   -- its wires are emptied
   pub emptied : piecesAfter c j .wires ≡ replicate (length (pieces c j .wires)) 0
   pub board : piecesAfter c j .boards ≡ runBoard (jury c j) (pieces c j)
 
--- The rounds of a call that has an accepted jury are those of the jury that takes most. After them every jury has all
--- its gates, in each of them some jury gets a gate, and this holds of no other number of rounds: so the rounds that the
--- contract of `run_rounds` speaks of are these.
+-- The rounds of an accepted call are those of the jury that needs most. After them every jury has done all its gates;
+-- in each of them some jury gets a gate; and no other number of rounds has both properties. So these are the rounds
+-- in the contract of `run_rounds`.
 pub record RoundsOfCall (c : Call) : Type 0 where
   pub longest : ℕ
   pub among : longest < length (juriesIn c)
@@ -93,21 +93,21 @@ pub record RoundsOfCall (c : Call) : Type 0 where
   pub no-other : (n : ℕ) → AllDone (c .quantum) n (juriesIn c) → NoIdleRound (c .quantum) n (juriesIn c)
       → n ≡ getD (dispatchResult c .rounds) longest 0
 
--- Jury j of one call and jury i of another.
+-- Jury j of one call and jury i of another agree in header, list, ballots and tape.
 pub record SameInputs (c c′ : Call) (j i : ℕ) : Type 0 where
   pub header : jury c j ≡ jury c′ i
   pub list : pieces c j .lists ≡ pieces c′ i .lists
   pub ballots : pieces c j .ballots ≡ pieces c′ i .ballots
   pub tape : pieces c j .tapes ≡ pieces c′ i .tapes
 
--- They have the same board, whatever else is lent and whatever the two quanta are; for equal quanta they take as many
--- rounds.
+-- They have the same board, whatever else is lent and whatever the two quanta; with equal quanta they take equally
+-- many rounds.
 pub record SameJury (c c′ : Call) (j i : ℕ) : Type 0 where
   pub board : piecesAfter c j .boards ≡ piecesAfter c′ i .boards
   pub rounds : c .quantum ≡ c′ .quantum → getD (dispatchResult c .rounds) j 0 ≡ getD (dispatchResult c′ .rounds) i 0
 
--- The reason r is that of the first jury that is turned away: its place is one of the juries, runs on the pieces of all
--- juries before that are accepted, and a run on this jury's is refused with the number of r.
+-- The reason r is that of the first jury that is refused: its place is that jury, runs on the pieces of all juries
+-- before it are accepted, and a run on its own pieces is refused with the number of r.
 pub record FirstRefused (ss : List JuryHeader) (t : Tables) (r : Reason) : Type 0 where
   pub among : r .place < length ss
   pub before : (j : ℕ) → j < r .place → RunsAt j ss t
@@ -122,14 +122,14 @@ JuriesFit c = (1 ≤ c .count) × (c .count ≤ 8)
 abbrev pub QuantumFits : Call → Type 0
 QuantumFits c = (1 ≤ c .quantum) × (c .quantum ≤ 65536)
 
--- A call is accepted where both numbers fit and an undivided run on each jury's pieces is accepted, and only there.
+-- A call is accepted iff both numbers fit and an undivided run on each jury's pieces is accepted.
 abbrev pub AcceptedAsAll : Type 0
 AcceptedAsAll =
     (c : Call) → (dispatchResult c .reason ≡ none)
     ↔ (JuriesFit c × QuantumFits c × ((j : ℕ) → j < length (juriesIn c) → RunsAt j (juriesIn c) (c .tables)))
 
--- A refusal is 19 at place 0 where the number of juries does not fit, else 20 at place 0 where the quantum does not,
--- else the reason of the first jury that is turned away. It answers no rounds.
+-- A refusal is 19 at place 0 if the number of juries does not fit, else 20 at place 0 if the quantum does not, else the
+-- reason of the first jury that is refused. It answers no rounds.
 pub record Refusals : Type 0 where
   pub named : (c : Call) (r : Reason) → dispatchResult c .reason ≡ some r
       → ((¬ JuriesFit c) × (r ≡ reasonAt 19 0))
@@ -137,8 +137,8 @@ pub record Refusals : Type 0 where
       ⊎ (JuriesFit c × QuantumFits c × FirstRefused (juriesIn c) (c .tables) r)
   pub no-rounds : (c : Call) (r : Reason) → dispatchResult c .reason ≡ some r → dispatchResult c .rounds ≡ replicate 8 0
 
--- Demand 1. The call may write to two tables. It empties each jury's piece of the wires (`EachJury`), so none as a
--- whole.
+-- Demand 1. The call may write to two tables. It empties each jury's piece of the wires (`EachJury`), not the whole
+-- table.
 abbrev pub DispatchMemory : Call → Type 0
 DispatchMemory c =
     let wires : Lent = record { before = c .tables .wires; after = dispatchResult c .wires } in
@@ -146,7 +146,7 @@ DispatchMemory c =
     KeepsMemory (19 ∷ 20 ∷ 1 ∷ 2 ∷ 3 ∷ 4 ∷ 5 ∷ 6 ∷ 11 ∷ 12 ∷ 7 ∷ 8 ∷ 9 ∷ 10 ∷ [])
     (outcome (dispatchResult c .reason) (dispatchResult c .rounds)) (wires ∷ boards ∷ []) []
 
--- No call, accepted or refused, alters what lies behind the last jury's piece.
+-- No call, accepted or refused, changes what follows the last jury's piece.
 pub record Untouched (c : Call) : Type 0 where
   pub wires : tablesFrom (length (juriesIn c)) (juriesIn c) (tablesAfter c) .wires
       ≡ tablesFrom (length (juriesIn c)) (juriesIn c) (c .tables) .wires
@@ -162,12 +162,12 @@ pub record Dispatching : Type 0 where
   pub refusals : Refusals
   pub each : (c : Call) (j : ℕ) → AcceptedJury c j → EachJury c j
   pub same : (c c′ : Call) (j i : ℕ) → AcceptedJury c j → AcceptedJury c′ i → SameInputs c c′ j i → SameJury c c′ j i
-  -- demand 2, for a jury whose list is the one that the core writes for its shape, into whatever table
+  -- demand 2, for a jury whose list is the one that the core writes for its shape, into any table
   pub accuracy : (c : Call) (j : ℕ) (table : List ℕ) (size : Size) → AcceptedJury c j
       → writeOutcome (shapeOf (jury c j)) table ≡ accepted size
       → pieces c j .lists ≡ listIn (shapeOf (jury c j)) size table
       → let s = shapeOf (jury c j) in SaysWhoWins s (pieces c j .ballots) (closingBytes s (piecesAfter c j .boards))
-  -- demand 3, for two juries of one shape and one list whose boards end with the same closing bytes
+  -- demand 3, for two juries with one shape and one list whose boards end with the same closing bytes
   pub hiding : (c c′ : Call) (j i : ℕ) → AcceptedJury c j → AcceptedJury c′ i
       → jury c j ≡ jury c′ i → pieces c j .lists ≡ pieces c′ i .lists
       → let s = shapeOf (jury c j) in closingBytes s (piecesAfter c j .boards)

@@ -23,8 +23,7 @@ pub const LEAST_QUANTUM: usize = 1;
 
 pub const MOST_QUANTUM: usize = 65536;
 
-// The answer of a call: its verdict, and how many rounds each jury took; 0 where there is no jury, and all 0 on a
-// refusal.
+// The answer of a call: its verdict, and how many rounds each jury took, 0 past the last jury and all 0 on a refusal.
 pub struct Dispatched {
     pub verdict: JuriesVerdict,
     pub rounds: [usize; 8],
@@ -59,7 +58,7 @@ fn most_gates(count: usize, headers: [JuryHeader; 8]) -> usize
     most
 }
 
-// How many rounds each jury takes, which no other jury changes.
+// How many rounds each jury takes. No other jury changes that.
 fn rounds_of(count: usize, headers: [JuryHeader; 8], quantum: usize) -> [usize; 8]
     requires { ⌜ RoundsSmall count headers quantum ⌝ }
     ensures { λ r.
@@ -125,9 +124,8 @@ fn run_rounds(
     }
 }
 
-// Runs up to eight juries in rounds, in each of which a jury gets a quantum of gates at most. Their pieces lie one
-// behind the other in the five tables, and headers past the number of juries are not looked at. The wires are emptied
-// in the end.
+// Runs up to eight juries in rounds, in each of which a jury does at most `quantum` gates. Their pieces follow each
+// other in the five tables; headers past the number of juries are not read. In the end the wires are emptied.
 pub fn dispatch(
     count: usize,
     headers: [JuryHeader; 8],

@@ -15,8 +15,7 @@ ghost use Rattle.dispatch_rounds.specs.Reasons.{atJury};
 ghost use Rattle.dispatch.specs.Reasons.{verdictReason};
 ghost use Rattle.dispatch.specs.inner.Rounds.{refusalIn, JuryTested, TestsFound};
 
-// The length of a piece of first and second bytes together, where so many are left. The sum is formed only where it
-// fits.
+// The length of a piece of first + second bytes if that many are left, else 0. The sum is formed only if it fits.
 fn bytes_fitting(first: usize, second: usize, left: usize) -> usize
     ensures { λ r. ⌜ r ≡ fitting (first + second) left ⌝ }
 {
@@ -29,7 +28,8 @@ fn bytes_fitting(first: usize, second: usize, left: usize) -> usize
     first + second
 }
 
-// The length of a list of so many gates, where so many numbers are left. The product could wrap before this test.
+// The length of a list of this many gates if that many numbers are left, else 0. Before this test the product could
+// wrap.
 fn numbers_fitting(gates: usize, left: usize) -> usize
     ensures { λ r. ⌜ r ≡ fitting (4 * gates) left ⌝ }
 {
@@ -81,7 +81,7 @@ fn test_jury(
     }
 }
 
-// The verdict of a call whose first bad jury, if there is one, is this.
+// The verdict if a jury's tests gave this answer: its reason, with the jury as place.
 fn verdict_of(answer: Answer, jury: usize) -> JuriesVerdict
     ensures { λ r. ⌜ verdictReason r ≡ atJury jury (refusalIn answer) ⌝ }
 {
@@ -94,7 +94,7 @@ fn verdict_of(answer: Answer, jury: usize) -> JuriesVerdict
     }
 }
 
-// Tests jury after jury, each to its end before the next is looked at.
+// Tests jury after jury: all tests of one before those of the next.
 pub(crate) fn test_juries(
     count: usize,
     headers: [JuryHeader; 8],

@@ -1,4 +1,4 @@
--- One jury's part of a round.
+-- One jury's share of a round.
 -- Assumes nothing.
 use mathlib.Core.Path.{_≡_, _∙_, refl, sym, ap}
 use mathlib.Core.Bool.{Bool, false, cond}
@@ -36,7 +36,7 @@ pub after-all : (b : List ℕ) (gs : List Gate) (k : ℕ) (tape : List ℕ) (m :
 unfolding boardAfter
 after-all b gs k tape m board h = rw (le-ltb m (length gs) h)
 
--- no wire is made or lost
+-- the length of the wire table stays
 after-wires-long : (b : List ℕ) (gs : List Gate) (m : ℕ) (ws : List ℕ) → m ≤ length gs → length ws ≡ length b + length gs → length (wiresAfter b gs m ws) ≡ length ws
 unfolding wiresAfter
 after-wires-long b gs zero ws h l = refl
@@ -123,7 +123,7 @@ module _ (s : JuryHeader) (p : Tables) where
           count = st .count ∙ sym (ap (λ (n : ℕ). conditionalCount (take n list)) m);
         }
 
-  -- a jury that is finished stands as it is
+  -- a finished jury stays as it is
   pub turn-idle : (given more : ℕ) (ws board : List ℕ) (shown : ℕ) → s .gates ≤ given → JuryState given s p ws board shown → JuryState (given + more) s p ws board shown
   unfolding juryWires juryBoard juryShown
   turn-idle given more ws board shown h j =

@@ -1,4 +1,4 @@
--- A round, jury after jury: the juries passed have had their part of it, and those ahead stand as after the round before.
+-- A round, jury after jury: those passed have had their turn, and those ahead are as after the round before.
 -- Assumes nothing.
 use mathlib.Core.Path.{_≡_, _∙_, refl, sym, ap, subst}
 use mathlib.Core.Option.{none}
@@ -68,7 +68,7 @@ marks s p = conditionalCount (gatesOf (p .lists))
 abbrev pub padding : List JuryHeader → Tables → List ℕ
 padding ss t = replicate (8 - length ss) 0
 
--- in the middle of a round: juries left are ahead
+-- in the middle of a round; the juries `left` are ahead
 pub record Mid (ss : List JuryHeader) (t : Tables) (given next : ℕ) (conditional : List ℕ) (j : ℕ) (left : List JuryHeader) (at : Places) (wires boards shown : List ℕ) : Type 0 where
   pub wiresUp : Upto (juryWires given) (juryWires next) (λ (t : Tables). t .wires) left (from at t) (at .wires) wires (wiresGiven next ss t)
   pub boardsUp : Upto (juryBoard given) (juryBoard next) (λ (t : Tables). t .boards) left (from at t) (at .boards) boards (boardsGiven next ss t)
@@ -226,7 +226,7 @@ jury-back given s p l b m w o n e₀ e₁ e₂ j =
     (subst (λ (x : List ℕ). JuryState given s (lent (p .lists) x m (p .wires) (p .boards)) w o n) e₁
     (subst (λ (x : List ℕ). JuryState given s (lent x b m (p .wires) (p .boards)) w o n) e₀ j))
 
--- the same place of a round under other names
+-- the same point of a round under other names
 pub mid-as : (ss : List JuryHeader) (t : Tables) (given next : ℕ) (conditional : List ℕ) (j j′ : ℕ) (left left′ : List JuryHeader) (at at′ : Places) (wires wires′ boards boards′ shown : List ℕ)
     → j′ ≡ j → left′ ≡ left → at′ ≡ at → wires′ ≡ wires → boards′ ≡ boards → Mid ss t given next conditional j left at wires boards shown
     → Mid ss t given next conditional j′ left′ at′ wires′ boards′ shown

@@ -1,4 +1,4 @@
--- What is known of a jury that is not turned away: its pieces fit.
+-- What is known of a jury that is not refused: its pieces fit.
 -- Assumes nothing.
 use mathlib.Core.Path.{_≡_, refl, ap}
 use mathlib.Core.Option.{Option, none, some}
@@ -24,7 +24,7 @@ use Rattle.dispatch_rounds.specs.Tables.{Tables, shapeOf, pieceOf, listO
 use Rattle.dispatch_rounds.specs.Reasons.{reasonsOf, atJury, juryReasons}
 use Rattle.dispatch_rounds.proofs.Pieces.{piece-fits, full-fits, some-fits}
 
--- no jury is bad: not the first, and none behind it
+-- if no jury is bad, the first is not, and none after it is
 pub first-accepted : (j : ℕ) (s : JuryHeader) (ss : List JuryHeader) (t : Tables) → firstOf (juryReasons j (s ∷ ss) t) ≡ none
     → (firstOf (reasonsOf s t) ≡ none) × (firstOf (juryReasons (suc j) ss (behind s t)) ≡ none)
 unfolding juryReasons
@@ -57,7 +57,7 @@ pub record Passed (s : JuryHeader) (t : Tables) : Type 0 where
   pub boardLong : length (piecesOf s t .boards) ≡ conditionalIn s t + s .candidates
   pub marked : conditionalCount (gatesOf (piecesOf s t .lists)) ≡ conditionalIn s t
 
--- a list of gates that is not empty fits, and has the gates that were stated
+-- a list that is not empty fits, and has as many gates as its header says
 pub list-fits : (s : JuryHeader) (t : Tables) → 1 ≤ length (gatesOf (listOf s t)) → (4 * s .gates ≤ length (t .lists)) × (length (gatesOf (listOf s t)) ≡ s .gates)
 unfolding listOf
 list-fits s t h =

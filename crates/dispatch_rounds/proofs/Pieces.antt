@@ -1,4 +1,4 @@
--- A table of pieces, one for each jury, of which the first were replaced already.
+-- A table of pieces, one for each jury, of which the first are replaced already.
 -- Assumes nothing.
 use mathlib.Core.Path.{_≡_, _∙_, refl, sym, ap}
 use mathlib.Core.Bool.{Bool, true, false, cond}
@@ -35,7 +35,7 @@ some-fits n xs e = go (leb n (length xs)) refl e
     go true p q = leb-true n (length xs) p
     go false p q = absurd (omega arith)
 
--- Of the table that is to be in the end, a front is there, and behind it the pieces that stood before.
+-- The table half done: the front is as it will be in the end, then come the old pieces.
 pub record Upto (f g : JuryHeader → Tables → List ℕ) (rest : Tables → List ℕ) (ss : List JuryHeader) (t : Tables) (at : ℕ) (here final : List ℕ) : Type 0 where
   pub front : List ℕ
   pub long : length front ≡ at
@@ -56,7 +56,7 @@ module _ (f g : JuryHeader → Tables → List ℕ) (rest : Tables → List ℕ)
   unfolding through
   rest-of = ap (drop at) (u .hereIs) ∙ drop-at (u .front) (through f rest (s ∷ ss) t) at (u .long)
 
-  -- the first piece that stands as before
+  -- the first piece that is still old
   pub upto-part : take n (drop at here) ≡ f s (piecesOf s t)
   upto-part = ap (take n) rest-of ∙ take-at (f s (piecesOf s t)) (through f rest ss (behind s t)) n old
 
@@ -113,7 +113,7 @@ module _ (f g : JuryHeader → Tables → ℕ) (rest : Tables → List ℕ) (s :
             ∙ sym (append-snoc (u .front) v (through (oneOf g) rest ss (behind s t)));
       }
 
--- pieces that are equal make equal tables
+-- equal pieces make equal tables
 pub through-same : (f g : JuryHeader → Tables → List ℕ) (rest : Tables → List ℕ) → ((s : JuryHeader) (p : Tables) → f s p ≡ g s p) → (ss : List JuryHeader) (t : Tables)
     → through f rest ss t ≡ through g rest ss t
 unfolding through

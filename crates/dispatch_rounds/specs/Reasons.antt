@@ -1,4 +1,4 @@
--- The reasons of juries whose pieces follow each other, jury after jury (request 2.8).
+-- The reasons of juries whose pieces follow each other (request 2.8).
 use mathlib.Core.Option.{Option, none, some}
 use mathlib.Core.List.{List, [], _∷_}
 use Prim.Native.Nat.{ℕ, suc}
@@ -13,13 +13,12 @@ reasonsOf s t =
     runReasons (shapeOf s) (piecesOf s t .lists) (piecesOf s t .ballots) (piecesOf s t .tapes) (piecesOf s t .wires)
     (piecesOf s t .boards)
 
--- A jury's reason keeps its number; its place is the jury.
+-- A jury's reason keeps its number, and has the jury as its place.
 unfoldable pub atJury : ℕ → Option Reason → Option Reason
 atJury j none = none
 atJury j (some r) = some (reasonAt (r .number) j)
 
--- Jury after jury, each with the first of all its reasons before the next one is looked at. The first of these is jury
--- j.
+-- Jury after jury: all reasons of one before those of the next. The first of these is jury j.
 unfoldable pub juryReasons : ℕ → List JuryHeader → Tables → List (Option Reason)
 juryReasons j [] t = []
 juryReasons j (s ∷ ss) t = atJury j (firstOf (reasonsOf s t)) ∷ juryReasons (suc j) ss (behind s t)

@@ -1,5 +1,5 @@
--- What stands in the wire table and on the boards after a round (request 2.8). After r rounds of S gates each jury has
--- done r × S of its gates, or all if these are fewer [round].
+-- What the wire table and the boards hold after a round (request 2.8). After r rounds of S gates each jury has done r
+-- × S of its gates, or all if it has fewer [round].
 use mathlib.Core.Path.{_≡_}
 use mathlib.Core.Bool.{cond}
 use mathlib.Core.Option.{none}
@@ -15,22 +15,21 @@ use Rattle.dispatch_rounds.specs.declared.header.JuryHeader.{JuryHeader}
 use Rattle.dispatch_rounds.specs.Tables.{Tables, conditionalIn, piecesOf, behind, through}
 use Rattle.dispatch_rounds.specs.Reasons.{juryReasons}
 
--- A jury's wire table after its first m gates: the ballots, the wires of these gates, and behind them what was lent.
--- The ballots come with the first gate.
+-- A jury's wire table after its first m gates: the ballots, the wires of these gates, then the old contents. The
+-- ballots come with the first gate.
 unfoldable pub wiresAfter : List ℕ → List Gate → ℕ → List ℕ → List ℕ
 wiresAfter ballots gs zero ws = ws
 wiresAfter ballots gs (suc m) ws = wiresOf ballots (take (suc m) gs) ++ drop (length ballots + suc m) ws
 
--- Its board: the bits that these gates show, and behind them what was lent; once all gates are done, the whole board
--- with the closing bytes.
+-- Its board: the bits that these gates show, then the old contents; once all gates are done, the whole board with the
+-- closing bytes.
 unfoldable pub boardAfter : List ℕ → List Gate → ℕ → List ℕ → ℕ → List ℕ → List ℕ
 boardAfter ballots gs k tape m board =
     cond (ltb m (length gs))
     (shownBits (wiresOf ballots gs) (take m gs) tape ++ drop (conditionalCount (take m gs)) board)
     (boardOf (wiresOf ballots gs) gs k tape)
 
--- A jury that stated G gates, on its pieces p, when each jury was given so many gates, or all its gates where it has
--- fewer.
+-- A jury on its pieces p, once it was given `given` gates, or all its gates if it has fewer.
 unfoldable pub juryWires : ℕ → JuryHeader → Tables → List ℕ
 juryWires given s p = wiresAfter (p .ballots) (gatesOf (p .lists)) (min given (s .gates)) (p .wires)
 
@@ -48,20 +47,20 @@ wiresGiven given = through (juryWires given) (λ (t : Tables). t .wires)
 unfoldable pub boardsGiven : ℕ → List JuryHeader → Tables → List ℕ
 boardsGiven given = through (juryBoard given) (λ (t : Tables). t .boards)
 
--- Eight numbers, one for each jury and 0 past the last.
+-- Eight numbers, one for each jury, 0 past the last.
 unfoldable pub eightOf : (JuryHeader → Tables → ℕ) → List JuryHeader → Tables → List ℕ
 eightOf number ss = through (λ (s : JuryHeader) (p : Tables). number s p
     ∷ []) (λ (t : Tables). replicate (8 - length ss) 0) ss
 
--- Each board is as long as it was lent, C + k.
+-- Each board has the length C + k.
 abbrev pub BoardsLong : ℕ → List JuryHeader → Tables → Type 0
 BoardsLong given [] t = Unit {0}
 BoardsLong given (s ∷ ss) t = (length (juryBoard given s (piecesOf s t)) ≡ conditionalIn s t + s .candidates)
     × BoardsLong given ss (behind s t)
 
--- Where a call stands between two rounds: t is what was lent, no jury is turned away, and each was given so many
--- gates, or all its gates where it has fewer. wires and boards are what the two tables hold then; beside them each
--- jury's number of conditional gates and the number of its bits shown so far.
+-- A call between two rounds: t is what was lent, no jury is refused, and each was given `given` gates, or all its
+-- gates if it has fewer. `wires` and `boards` are what the two tables hold then; then come each jury's number of
+-- conditional gates, and of bits shown so far.
 pub record RoundState (given : ℕ) (ss : List JuryHeader) (t : Tables) (conditional wires boards shown : List ℕ) : Type
     0 where
   pub accepted : firstOf (juryReasons 0 ss t) ≡ none

@@ -1,4 +1,4 @@
--- The five tables that are lent for all juries of a call, and the pieces that a jury has in them (request 2.8).
+-- The five tables that are lent for all juries of a call, and a jury's pieces in them (request 2.8).
 use mathlib.Core.Bool.{cond}
 use mathlib.Core.List.{List, [], _∷_, _++_}
 use Prim.Native.Nat.{ℕ, _+_, _*_}
@@ -29,12 +29,12 @@ lent lists ballots tapes wires boards = record {
 abbrev pub shapeOf : JuryHeader → Shape
 shapeOf s = record { candidates = s .candidates; grades = s .grades; ballots = s .ballots }
 
--- A piece of n elements, where there are m: all n where they fit, and none where they do not.
+-- The length of a piece of n elements where m are left: n if they fit, else 0.
 unfoldable pub fitting : ℕ → ℕ → ℕ
 fitting n m = cond (leb n m) n 0
 
--- The first n elements where there are so many. A piece without room is empty; it is too short then, since no jury has
--- an empty piece but a tape for no conditional gate, which always fits.
+-- The first n elements if there are that many. A piece without room is empty, and so too short: only the tape of a
+-- list without conditional gates has length 0, and that always fits.
 unfoldable pub pieceOf : ℕ → List ℕ → List ℕ
 pieceOf n xs = take (fitting n (length xs)) xs
 
@@ -56,7 +56,7 @@ piecesOf s t =
     (pieceOf (ballotBytes (shapeOf s) + s .gates) (t .wires))
     (pieceOf (conditionalIn s t + s .candidates) (t .boards))
 
--- What is left of the tables behind these pieces, where the next jury's begin.
+-- The rest of the tables after these pieces, where the next jury's begin.
 unfoldable pub behind : JuryHeader → Tables → Tables
 behind s t =
     lent
@@ -66,7 +66,7 @@ behind s t =
     (drop (ballotBytes (shapeOf s) + s .gates) (t .wires))
     (drop (conditionalIn s t + s .candidates) (t .boards))
 
--- A table made of a piece for each jury, one after the other, and what lies behind the last.
+-- A table made of one piece for each jury, in order, then what follows the last.
 unfoldable pub through : (JuryHeader → Tables → List ℕ) → (Tables → List ℕ) → List JuryHeader → Tables → List ℕ
 through piece rest [] t = rest t
 through piece rest (s ∷ ss) t = piece s (piecesOf s t) ++ through piece rest ss (behind s t)

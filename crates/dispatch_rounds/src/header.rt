@@ -1,9 +1,9 @@
-// What a jury states, and where its pieces stand in the tables that are lent for all juries.
+// A jury's header, and where its pieces are in the tables that are lent for all juries.
 use jury::shape::Shape;
 ghost use mathlib.Core.Path.{_≡_};
 ghost use Rattle.dispatch_rounds.specs.inner.State.{placesAfter, PlacesFit};
 
-// A jury's shape and its number of gates, of any size until they are tested.
+// A jury's shape and its number of gates. They may be any numbers until they are tested.
 pub struct JuryHeader {
     pub candidates: usize,
     pub grades: usize,
@@ -21,7 +21,7 @@ pub struct Places {
 }
 
 impl Places {
-    // Where the next jury's pieces begin, behind those of a jury with so many conditional gates.
+    // Where the next jury's pieces begin: after those of a jury with this many conditional gates.
     pub fn after(self, header: JuryHeader, conditional: usize) -> Places
         requires { ⌜ PlacesFit self header conditional ⌝ }
         ensures { λ r. ⌜ r ≡ placesAfter self header conditional ⌝ }

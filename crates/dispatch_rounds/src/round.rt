@@ -1,4 +1,5 @@
-// A round: each jury that is not finished gets up to so many gates, in jury order.
+// A round: each unfinished jury, in order, does up to `quantum` gates (the S of request 2.8, `gates_per_round` in the
+// header for C).
 use crate::header::JuryHeader;
 use crate::header::Places;
 ghost use mathlib.Core.Path.{_≡_};
@@ -11,7 +12,7 @@ ghost use Rattle.dispatch_rounds.specs.Tables.{lent};
 ghost use Rattle.dispatch_rounds.specs.Rounds.{RoundState};
 ghost use Rattle.dispatch_rounds.specs.inner.State.{JuryState, TurnReady, RoundReady};
 
-// Puts a jury's ballots in its wire table with its first gate.
+// Puts a jury's ballots into its wire table before its first gate.
 fn load(given: usize, ballots: &[u8], wires: &mut [u8])
     requires { ⌜ length (now ballots) ≤ length (now wires) ⌝ }
     ensures { λ _.
@@ -26,8 +27,8 @@ fn load(given: usize, ballots: &[u8], wires: &mut [u8])
     }
 }
 
-// One jury's part of a round, on its own pieces: its next gates, a quantum of them at most. With the last gate the
-// closing bytes are put on the board. Answers the number of shown bits.
+// One jury's share of a round, on its own pieces: its next gates, at most `quantum` of them. With the last gate it
+// puts the closing bytes on the board. Answers the number of shown bits.
 fn turn(
     header: JuryHeader,
     given: usize,
@@ -68,9 +69,9 @@ fn turn(
     )
 }
 
-// One round more, `done` rounds having been before it. `RoundState` says what stands in the tables between two rounds:
-// of each jury the gates of all rounds so far, and nothing of a later gate. `before` holds how many bytes each jury
-// has shown; the answer holds how many it has shown after the round.
+// One more round after `done` rounds. `RoundState` says what the tables hold between two rounds: for each jury the
+// gates of all rounds so far, and nothing of a later gate. `before` has the number of bits that each jury has shown,
+// the answer their number after the round.
 pub fn round(
     count: usize,
     headers: [JuryHeader; 8],

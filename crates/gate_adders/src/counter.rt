@@ -2,17 +2,15 @@
 use crate::adder::full_adder;
 use crate::adder::half_adder;
 use crate::adder::increment;
-use gate_words::choice::chain_end;
 use gate_words::writer::Writer;
 use gates::kind;
-ghost use Prim.Native.Nat.{_+_, _*_, _≤_, _<_};
+ghost use Prim.Native.Nat.{_+_, _*_, _<_};
 ghost use mathlib.Core.Path.{_≡_};
 ghost use lib.ListN.{length};
 ghost use Rattle.gate_words.specs.Limits.{writerLimit};
-ghost use Rattle.gate_words.specs.Word.{Below};
-ghost use Rattle.gate_words.specs.Writing.{Room, Wrote};
-ghost use Rattle.gate_words.specs.Counter.{level, adders, levelSum, countLevels, countDigits, counter, addLevels};
-ghost use Rattle.gate_words.specs.Counter.{addDigits, accumulator, countSize, addSize, Countable};
+ghost use Rattle.gate_words.specs.Writing.{Wrote};
+ghost use Rattle.gate_words.specs.Counter.{level, adders, levelSum, countLevels, countDigitsAs, counter, countSize};
+ghost use Rattle.gate_words.specs.inner.Counts.{LevelReady, CountReady, CountDigitsReady, CountSizeReady};
 
 // The number of a level's adders.
 pub(crate) fn adders_of(count: u32, e: u32) -> u32
@@ -31,20 +29,22 @@ fn level_sum(n: u32, s: u32, count: u32, e: u32) -> u32
     if adders == 0 { s } else { n + 3 * adders - 2 }
 }
 
-// The number of gates of an accumulator's levels, which says how far apart two of its sums stand.
-pub fn add_size(count: u32, levels: u32) -> u32
-    requires { ⌜ (count < writerLimit) × (addSize count levels < writerLimit) ⌝ }
-    ensures { λ r. ⌜ r ≡ addSize count levels ⌝ }
+// The number of gates of a counter's levels: three for each carry, and a level's carries are the next one's bits.
+pub fn count_size(count: u32, extra: u32, levels: u32) -> u32
+    requires { ⌜ CountSizeReady count extra levels ⌝ }
+    ensures { λ r. ⌜ r ≡ countSize count extra levels ⌝ }
 {
     let mut gates: u32 = 0;
-    let mut m = count;
+    let mut carries = count;
+    let mut rest = extra;
     let mut left = levels;
     while 0 < left {
-        m = adders_of(m, 0);
-        gates += 3 * m;
+        carries = (carries + rest % 2) / 2;
+        gates += 3 * carries;
+        rest /= 2;
         left -= 1;
     }
-    gates + m
+    gates
 }
 
 // One level: adds to wire sum so many bits a stride apart, and a public bit.
@@ -57,8 +57,7 @@ pub(crate) fn level(
     e: u32,
     count: u32,
 ) -> Writer
-    requires { ⌜ Room start (length (level (start .wire) sum first stride e count)) ⌝ }
-    requires { ⌜ Below (start .wire) first stride count ⌝ }
+    requires { ⌜ LevelReady start (length (level (start .wire) sum first stride e count)) first stride count ⌝ }
     ensures { λ r. ⌜
         Wrote start (now (table .entry)) (level (start .wire) sum first stride e count) (now (table .exit)) r
         ⌝ }
@@ -84,7 +83,7 @@ pub(crate) fn level(
 }
 
 // The levels that count so many bits and a public number.
-fn count_levels(
+pub fn count_levels(
     start: Writer,
     table: &mut [u32],
     first: u32,
@@ -93,9 +92,7 @@ fn count_levels(
     extra: u32,
     levels: u32,
 ) -> Writer
-    requires { ⌜ Room start (countSize count extra levels) ⌝ }
-    requires { ⌜ Below (start .wire) first stride count ⌝ }
-    requires { ⌜ (stride < writerLimit) × (count < writerLimit) × Countable count extra levels ⌝ }
+    requires { ⌜ CountReady start (countSize count extra levels) first stride count extra levels ⌝ }
     ensures { λ r. ⌜
         Wrote start (now (table .entry)) (countLevels (start .wire) first stride count extra levels) (now (table .exit))
         r
@@ -119,21 +116,21 @@ fn count_levels(
     w
 }
 
-// Copies of the sums of the levels that start at wire base.
-fn count_digits(
+// The digits of the count whose levels start at wire base, by gates of the kind `low` and, for the top digit, `top`.
+pub fn count_digits(
     start: Writer,
     table: &mut [u32],
+    low: u32,
+    top: u32,
     base: u32,
     first: u32,
     count: u32,
     extra: u32,
     levels: u32,
 ) -> Writer
-    requires { ⌜ Room start (levels + 1) ⌝ }
-    requires { ⌜ base + countSize count extra levels ≤ start .wire ⌝ }
-    requires { ⌜ (count < writerLimit) × Countable count extra levels ⌝ }
+    requires { ⌜ CountDigitsReady start low top base count extra levels ⌝ }
     ensures { λ r. ⌜
-        Wrote start (now (table .entry)) (countDigits base first count extra levels) (now (table .exit)) r
+        Wrote start (now (table .entry)) (countDigitsAs low top base first count extra levels) (now (table .exit)) r
         ⌝ }
 {
     let mut w = start;
@@ -143,14 +140,14 @@ fn count_digits(
     let mut rest = extra;
     let mut left = levels;
     while 0 < left {
-        w = w.emit(table, kind::COPY, level_sum(n, at, m - 1, rest % 2), 0, 0);
+        w = w.emit(table, low, level_sum(n, at, m - 1, rest % 2), 0, 0);
         at = n + 2;
         m = adders_of(m - 1, rest % 2);
         n += 3 * m;
         rest /= 2;
         left -= 1;
     }
-    w.emit(table, kind::COPY, at, 0, 0)
+    w.emit(table, top, at, 0, 0)
 }
 
 // Counts so many bits a stride apart, and a public number.
@@ -163,101 +160,22 @@ pub fn counter(
     extra: u32,
     levels: u32,
 ) -> Writer
-    requires { ⌜ Room start (countSize count extra levels + (levels + 1)) ⌝ }
-    requires { ⌜ Below (start .wire) first stride count ⌝ }
-    requires { ⌜ (stride < writerLimit) × (count < writerLimit) × Countable count extra levels ⌝ }
+    requires { ⌜ CountReady start (countSize count extra levels + (levels + 1)) first stride count extra levels ⌝ }
     ensures { λ r. ⌜
         Wrote start (now (table .entry)) (counter (start .wire) first stride count extra levels) (now (table .exit)) r
         ⌝ }
 {
     let base = start.wire;
     let w = count_levels(start, table, first, stride, count, extra, levels);
-    count_digits(w, table, base, first, count, extra, levels)
-}
-
-// The levels that add so many bits to a word.
-fn add_levels(
-    start: Writer,
-    table: &mut [u32],
-    word: u32,
-    first: u32,
-    stride: u32,
-    count: u32,
-    levels: u32,
-) -> Writer
-    requires { ⌜ Room start (addSize count levels) ⌝ }
-    requires { ⌜ Below (start .wire) first stride count ⌝ }
-    requires { ⌜ (stride < writerLimit) × (count < writerLimit) × (word + levels < start .wire) ⌝ }
-    ensures { λ r. ⌜
-        Wrote start (now (table .entry)) (addLevels (start .wire) word first stride count levels) (now (table .exit)) r
-        ⌝ }
-{
-    let mut w = start;
-    let mut a = word;
-    let mut at = first;
-    let mut d = stride;
-    let mut m = count;
-    let mut left = levels;
-    while 0 < left {
-        let n = w.wire;
-        w = level(w, table, a, at, d, 0, m);
-        a += 1;
-        at = n + 2;
-        d = 3;
-        m = adders_of(m, 0);
-        left -= 1;
-    }
-    w.parity(table, a, at, d, m)
-}
-
-// Copies of the sums of the levels that start at wire base.
-fn add_digits(
-    start: Writer,
-    table: &mut [u32],
-    base: u32,
-    word: u32,
-    count: u32,
-    levels: u32,
-) -> Writer
-    requires { ⌜ Room start (levels + 1) ⌝ }
-    requires { ⌜ base + addSize count levels ≤ start .wire ⌝ }
-    requires { ⌜ (count < writerLimit) × (word + levels < start .wire) ⌝ }
-    ensures { λ r. ⌜ Wrote start (now (table .entry)) (addDigits base word count levels) (now (table .exit)) r ⌝ }
-{
-    let mut w = start;
-    let mut n = base;
-    let mut a = word;
-    let mut m = count;
-    let mut left = levels;
-    while 0 < left {
-        w = w.emit(table, kind::COPY, level_sum(n, a, m, 0), 0, 0);
-        a += 1;
-        m = adders_of(m, 0);
-        n += 3 * m;
-        left -= 1;
-    }
-    w.emit(table, kind::COPY, chain_end(n, a, m), 0, 0)
-}
-
-// Adds so many bits a stride apart to a word.
-pub fn accumulator(
-    start: Writer,
-    table: &mut [u32],
-    word: u32,
-    first: u32,
-    stride: u32,
-    count: u32,
-    levels: u32,
-) -> Writer
-    requires { ⌜ Room start (addSize count levels + (levels + 1)) ⌝ }
-    requires { ⌜ Below (start .wire) first stride count ⌝ }
-    requires { ⌜ (stride < writerLimit) × (count < writerLimit) × (word + levels < start .wire) ⌝ }
-    ensures { λ r. ⌜
-        Wrote start (now (table .entry)) (accumulator (start .wire) word first stride count levels) (now (table .exit))
-        r
-        ⌝ }
-{
-    let base = start.wire;
-    let w = add_levels(start, table, word, first, stride, count, levels);
-    add_digits(w, table, base, word, count, levels)
+    count_digits(
+        w,
+        table,
+        kind::COPY,
+        kind::COPY,
+        base,
+        first,
+        count,
+        extra,
+        levels,
+    )
 }

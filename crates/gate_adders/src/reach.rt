@@ -2,9 +2,10 @@
 use gate_words::choice::chain_end;
 use gate_words::writer::Writer;
 use gates::kind;
-ghost use Prim.Native.Nat.{suc, _+_, _*_, _≤_};
+ghost use Prim.Native.Nat.{suc, _+_, _*_};
 ghost use Rattle.gate_words.specs.Writing.{Room, Wrote};
 ghost use Rattle.gate_words.specs.Reach.{carryBit, carries, carriesBy, highReach, reachHalves, reach, reachSpan};
+ghost use Rattle.gate_words.specs.inner.Ready.{WordsReady};
 
 // The carry out of one digit and the public bit.
 fn carry_bit(w: Writer, table: &mut [u32], x: u32, y: u32, bit: u32) -> Writer
@@ -28,8 +29,7 @@ fn carry_next(w: Writer, table: &mut [u32], x: u32, y: u32, carry: u32) -> Write
 
 // The carry out of so many digits.
 fn carries(w: Writer, table: &mut [u32], x: u32, y: u32, carry: u32, digits: u32) -> Writer
-    requires { ⌜ Room w (2 * digits) ⌝ }
-    requires { ⌜ (x + digits ≤ w .wire) × (y + digits ≤ w .wire) ⌝ }
+    requires { ⌜ WordsReady w (2 * digits) x y digits ⌝ }
     ensures { λ r. ⌜ Wrote w (now (table .entry)) (carries (w .wire) x y carry digits) (now (table .exit)) r ⌝ }
 {
     let mut next = w;
@@ -46,8 +46,7 @@ fn carries(w: Writer, table: &mut [u32], x: u32, y: u32, carry: u32, digits: u32
 
 // The same where the wires from f on say in which digits the words differ.
 fn carries_by(w: Writer, table: &mut [u32], f: u32, x: u32, carry: u32, digits: u32) -> Writer
-    requires { ⌜ Room w digits ⌝ }
-    requires { ⌜ (f + digits ≤ w .wire) × (x + digits ≤ w .wire) ⌝ }
+    requires { ⌜ WordsReady w digits f x digits ⌝ }
     ensures { λ r. ⌜ Wrote w (now (table .entry)) (carriesBy (w .wire) f x carry digits) (now (table .exit)) r ⌝ }
 {
     let mut next = w;
@@ -64,8 +63,7 @@ fn carries_by(w: Writer, table: &mut [u32], f: u32, x: u32, carry: u32, digits: 
 
 // The high half, of high + 1 digits, into which wire `carry` carries.
 fn high_reach(w: Writer, table: &mut [u32], x: u32, y: u32, carry: u32, high: u32) -> Writer
-    requires { ⌜ Room w (3 * high + 2) ⌝ }
-    requires { ⌜ (x + suc high ≤ w .wire) × (y + suc high ≤ w .wire) ⌝ }
+    requires { ⌜ WordsReady w (3 * high + 2) x y (suc high) ⌝ }
     ensures { λ r. ⌜ Wrote w (now (table .entry)) (highReach (w .wire) x y carry high) (now (table .exit)) r ⌝ }
 {
     let n = w.wire;
@@ -87,8 +85,7 @@ fn reach_halves(
     low: u32,
     high: u32,
 ) -> Writer
-    requires { ⌜ Room w (2 * low + 3 * high + 3) ⌝ }
-    requires { ⌜ (x + suc (suc (low + high)) ≤ w .wire) × (y + suc (suc (low + high)) ≤ w .wire) ⌝ }
+    requires { ⌜ WordsReady w (2 * low + 3 * high + 3) x y (suc (suc (low + high))) ⌝ }
     ensures { λ r. ⌜ Wrote w (now (table .entry)) (reachHalves (w .wire) x y bit low high) (now (table .exit)) r ⌝ }
 {
     let n = w.wire;
@@ -99,8 +96,7 @@ fn reach_halves(
 
 // The sum of the words of above + 1 digits at x and y and the public bit: the last wire says that it has a digit more.
 pub fn reach(w: Writer, table: &mut [u32], x: u32, y: u32, bit: u32, above: u32) -> Writer
-    requires { ⌜ Room w (reachSpan above) ⌝ }
-    requires { ⌜ (x + suc above ≤ w .wire) × (y + suc above ≤ w .wire) ⌝ }
+    requires { ⌜ WordsReady w (reachSpan above) x y (suc above) ⌝ }
     ensures { λ r. ⌜ Wrote w (now (table .entry)) (reach (w .wire) x y bit above) (now (table .exit)) r ⌝ }
 {
     if above == 0 {

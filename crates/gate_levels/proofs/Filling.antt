@@ -1,4 +1,4 @@
--- Levels gate by gate: what is left after a gate is what was left before it.
+-- Levels gate by gate: doing a gate and then the rest is doing all that was left.
 -- Assumes nothing.
 use mathlib.Core.Path.{_≡_, _∙_, refl, sym, ap, subst}
 use mathlib.Core.Bool.{Bool, true, false, cond, _&&_}
@@ -44,7 +44,7 @@ same-true (x ∷ xs) (y ∷ ys) e = go (eqb x y) refl e (same-true xs ys)
     go false f e rest = let z : _≡_ {A = ℕ} 0 1 = cc in absurd (omega arith)
 
 module _ (inputs : ℕ) (table : List ℕ) where
-  -- Gates g and on are left.
+  -- The gates from g on are left.
   pub record Left (levels : List ℕ) (most g : ℕ) : Type 0 where
     pub order : g ≤ length (gatesOf table)
     pub long : length levels ≡ length (gatesOf table)
@@ -120,7 +120,7 @@ module _ (inputs : ℕ) (table : List ℕ) where
             small = omega (arith, ap largest taken, left .small, gate-most inputs (take g levels) x, mark-at-most-one (x .kind), own);
           })
 
-      -- a table that says otherwise is not that of the list
+      -- a table with another number here is not the list's
       pub other : (getD levels g 0 ≡ v → ⊥) → Other ≡ compared inputs (gatesOf table) levels
       unfolding compared
       other differs = go (sameNumbers levels (levelsOf inputs (gatesOf table))) refl
@@ -185,7 +185,7 @@ module _ (inputs : ℕ) (table : List ℕ) (g : ℕ) (levels : List ℕ) (ready 
         small-wire (getD table (4 * g + 3) 0) (subst (λ (x : Gate). x .c < inputs + g) n (ready .c-below)),
       )
 
--- an operand lies below the levels that are there
+-- an operand names an input or a gate whose level is known
 pub operands-in : (inputs : ℕ) (table : List ℕ) (g : ℕ) (levels : List ℕ) → LevelReady inputs table g levels
     → (getD table (4 * g + 1) 0 < inputs + length levels) × (getD table (4 * g + 2) 0 < inputs + length levels) × (getD table (4 * g + 3) 0 < inputs + length levels)
 operands-in inputs table g levels ready =

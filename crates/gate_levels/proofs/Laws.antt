@@ -36,7 +36,7 @@ pub length-levels : (inputs : ℕ) (gs : List Gate) → length (levelsOf inputs 
 unfolding levelsOf
 length-levels inputs gs = omega (arith, length-from inputs [] gs)
 
--- A wire's level is the same by any levels that agree below it.
+-- A wire's level depends only on the levels of the gates up to it.
 pub wire-level-same : (inputs n : ℕ) (ls ms : List ℕ) (x : ℕ) → x < inputs + n → ((i : ℕ) → i < n → getD ls i 0 ≡ getD ms i 0) → wireLevel inputs ls x ≡ wireLevel inputs ms x
 unfolding wireLevel
 wire-level-same inputs n ls ms x h e = go (ltb x inputs) refl
@@ -54,7 +54,7 @@ gate-level-same inputs n ls ms g b e =
       wire-level-same inputs n ls ms (g .c) (b .c-below) e,
     )
 
--- From gate n on, each gate's level is that of its operands in the same levels.
+-- From gate n on, each level is the one that its operands give.
 abbrev pub Leveled : ℕ → List ℕ → ℕ → List Gate → Type 0
 Leveled inputs ls n [] = Unit {0}
 Leveled inputs ls n (g ∷ gs) = (getD ls n 0 ≡ gateLevel inputs ls g) × Leveled inputs ls (suc n) gs
@@ -78,7 +78,7 @@ pub levels-leveled : (inputs : ℕ) (gs : List Gate) → 1 ≤ inputs → AllGoo
 unfolding levelsOf
 levels-leveled inputs gs pos good = from-leveled inputs [] gs pos (subst (λ (m : ℕ). AllGood m gs) (sym (add-zero inputs)) good)
 
--- An operand's level is at most the gate's, and below it where the gate is conditional.
+-- An operand's level is at most the gate's, and below it if the gate is conditional.
 pub record OperandLevels (inputs : ℕ) (ls : List ℕ) (g : Gate) : Type 0 where
   pub a-level : wireLevel inputs ls (g .a) + cond (conditionalOf (g .kind)) 1 0 ≤ gateLevel inputs ls g
   pub b-level : wireLevel inputs ls (g .b) + cond (conditionalOf (g .kind)) 1 0 ≤ gateLevel inputs ls g
@@ -88,7 +88,7 @@ pub operand-levels : (inputs : ℕ) (ls : List ℕ) (g : Gate) → OperandLevels
 unfolding gateLevel
 operand-levels inputs ls g = record { a-level = omega arith; b-level = omega arith; c-level = omega arith }
 
--- The largest level is at least each of them, and one of them where there are any.
+-- The largest level is at least each of them, and one of them if there are any.
 pub largest-most : (ls : List ℕ) (i : ℕ) → getD ls i 0 ≤ largest ls
 unfolding largest
 largest-most [] i = omega arith
@@ -104,7 +104,7 @@ pub largest-more : (ls : List ℕ) (l : ℕ) → largest (ls ++ (l ∷ [])) ≡ 
 unfolding largest
 largest-more ls l = omega (arith, largest-append ls (l ∷ []))
 
--- No wire is deeper than the largest level, so a gate adds at most its mark to it.
+-- No wire is deeper than the largest level, so a gate raises it by at most its mark.
 pub wire-most : (inputs : ℕ) (ls : List ℕ) (x : ℕ) → wireLevel inputs ls x ≤ largest ls
 unfolding wireLevel
 wire-most inputs ls x = go (ltb x inputs)

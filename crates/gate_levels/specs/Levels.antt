@@ -1,4 +1,4 @@
--- Levels: a gate's multiplicative depth. Whoever seals values opens the conditional gates of one level together.
+-- Levels: a gate's multiplicative depth. The conditional gates of one level can be opened together.
 use mathlib.Core.Bool.{cond}
 use mathlib.Core.List.{List, [], _∷_, _++_}
 use Prim.Native.Nat.{ℕ, _+_, _-_, max}
@@ -7,18 +7,18 @@ use lib.ListN.{getD}
 use Rattle.gates.specs.Kind.{conditionalOf}
 use Rattle.gates.specs.Gate.{Gate}
 
--- The level of wire x, where ls are the levels of the gates so far: an input has level 0.
+-- The level of wire x, given the levels ls of the gates so far. An input has level 0.
 unfoldable pub wireLevel : ℕ → List ℕ → ℕ → ℕ
 wireLevel inputs ls x = cond (ltb x inputs) 0 (getD ls (x - inputs) 0)
 
--- The largest level of the operands; one more where the gate is conditional. An operand that is not in use is 0, so
--- it names an input and adds nothing.
+-- The largest level of the operands, plus one if the gate is conditional. An unused operand is 0, so it names an
+-- input and adds nothing.
 unfoldable pub gateLevel : ℕ → List ℕ → Gate → ℕ
 gateLevel inputs ls g =
     max (max (wireLevel inputs ls (g .a)) (wireLevel inputs ls (g .b))) (wireLevel inputs ls (g .c))
     + cond (conditionalOf (g .kind)) 1 0
 
--- Each gate in turn adds one level behind those that are there.
+-- One level after another, each from those before it.
 unfoldable pub levelsFrom : ℕ → List ℕ → List Gate → List ℕ
 levelsFrom inputs ls [] = ls
 levelsFrom inputs ls (g ∷ gs) = levelsFrom inputs (ls ++ (gateLevel inputs ls g ∷ [])) gs

@@ -1,17 +1,17 @@
-// The levels of a list, written or compared. These are no entry points: a `requires` is what the test of a list
-// establishes.
+// The levels of a list, written or compared. Nothing here is an entry point: what a `requires` asks, the test of the
+// list establishes.
 use gates::kind;
 ghost use mathlib.Core.Path.{_≡_};
-ghost use Prim.Native.Nat.{_+_, _*_, _<_, max};
+ghost use Prim.Native.Nat.{_+_, _<_, max};
 ghost use lib.ListN.{length};
-ghost use Rattle.gates.specs.Kind.{conditionalMarks};
 ghost use Rattle.gates.specs.Gate.{gatesOf};
+ghost use Rattle.gates.specs.inner.Marked.{Marked};
 ghost use Rattle.gates.specs.inner.Step.{gateAt};
-ghost use Rattle.gate_levels.specs.Levels.{wireLevel, gateLevel, levelsOf, roundsOf};
-ghost use Rattle.gate_levels.specs.inner.Filling.{LevelReady, LevelsReady};
+ghost use Rattle.gate_levels.specs.Levels.{wireLevel, gateLevel};
+ghost use Rattle.gate_levels.specs.inner.Filling.{LevelReady, LevelsReady, Filled};
 ghost use Rattle.gate_levels.specs.Compared.{compared};
 
-// Whether a lent table holds the list's own levels, and then how many rounds they make.
+// Whether a lent table holds the list's own levels; if so, the number of rounds.
 pub enum Compared {
     Own { rounds: usize },
     Other,
@@ -44,10 +44,9 @@ fn wire_level(inputs: usize, levels: &[u32], x: u32) -> u32
     }
 }
 
-// The level of gate g, where those of the gates before it are in the table.
+// The level of gate g, given the levels of the gates before it.
 fn gate_level(marks: &[bool; 8], inputs: usize, table: &[u32], g: usize, levels: &[u32]) -> u32
-    requires { ⌜ now marks ≡ conditionalMarks ⌝ }
-    requires { ⌜ LevelReady inputs (now table) g (now levels) ⌝ }
+    requires { ⌜ Marked (now marks) (LevelReady inputs (now table) g (now levels)) ⌝ }
     ensures { λ r. ⌜ r ≡ gateLevel inputs (now (levels .entry)) (gateAt (now (table .entry)) g) ⌝ }
 {
     let at = 4 * g;
@@ -61,11 +60,10 @@ fn gate_level(marks: &[bool; 8], inputs: usize, table: &[u32], g: usize, levels:
     deepest
 }
 
-// Writes the level of each gate, and answers the largest.
+// Writes the level of each gate, and answers the largest: R.
 pub fn write(inputs: usize, table: &[u32], levels: &mut [u32]) -> usize
     requires { ⌜ LevelsReady inputs (now table) (now levels) ⌝ }
-    ensures { λ r. ⌜ r ≡ roundsOf inputs (gatesOf (now (table .entry))) ⌝ }
-    ensures { λ _. ⌜ now (levels .exit) ≡ levelsOf inputs (gatesOf (now (table .entry))) ⌝ }
+    ensures { λ r. ⌜ Filled inputs (now (table .entry)) r (now (levels .exit)) ⌝ }
 {
     let marks = kind::CONDITIONAL;
     let gates = levels.len();

@@ -1,3 +1,3 @@
-// Levels of a gate list: how many conditional gates lie one behind the other, up to each gate.
+// Levels of a gate list: the multiplicative depth of each gate.
 // This crate knows gates and wires, and nothing of juries.
 pub mod level;

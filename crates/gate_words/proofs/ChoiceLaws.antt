@@ -1,33 +1,17 @@
 -- What copies, complements, choices and chains spell.
 -- Assumes nothing.
 use mathlib.Core.Path.{_≡_, _∙_, sym, ap}
-use Prim.Native.Nat.{ℕ, zero, suc, _+_, _^_, _<_}
-use native.Mathlib.Nat.{pow-succ'}
+use Prim.Native.Nat.{ℕ, zero, suc, _+_, _<_}
 use native.Mathlib.Omega.{arith}
 use Rattle.gates.proofs.Laws.{Holds, mux-zero, mux-one}
-use Rattle.gate_words.specs.Gates.{copyOf, notOf, andOf, orOf, muxOf}
+use Rattle.gate_words.specs.Gates.{andOf, orOf, muxOf}
 use Rattle.gate_words.specs.Word.{ones, number}
-use Rattle.gate_words.specs.Choice.{each, copies, complements, choose, masked, chain, chainEnd, anyOf}
+use Rattle.gate_words.specs.Choice.{choose, masked, chain, chainEnd, anyOf}
 use Rattle.gate_words.proofs.Numbers.{Binary, number-none, number-more, ones-none, ones-more}
-use Rattle.gate_words.proofs.GateValues.{holds-first, holds-rest, copy-is, not-is, and-is, or-is}
+use Rattle.gate_words.proofs.GateValues.{holds-first, holds-rest, and-is, or-is}
 use Rattle.gate_words.proofs.ChoiceSteps.{chain-next}
 
 module _ (W : ℕ → ℕ) (b : Binary W) where
-  pub copies-law : (n x w : ℕ) → Holds W n (copies x w) → number W n 1 w ≡ number W x 1 w
-  unfolding each
-  copies-law n x zero h = omega (arith, number-none W n 1, number-none W x 1)
-  copies-law n x (suc w) h =
-      let r = copies-law (n + 1) (x + 1) w (holds-rest W n (copyOf x) (copies (x + 1) w) h) in
-      omega (arith, r, number-more W n 1 w, number-more W x 1 w, holds-first W n (copyOf x) (copies (x + 1) w) h, copy-is W b x)
-
-  pub complements-law : (n x w : ℕ) → Holds W n (complements x w) → number W n 1 w + number W x 1 w + 1 ≡ 2 ^ w
-  unfolding each
-  complements-law n x zero h = omega (arith, number-none W n 1, number-none W x 1)
-  complements-law n x (suc w) h =
-      let e = pow-succ' 2 w in
-      let r = complements-law (n + 1) (x + 1) w (holds-rest W n (notOf x) (complements (x + 1) w) h) in
-      omega (arith, e, r, b x, number-more W n 1 w, number-more W x 1 w, holds-first W n (notOf x) (complements (x + 1) w) h, not-is W b x)
-
   pub choose-one : (n f x y w : ℕ) → W f ≡ 1 → Holds W n (choose f x y w) → number W n 1 w ≡ number W x 1 w
   unfolding choose
   choose-one n f x y zero e h = omega (arith, number-none W n 1, number-none W x 1)

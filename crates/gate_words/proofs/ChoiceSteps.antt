@@ -7,7 +7,7 @@ use native.Mathlib.Nat.{add-zero}
 use native.Mathlib.Omega.{arith}
 use lib.ListN.{length}
 use Rattle.gate_words.specs.Gates.{gate, andOf, muxOf}
-use Rattle.gate_words.specs.Choice.{each, choose, masked, chain, chainEnd}
+use Rattle.gate_words.specs.Choice.{choose, masked, chain, chainEnd}
 use Rattle.basics.proofs.Arithmetic.{count-down}
 
 -- digits that are left count down
@@ -17,10 +17,6 @@ left-one i n h = omega arith
 pub next-place : (x i : ℕ) → x + i + 1 ≡ x + (i + 1)
 next-place x i = omega arith
 
-pub each-step : (kind x i n : ℕ) → i < n → each kind (x + i) (n - i) ≡ (gate kind (x + i) 0 0 ∷ []) ++ each kind (x + (i + 1)) (n - (i + 1))
-unfolding each
-each-step kind x i n h = rw (left-one i n h, next-place x i)
-
 pub choose-step : (f x y i n : ℕ) → i < n → choose f (x + i) (y + i) (n - i) ≡ (muxOf f (x + i) (y + i) ∷ []) ++ choose f (x + (i + 1)) (y + (i + 1)) (n - (i + 1))
 unfolding choose
 choose-step f x y i n h = rw (left-one i n h, next-place x i, next-place y i)
@@ -28,11 +24,6 @@ choose-step f x y i n h = rw (left-one i n h, next-place x i, next-place y i)
 pub masked-step : (f x i n : ℕ) → i < n → masked f (x + i) (n - i) ≡ (andOf f (x + i) ∷ []) ++ masked f (x + (i + 1)) (n - (i + 1))
 unfolding masked
 masked-step f x i n h = rw (left-one i n h, next-place x i)
-
-pub length-each : (kind x w : ℕ) → length (each kind x w) ≡ w
-unfolding each
-length-each kind x zero = refl
-length-each kind x (suc w) = ap suc (length-each kind (x + 1) w)
 
 pub length-choose : (f x y w : ℕ) → length (choose f x y w) ≡ w
 unfolding choose
@@ -56,10 +47,6 @@ chain-step kind n s at d m h = ap (chain kind n s at d) (count-down m h) ∙ fir
     first m = unfold chain in refl
 
 -- nothing is left
-pub each-none : (kind x i n : ℕ) → n ≤ i → each kind x (n - i) ≡ []
-unfolding each
-each-none kind x i n h = let e : n - i ≡ 0 = omega arith in rw e
-
 pub choose-none : (f x y i n : ℕ) → n ≤ i → choose f x y (n - i) ≡ []
 unfolding choose
 choose-none f x y i n h = let e : n - i ≡ 0 = omega arith in rw e

@@ -11,12 +11,12 @@ use Rattle.gate_words.specs.Gates.{copyOf, xorOf}
 use Rattle.gate_words.specs.Word.{ones, number}
 use Rattle.gate_words.specs.Adder.{fullAdder}
 use Rattle.gate_words.specs.Choice.{chain, chainEnd, parity}
-use Rattle.gate_words.specs.Counter.{level, adders, levelSum, countLevels, countDigits, counter, countSize, Countable, addLevels, addDigits, accumulator, addSize}
+use Rattle.gate_words.specs.Counter.{level, adders, levelSum, countLevels, countDigitsAs, countDigits, counter, countSize, Countable}
 use Rattle.gate_words.proofs.Numbers.{Binary, ones-none, ones-more, number-one, number-more}
 use Rattle.gate_words.proofs.GateValues.{holds-first, holds-rest, copy-is, xor-is}
 use Rattle.gate_words.proofs.ChoiceSteps.{chain-next}
 use Rattle.gate_words.proofs.WordSteps.{length-full}
-use Rattle.gate_words.proofs.CounterSteps.{length-level, length-count, length-add-levels}
+use Rattle.gate_words.proofs.CounterSteps.{length-level, length-count}
 use Rattle.gate_words.proofs.AdderLaws.{full-law, half-law, increment-law}
 
 -- the wire of a level's sum
@@ -80,7 +80,7 @@ module _ (W : ℕ → ℕ) (b : Binary W) where
   -- the digits of a count: the levels stand at n, and the copies of their sums at q
   pub count-law : (n at d m x r q : ℕ) → Countable m x r → Holds W n (countLevels n at d m x r) → Holds W q (countDigits n at m x r)
       → number W q 1 (suc r) ≡ ones W at d m + x
-  unfolding countLevels countDigits
+  unfolding countLevels countDigitsAs
   count-law n at d m x zero q k h g =
       rw (k .0, k .1) (omega (arith, number-one W q 1, holds-first W q (copyOf at) [] g, copy-is W b at, ones-more W at d 0, ones-none W (at + d) d))
   count-law n at d m x (suc r) q k h g =
@@ -121,33 +121,6 @@ module _ (W : ℕ → ℕ) (b : Binary W) where
       let g = holds-first W n (xorOf s at) (parity (n + 1) n (at + d) d m) h ∙ xor-is W b s at in
       let r = parity-law (n + 1) n (at + d) d m (holds-rest W n (xorOf s at) (parity (n + 1) n (at + d) d m) h) in
       omega (arith, g, r, ap W (chain-next n s m), ones-more W at d m)
-
-  -- the digits of a sum of a word and m bits that has no digit more
-  pub sum-law : (n a at d m r q : ℕ) → number W a 1 (suc r) + ones W at d m < 2 ^ suc r → Holds W n (addLevels n a at d m r) → Holds W q (addDigits n a m r)
-      → number W q 1 (suc r) ≡ number W a 1 (suc r) + ones W at d m
-  unfolding addLevels addDigits
-  sum-law n a at d m zero q k h g =
-      omega (arith, number-one W q 1, number-one W a 1, holds-first W q (copyOf (chainEnd n a m)) [] g, copy-is W b (chainEnd n a m), parity-law n a at d m h)
-  sum-law n a at d m (suc r) q k h g =
-      let t = adders m 0 in
-      let lev = level n a at d 0 m in
-      let rest = addLevels (n + 3 * t) (a + 1) (n + 2) 3 t r in
-      let digits = addDigits (n + 3 * t) (a + 1) t r in
-      let p = holds-append W n lev rest h in
-      let f = level-law n a at d 0 m (omega arith) (p .0) in
-      let size = pow-succ' 2 (suc r) in
-      let above = sum-law (n + 3 * t) (a + 1) (n + 2) 3 t r (q + 1) (omega (arith, f, size, number-more W a 1 (suc r)))
-      (subst (λ (z : ℕ). Holds W z rest) (ap (λ (z : ℕ). n + z) (length-level n a at d 0 m (omega arith))) (p .1))
-      (holds-rest W q (copyOf (levelSum n a m 0)) digits g) in
-      omega (arith, f, above, number-more W q 1 (suc r), number-more W a 1 (suc r), holds-first W q (copyOf (levelSum n a m 0)) digits g, copy-is W b (levelSum n a m 0))
-
-  pub accumulator-law : (n a at d m r : ℕ) → number W a 1 (suc r) + ones W at d m < 2 ^ suc r → Holds W n (accumulator n a at d m r)
-      → number W (n + addSize m r) 1 (suc r) ≡ number W a 1 (suc r) + ones W at d m
-  unfolding accumulator
-  accumulator-law n a at d m r k h =
-      let p = holds-append W n (addLevels n a at d m r) (addDigits n a m r) h in
-      sum-law n a at d m r (n + addSize m r) k (p .0)
-      (subst (λ (z : ℕ). Holds W z (addDigits n a m r)) (ap (λ (z : ℕ). n + z) (length-add-levels n a at d m r)) (p .1))
 
 -- m bits and a number are countable in r + 1 digits where their most needs just those digits and the number fits below the top one
 pub countable : (m x r : ℕ) → 2 ^ r ≤ m + x → m + x < 2 ^ suc r → x < 2 ^ r → Countable m x r

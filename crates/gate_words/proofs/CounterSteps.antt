@@ -3,17 +3,14 @@
 use mathlib.Core.Path.{_≡_, _∙_, refl, sym, ap, subst₂}
 use mathlib.Core.List.{[], _∷_, _++_, append-nil}
 use Prim.Native.Nat.{ℕ, zero, suc, _+_, _-_, _*_, _/_, _%_, _<_, _≤_}
-use native.Mathlib.Nat.{suc-mul, zero-mul}
+use native.Mathlib.Nat.{suc-mul}
 use native.Mathlib.Omega.{arith}
 use lib.ListN.{length, length-append}
 use borrow.Author.Tests.{eq-eqb, ne-eqb}
-use Rattle.gate_words.specs.Limits.{writerLimit}
 use Rattle.gate_words.specs.Adder.{fullAdder, halfAdder, increment}
-use Rattle.gate_words.specs.Gates.{copyOf}
+use Rattle.gate_words.specs.Gates.{gate}
 use Rattle.gate_words.specs.Word.{Below}
-use Rattle.gate_words.specs.Choice.{parity, chainEnd}
-use Rattle.gate_words.specs.Counter.{level, adders, levelSum, countLevels, countDigits, counter, countSize, Countable, addLevels, addDigits, accumulator, addSize}
-use Rattle.gate_words.proofs.ChoiceSteps.{length-chain}
+use Rattle.gate_words.specs.Counter.{level, adders, levelSum, countLevels, countDigitsAs, countDigits, counter, countSize, Countable}
 use Rattle.gate_words.proofs.WordSteps.{length-full, length-half, length-increment}
 use Rattle.basics.proofs.Arithmetic.{count-down}
 
@@ -64,16 +61,18 @@ pub count-none : (n at d m x r : ℕ) → r ≤ 0 → countLevels n at d m x r �
 unfolding countLevels
 count-none n at d m x r h = rw (nothing r h)
 
-pub digits-step : (n at m x r : ℕ) → 0 < r
-    → countDigits n at m x r ≡ (copyOf (levelSum n at (m - 1) (x % 2)) ∷ []) ++ countDigits (n + 3 * adders (m - 1) (x % 2)) (n + 2) (adders (m - 1) (x % 2)) (x / 2) (r - 1)
-digits-step n at m x r h = ap (countDigits n at m x) (count-down r h) ∙ first (r - 1)
+pub digits-step : (low top n at m x r : ℕ) → 0 < r
+    → countDigitsAs low top n at m x r
+    ≡ (gate low (levelSum n at (m - 1) (x % 2)) 0 0 ∷ []) ++ countDigitsAs low top (n + 3 * adders (m - 1) (x % 2)) (n + 2) (adders (m - 1) (x % 2)) (x / 2) (r - 1)
+digits-step low top n at m x r h = ap (countDigitsAs low top n at m x) (count-down r h) ∙ first (r - 1)
   where
-    first : (r : ℕ) → countDigits n at m x (suc r) ≡ (copyOf (levelSum n at (m - 1) (x % 2)) ∷ []) ++ countDigits (n + 3 * adders (m - 1) (x % 2)) (n + 2) (adders (m - 1) (x % 2)) (x / 2) r
-    first r = unfold countDigits in refl
+    first : (r : ℕ) → countDigitsAs low top n at m x (suc r)
+        ≡ (gate low (levelSum n at (m - 1) (x % 2)) 0 0 ∷ []) ++ countDigitsAs low top (n + 3 * adders (m - 1) (x % 2)) (n + 2) (adders (m - 1) (x % 2)) (x / 2) r
+    first r = unfold countDigitsAs in refl
 
-pub digits-last : (n at m x r : ℕ) → r ≤ 0 → countDigits n at m x r ≡ (copyOf at ∷ []) ++ []
-unfolding countDigits
-digits-last n at m x r h = rw (nothing r h)
+pub digits-last : (low top n at m x r : ℕ) → r ≤ 0 → countDigitsAs low top n at m x r ≡ (gate top at 0 0 ∷ []) ++ []
+unfolding countDigitsAs
+digits-last low top n at m x r h = rw (nothing r h)
 
 pub count-size-step : (m x r : ℕ) → 0 < r → countSize m x r ≡ 3 * adders (m - 1) (x % 2) + countSize (adders (m - 1) (x % 2)) (x / 2) (r - 1)
 count-size-step m x r h = ap (countSize m x) (count-down r h) ∙ first (r - 1)
@@ -92,64 +91,14 @@ length-count n at d m x (suc r) =
     let t = adders (m - 1) (x % 2) in
     omega (arith, length-append (level n at (at + d) d (x % 2) (m - 1)) (countLevels (n + 3 * t) (n + 2) 3 t (x / 2) r), length-level n at (at + d) d (x % 2) (m - 1) (omega arith), length-count (n + 3 * t) (n + 2) 3 t (x / 2) r)
 
-pub length-digits : (n at m x r : ℕ) → length (countDigits n at m x r) ≡ r + 1
-unfolding countDigits
-length-digits n at m x zero = refl
-length-digits n at m x (suc r) = omega (arith, length-digits (n + 3 * adders (m - 1) (x % 2)) (n + 2) (adders (m - 1) (x % 2)) (x / 2) r)
-
--- the first level of an accumulator, and the others
-pub add-levels-step : (n a at d m r : ℕ) → 0 < r
-    → addLevels n a at d m r ≡ level n a at d 0 m ++ addLevels (n + 3 * adders m 0) (a + 1) (n + 2) 3 (adders m 0) (r - 1)
-add-levels-step n a at d m r h = ap (addLevels n a at d m) (count-down r h) ∙ first (r - 1)
-  where
-    first : (r : ℕ) → addLevels n a at d m (suc r) ≡ level n a at d 0 m ++ addLevels (n + 3 * adders m 0) (a + 1) (n + 2) 3 (adders m 0) r
-    first r = unfold addLevels in refl
-
-pub add-levels-last : (n a at d m r : ℕ) → r ≤ 0 → addLevels n a at d m r ≡ parity n a at d m ++ []
-add-levels-last n a at d m r h = last (nothing r h) ∙ sym (append-nil (parity n a at d m))
-  where
-    last : r ≡ 0 → addLevels n a at d m r ≡ parity n a at d m
-    last e = unfold addLevels in (rw e)
-
-pub add-digits-step : (n a m r : ℕ) → 0 < r → addDigits n a m r ≡ (copyOf (levelSum n a m 0) ∷ []) ++ addDigits (n + 3 * adders m 0) (a + 1) (adders m 0) (r - 1)
-add-digits-step n a m r h = ap (addDigits n a m) (count-down r h) ∙ first (r - 1)
-  where
-    first : (r : ℕ) → addDigits n a m (suc r) ≡ (copyOf (levelSum n a m 0) ∷ []) ++ addDigits (n + 3 * adders m 0) (a + 1) (adders m 0) r
-    first r = unfold addDigits in refl
-
-pub add-digits-last : (n a m r : ℕ) → r ≤ 0 → addDigits n a m r ≡ (copyOf (chainEnd n a m) ∷ []) ++ []
-unfolding addDigits
-add-digits-last n a m r h = rw (nothing r h)
-
-pub add-size-step : (m r : ℕ) → 0 < r → addSize m r ≡ 3 * adders m 0 + addSize (adders m 0) (r - 1)
-add-size-step m r h = ap (addSize m) (count-down r h) ∙ first (r - 1)
-  where
-    first : (r : ℕ) → addSize m (suc r) ≡ 3 * adders m 0 + addSize (adders m 0) r
-    first r = unfold addSize in refl
-
-pub add-size-last : (m r : ℕ) → r ≤ 0 → addSize m r ≡ m
-unfolding addSize
-add-size-last m r h = rw (nothing r h)
-
-pub length-add-levels : (n a at d m r : ℕ) → length (addLevels n a at d m r) ≡ addSize m r
-unfolding addLevels addSize
-length-add-levels n a at d m zero = length-chain 6 n a at d m
-length-add-levels n a at d m (suc r) =
-    let t = adders m 0 in
-    omega (arith, length-append (level n a at d 0 m) (addLevels (n + 3 * t) (a + 1) (n + 2) 3 t r), length-level n a at d 0 m (omega arith), length-add-levels (n + 3 * t) (a + 1) (n + 2) 3 t r)
-
-pub length-add-digits : (n a m r : ℕ) → length (addDigits n a m r) ≡ r + 1
-unfolding addDigits
-length-add-digits n a m zero = refl
-length-add-digits n a m (suc r) = omega (arith, length-add-digits (n + 3 * adders m 0) (a + 1) (adders m 0) r)
+pub length-digits : (low top n at m x r : ℕ) → length (countDigitsAs low top n at m x r) ≡ r + 1
+unfolding countDigitsAs
+length-digits low top n at m x zero = refl
+length-digits low top n at m x (suc r) = omega (arith, length-digits low top (n + 3 * adders (m - 1) (x % 2)) (n + 2) (adders (m - 1) (x % 2)) (x / 2) r)
 
 pub length-counter : (n at d m x r : ℕ) → length (counter n at d m x r) ≡ countSize m x r + (r + 1)
 unfolding counter
-length-counter n at d m x r = omega (arith, length-append (countLevels n at d m x r) (countDigits n at m x r), length-count n at d m x r, length-digits n at m x r)
-
-pub length-accumulator : (n a at d m r : ℕ) → length (accumulator n a at d m r) ≡ addSize m r + (r + 1)
-unfolding accumulator
-length-accumulator n a at d m r = omega (arith, length-append (addLevels n a at d m r) (addDigits n a m r), length-add-levels n a at d m r, length-add-digits n a m r)
+length-counter n at d m x r = omega (arith, length-append (countLevels n at d m x r) (countDigits n at m x r), length-count n at d m x r, length-digits 2 2 n at m x r)
 
 -- a level's carries are there once it is written
 pub below-carries : (n t : ℕ) → Below (n + 3 * t) (n + 2) 3 t
@@ -160,19 +109,9 @@ pub few-adders : (m e : ℕ) → e ≤ 1 → adders m e ≤ m + 1
 unfolding adders
 few-adders m e h = omega arith
 
-pub adders-small : (m t : ℕ) → t ≡ adders m 0 → m < writerLimit → t < writerLimit
-unfolding adders
-adders-small m t e h = omega arith
-
 -- a level has at most as many adders as the bits it may have, so each is at most twice as many gates and two
 pub count-size-most : (m x r most : ℕ) → m ≤ most → 0 < most → countSize m x r ≤ r * (2 * most + 2)
 unfolding countSize adders
 count-size-most m x zero most h l = omega arith
 count-size-most m x (suc r) most h l =
     omega (arith, count-size-most ((m - 1 + x % 2 + 1) / 2) (x / 2) r most (omega arith) l, suc-mul r (2 * most + 2))
-
-pub add-size-most : (m r most : ℕ) → m ≤ most → 0 < most → addSize m r ≤ r * (2 * most + 2) + most
-unfolding addSize adders
-add-size-most m zero most h l = omega (arith, zero-mul (2 * most + 2))
-add-size-most m (suc r) most h l =
-    omega (arith, add-size-most ((m + 0 + 1) / 2) r most (omega arith) l, suc-mul r (2 * most + 2))

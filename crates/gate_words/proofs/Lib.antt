@@ -15,5 +15,6 @@ pub mod PointsBack
 pub mod Ends
 pub mod HalvesLaws
 pub mod ReachLaws
+pub mod RowLaws
 pub mod Standing
 pub mod Laws

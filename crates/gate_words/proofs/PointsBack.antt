@@ -16,14 +16,13 @@ use Rattle.gates.proofs.Laws.{AllGood, good-none, good-one, good-two, good-thre
 use Rattle.gate_words.specs.Gates.{constant, copyOf, notOf, andOf, orOf, xorOf, muxOf}
 use Rattle.gate_words.specs.Word.{Below}
 use Rattle.gate_words.specs.Adder.{fullAdder, halfAdder, increment}
-use Rattle.gate_words.specs.Choice.{each, choose, masked, chain, chainEnd}
+use Rattle.gate_words.specs.Choice.{choose, masked, chain}
 use Rattle.gate_words.specs.Comparison.{firstDigit, compareWords, differences, above}
-use Rattle.gate_words.specs.Counter.{level, adders, levelSum, countLevels, countDigits, counter, countSize, Countable, addLevels, addDigits, accumulator, addSize}
+use Rattle.gate_words.specs.Counter.{level, adders, levelSum, countLevels, countDigitsAs, countDigits, counter, countSize, Countable}
 use Rattle.gate_words.proofs.Places.{below-more, below-first}
 use Rattle.gate_words.proofs.Emitting.{bit-none-used}
 use Rattle.gate_words.proofs.WordSteps.{length-full}
-use Rattle.gate_words.proofs.CounterSteps.{length-level, length-count, length-add-levels, below-carries, count-size-step, add-size-step, add-size-last}
-use Rattle.gate_words.proofs.Ends.{chain-below}
+use Rattle.gate_words.proofs.CounterSteps.{length-level, length-count, below-carries, count-size-step}
 
 pub good-constant : (n v : ℕ) → T (goodGate n (constant v))
 good-constant n v = good-none n (v % 2) (omega arith) (bit-none-used (v % 2) (omega arith))
@@ -72,17 +71,6 @@ half-good n s u e hs hu =
 pub increment-good : (n s : ℕ) → s < n → AllGood n (increment n s)
 unfolding increment
 increment-good n s hs = (good-not n s hs, (good-copy (suc n) n (omega arith), (good-copy (suc (suc n)) s (omega arith), tt)))
-
-pub each-good : (n kind x w : ℕ) → kind < 8 → operandsOf kind ≡ 1 → x + w ≤ n → AllGood n (each kind x w)
-unfolding each
-each-good n kind x zero k e h = tt
-each-good n kind x (suc w) k e h = (good-one n kind x k e (omega arith), each-good (suc n) kind (x + 1) w k e (omega arith))
-
-pub copies-good : (n x w : ℕ) → x + w ≤ n → AllGood n (each 2 x w)
-copies-good n x w h = each-good n 2 x w (omega arith) (operand-counts .2) h
-
-pub complements-good : (n x w : ℕ) → x + w ≤ n → AllGood n (each 3 x w)
-complements-good n x w h = each-good n 3 x w (omega arith) (operand-counts .3) h
 
 pub choose-good : (n f x y w : ℕ) → f < n → x + w ≤ n → y + w ≤ n → AllGood n (choose f x y w)
 unfolding choose
@@ -176,44 +164,21 @@ pub countable-some : (m x r : ℕ) → Countable m x r → 0 < m
 countable-some m x zero k = omega (arith, k .0)
 countable-some m x (suc r) k = k .0
 
-pub count-digits-good : (n at m x r q : ℕ) → at < q → n + countSize m x r ≤ q → Countable m x r → AllGood q (countDigits n at m x r)
-unfolding countDigits
-count-digits-good n at m x zero q ha h k = (good-copy q at ha, tt)
-count-digits-good n at m x (suc r) q ha h k =
+pub count-digits-good : (low top n at m x r q : ℕ) → low < 8 → operandsOf low ≡ 1 → top < 8 → operandsOf top ≡ 1 → at < q → n + countSize m x r ≤ q → Countable m x r
+    → AllGood q (countDigitsAs low top n at m x r)
+unfolding countDigitsAs
+count-digits-good low top n at m x zero q l₁ l₂ t₁ t₂ ha h k = (good-one q top at t₁ t₂ ha, tt)
+count-digits-good low top n at m x (suc r) q l₁ l₂ t₁ t₂ ha h k =
     let t = adders (m - 1) (x % 2) in
     let size = count-size-step m x (suc r) (omega arith) in
     let down : suc r - 1 ≡ r = omega arith in
     let rest = ap (countSize t (x / 2)) down in (
-      good-copy q (levelSum n at (m - 1) (x % 2)) (sum-below n at (m - 1) (x % 2) q ha (omega arith)),
-      count-digits-good (n + 3 * t) (n + 2) t (x / 2) r (suc q) (omega (arith, countable-some t (x / 2) r (k .1))) (omega arith) (k .1),
+      good-one q low (levelSum n at (m - 1) (x % 2)) l₁ l₂ (sum-below n at (m - 1) (x % 2) q ha (omega arith)),
+      count-digits-good low top (n + 3 * t) (n + 2) t (x / 2) r (suc q) l₁ l₂ t₁ t₂ (omega (arith, countable-some t (x / 2) r (k .1))) (omega arith) (k .1),
     )
 
 pub counter-good : (n at d m x r : ℕ) → Below n at d m → Countable m x r → AllGood n (counter n at d m x r)
 unfolding counter
 counter-good n at d m x r bl k =
     behind n (countSize m x r) (countLevels n at d m x r) (countDigits n at m x r) (length-count n at d m x r) (count-levels-good n at d m x r bl k)
-    (count-digits-good n at m x r (n + countSize m x r) (omega (arith, below-first n at d m (countable-some m x r k) bl)) (omega arith) k)
-
-pub add-levels-good : (n a at d m r : ℕ) → a + r < n → Below n at d m → AllGood n (addLevels n a at d m r)
-unfolding addLevels
-add-levels-good n a at d m zero ha bl = chain-good n 6 a at d m (omega arith) (operand-counts .6) (omega arith) bl
-add-levels-good n a at d m (suc r) ha bl =
-    let t = adders m 0 in
-    behind n (3 * t) (level n a at d 0 m) (addLevels (n + 3 * t) (a + 1) (n + 2) 3 t r) (length-level n a at d 0 m (omega arith)) (level-good n a at d 0 m (omega arith) bl)
-    (add-levels-good (n + 3 * t) (a + 1) (n + 2) 3 t r (omega arith) (below-carries n t))
-
-pub add-digits-good : (n a m r q : ℕ) → a + r < q → n + addSize m r ≤ q → AllGood q (addDigits n a m r)
-unfolding addDigits
-add-digits-good n a m zero q ha h = (good-copy q (chainEnd n a m) (chain-below n a m q (omega arith) (omega (arith, add-size-last m 0 (omega arith)))), tt)
-add-digits-good n a m (suc r) q ha h =
-    let t = adders m 0 in
-    let size = add-size-step m (suc r) (omega arith) in
-    let down : suc r - 1 ≡ r = omega arith in
-    let rest = ap (addSize t) down in
-    (good-copy q (levelSum n a m 0) (sum-below n a m 0 q (omega arith) (omega arith)), add-digits-good (n + 3 * t) (a + 1) t r (suc q) (omega arith) (omega arith))
-
-pub accumulator-good : (n a at d m r : ℕ) → a + r < n → Below n at d m → AllGood n (accumulator n a at d m r)
-unfolding accumulator
-accumulator-good n a at d m r ha bl =
-    behind n (addSize m r) (addLevels n a at d m r) (addDigits n a m r) (length-add-levels n a at d m r) (add-levels-good n a at d m r ha bl)
-    (add-digits-good n a m r (n + addSize m r) (omega arith) (omega arith))
+    (count-digits-good 2 2 n at m x r (n + countSize m x r) (omega arith) (operand-counts .2) (omega arith) (operand-counts .2) (omega (arith, below-first n at d m (countable-some m x r k) bl)) (omega arith) k)

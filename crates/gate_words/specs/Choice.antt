@@ -1,20 +1,8 @@
--- Blocks of one gate a wire: constants, copies, complements, one of two words, a word or 0; whether one of some wires
--- is 1, and their sum modulo 2.
+-- Blocks of one gate a wire: one of two words, a word or 0; whether one of some wires is 1, and their sum modulo 2.
 use mathlib.Core.List.{List, [], _∷_}
 use Prim.Native.Nat.{ℕ, zero, suc, _+_}
 use Rattle.gates.specs.Gate.{Gate}
 use Rattle.gate_words.specs.Gates.{gate, andOf, muxOf}
-
--- A gate of a kind with one operand for each of w digits, the word's first wire being x.
-unfoldable pub each : ℕ → ℕ → ℕ → List Gate
-each kind x zero = []
-each kind x (suc w) = gate kind x 0 0 ∷ each kind (x + 1) w
-
-abbrev pub copies : ℕ → ℕ → List Gate
-copies x w = each 2 x w
-
-abbrev pub complements : ℕ → ℕ → List Gate
-complements x w = each 3 x w
 
 -- The word at x where wire f is 1, the word at y where it is 0.
 unfoldable pub choose : ℕ → ℕ → ℕ → ℕ → List Gate

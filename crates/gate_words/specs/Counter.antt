@@ -5,9 +5,8 @@ use mathlib.Core.List.{List, [], _∷_, _++_}
 use Prim.Native.Nat.{ℕ, zero, suc, _+_, _-_, _*_, _/_, _%_, _<_}
 use lib.Dec.{eqb}
 use Rattle.gates.specs.Gate.{Gate}
-use Rattle.gate_words.specs.Gates.{copyOf}
+use Rattle.gate_words.specs.Gates.{gate}
 use Rattle.gate_words.specs.Adder.{fullAdder, halfAdder, increment}
-use Rattle.gate_words.specs.Choice.{parity, chainEnd}
 
 -- One level: adds to the wire s the m bits at `at`, at + d, and so on, two at a time, and at the end the public bit
 -- e. Each adder hands its sum on to the next.
@@ -31,40 +30,27 @@ countLevels n at d m extra (suc r) =
     level n at (at + d) d (extra % 2) (m - 1)
     ++ countLevels (n + 3 * adders (m - 1) (extra % 2)) (n + 2) 3 (adders (m - 1) (extra % 2)) (extra / 2) r
 
--- Copies of the levels' sums, and of the one bit that is left: the digits of the count, side by side. The levels
--- start at wire n.
-unfoldable pub countDigits : ℕ → ℕ → ℕ → ℕ → ℕ → List Gate
-countDigits n at m extra zero = copyOf at ∷ []
-countDigits n at m extra (suc r) =
-    copyOf (levelSum n at (m - 1) (extra % 2))
-    ∷ countDigits (n + 3 * adders (m - 1) (extra % 2)) (n + 2) (adders (m - 1) (extra % 2)) (extra / 2) r
+-- Of each level's sum, and of the one bit that is left, a gate of one operand: of kind `low` for the sums, of kind
+-- `top` for the bit. They are the digits of the count, side by side, copied or complemented. The levels start at wire
+-- n.
+unfoldable pub countDigitsAs : ℕ → ℕ → ℕ → ℕ → ℕ → ℕ → ℕ → List Gate
+countDigitsAs low top n at m extra zero = gate top at 0 0 ∷ []
+countDigitsAs low top n at m extra (suc r) =
+    gate low (levelSum n at (m - 1) (extra % 2)) 0 0
+    ∷ countDigitsAs low top (n + 3 * adders (m - 1) (extra % 2)) (n + 2) (adders (m - 1) (extra % 2)) (extra / 2) r
+
+-- All of them copied.
+abbrev pub countDigits : ℕ → ℕ → ℕ → ℕ → ℕ → List Gate
+countDigits n at m extra r = countDigitsAs 2 2 n at m extra r
 
 -- Counts m bits and the public number `extra` in r + 1 digits, which are the last r + 1 gates.
 unfoldable pub counter : ℕ → ℕ → ℕ → ℕ → ℕ → ℕ → List Gate
 counter n at d m extra r = countLevels n at d m extra r ++ countDigits n at m extra r
 
--- Adds m bits to the word of r + 1 digits at a: each level starts from a digit, and the top digit, which hands no
--- carry on, is a sum modulo 2.
-unfoldable pub addLevels : ℕ → ℕ → ℕ → ℕ → ℕ → ℕ → List Gate
-addLevels n a at d m zero = parity n a at d m
-addLevels n a at d m (suc r) = level n a at d 0 m ++ addLevels (n + 3 * adders m 0) (a + 1) (n + 2) 3 (adders m 0) r
-
-unfoldable pub addDigits : ℕ → ℕ → ℕ → ℕ → List Gate
-addDigits n a m zero = copyOf (chainEnd n a m) ∷ []
-addDigits n a m (suc r) = copyOf (levelSum n a m 0) ∷ addDigits (n + 3 * adders m 0) (a + 1) (adders m 0) r
-
--- Adds m bits to a word of r + 1 digits. The digits of the sum are the last r + 1 gates.
-unfoldable pub accumulator : ℕ → ℕ → ℕ → ℕ → ℕ → ℕ → List Gate
-accumulator n a at d m r = addLevels n a at d m r ++ addDigits n a m r
-
--- The numbers of gates of the levels.
+-- The number of gates of the levels.
 unfoldable pub countSize : ℕ → ℕ → ℕ → ℕ
 countSize m extra zero = 0
 countSize m extra (suc r) = 3 * adders (m - 1) (extra % 2) + countSize (adders (m - 1) (extra % 2)) (extra / 2) r
-
-unfoldable pub addSize : ℕ → ℕ → ℕ
-addSize m zero = m
-addSize m (suc r) = 3 * adders m 0 + addSize (adders m 0) r
 
 -- m bits and the number `extra` can be counted in r + 1 digits: each of r levels has a bit to start from, and one bit
 -- and nothing else is left for the top digit.

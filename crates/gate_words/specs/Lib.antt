@@ -5,7 +5,9 @@ pub mod Adder
 pub mod Counter
 pub mod Choice
 pub mod Comparison
+pub mod Rows
 pub mod Halves
 pub mod Reach
 pub mod Writing
 pub mod Emitted
+pub mod inner

@@ -2,13 +2,12 @@
 use crate::writer::Writer;
 use gates::kind;
 ghost use mathlib.Core.Path.{_≡_};
-ghost use Prim.Native.Nat.{_+_, _≤_, _<_};
-ghost use Rattle.gates.specs.Kind.{operandsOf};
+ghost use Prim.Native.Nat.{_+_, _<_};
 ghost use Rattle.gate_words.specs.Limits.{writerLimit};
-ghost use Rattle.gate_words.specs.Word.{Below};
-ghost use Rattle.gate_words.specs.Writing.{Room, Wrote};
-ghost use Rattle.gate_words.specs.Choice.{each, copies, complements, choose, masked, chain};
+ghost use Rattle.gate_words.specs.Writing.{Wrote};
+ghost use Rattle.gate_words.specs.Choice.{choose, masked, chain};
 ghost use Rattle.gate_words.specs.Choice.{chainEnd, anyOf, allOf, parity};
+ghost use Rattle.gate_words.specs.inner.Ready.{WordReady, WordsReady, WiresReady, ChainReady};
 
 // The last wire of a chain of so many gates.
 pub fn chain_end(n: u32, s: u32, count: u32) -> u32
@@ -19,41 +18,9 @@ pub fn chain_end(n: u32, s: u32, count: u32) -> u32
 }
 
 impl Writer {
-    // A gate of a kind with one operand for each digit of a word.
-    fn each(self, table: &mut [u32], kind: u32, x: u32, digits: u32) -> Writer
-        requires { ⌜ Room self digits ⌝ }
-        requires { ⌜ (operandsOf kind ≡ 1) × (x + digits ≤ self .wire) ⌝ }
-        ensures { λ r. ⌜ Wrote self (now (table .entry)) (each kind x digits) (now (table .exit)) r ⌝ }
-    {
-        let mut w = self;
-        let mut i: u32 = 0;
-        while i < digits {
-            w = w.emit(table, kind, x + i, 0, 0);
-            i += 1;
-        }
-        w
-    }
-
-    pub fn copies(self, table: &mut [u32], x: u32, digits: u32) -> Writer
-        requires { ⌜ Room self digits ⌝ }
-        requires { ⌜ x + digits ≤ self .wire ⌝ }
-        ensures { λ r. ⌜ Wrote self (now (table .entry)) (copies x digits) (now (table .exit)) r ⌝ }
-    {
-        self.each(table, kind::COPY, x, digits)
-    }
-
-    pub fn complements(self, table: &mut [u32], x: u32, digits: u32) -> Writer
-        requires { ⌜ Room self digits ⌝ }
-        requires { ⌜ x + digits ≤ self .wire ⌝ }
-        ensures { λ r. ⌜ Wrote self (now (table .entry)) (complements x digits) (now (table .exit)) r ⌝ }
-    {
-        self.each(table, kind::NOT, x, digits)
-    }
-
     // The word at x where wire f is 1, else the word at y.
     pub fn choose(self, table: &mut [u32], f: u32, x: u32, y: u32, digits: u32) -> Writer
-        requires { ⌜ Room self digits ⌝ }
-        requires { ⌜ (x + digits ≤ self .wire) × (y + digits ≤ self .wire) ⌝ }
+        requires { ⌜ WordsReady self digits x y digits ⌝ }
         ensures { λ r. ⌜ Wrote self (now (table .entry)) (choose f x y digits) (now (table .exit)) r ⌝ }
     {
         let mut w = self;
@@ -67,8 +34,7 @@ impl Writer {
 
     // The word at x where wire f is 1, else 0.
     pub fn masked(self, table: &mut [u32], f: u32, x: u32, digits: u32) -> Writer
-        requires { ⌜ Room self digits ⌝ }
-        requires { ⌜ x + digits ≤ self .wire ⌝ }
+        requires { ⌜ WordReady self digits x digits ⌝ }
         ensures { λ r. ⌜ Wrote self (now (table .entry)) (masked f x digits) (now (table .exit)) r ⌝ }
     {
         let mut w = self;
@@ -90,9 +56,7 @@ impl Writer {
         stride: u32,
         count: u32,
     ) -> Writer
-        requires { ⌜ Room self count ⌝ }
-        requires { ⌜ Below (self .wire) first stride count ⌝ }
-        requires { ⌜ (stride < writerLimit) × (operandsOf kind ≡ 2) ⌝ }
+        requires { ⌜ ChainReady self kind first stride count ⌝ }
         ensures { λ r. ⌜
             Wrote self (now (table .entry)) (chain kind (self .wire) s first stride count) (now (table .exit)) r
             ⌝ }
@@ -113,9 +77,7 @@ impl Writer {
 
     // Whether wire s or one of so many wires a stride apart is 1.
     pub fn any_of(self, table: &mut [u32], s: u32, first: u32, stride: u32, count: u32) -> Writer
-        requires { ⌜ Room self count ⌝ }
-        requires { ⌜ Below (self .wire) first stride count ⌝ }
-        requires { ⌜ stride < writerLimit ⌝ }
+        requires { ⌜ WiresReady self count first stride count ⌝ }
         ensures { λ r. ⌜
             Wrote self (now (table .entry)) (anyOf (self .wire) s first stride count) (now (table .exit)) r
             ⌝ }
@@ -125,9 +87,7 @@ impl Writer {
 
     // Whether wire s and all of so many wires a stride apart are 1.
     pub fn all_of(self, table: &mut [u32], s: u32, first: u32, stride: u32, count: u32) -> Writer
-        requires { ⌜ Room self count ⌝ }
-        requires { ⌜ Below (self .wire) first stride count ⌝ }
-        requires { ⌜ stride < writerLimit ⌝ }
+        requires { ⌜ WiresReady self count first stride count ⌝ }
         ensures { λ r. ⌜
             Wrote self (now (table .entry)) (allOf (self .wire) s first stride count) (now (table .exit)) r
             ⌝ }
@@ -137,9 +97,7 @@ impl Writer {
 
     // The sum modulo 2 of wire s and so many wires a stride apart.
     pub fn parity(self, table: &mut [u32], s: u32, first: u32, stride: u32, count: u32) -> Writer
-        requires { ⌜ Room self count ⌝ }
-        requires { ⌜ Below (self .wire) first stride count ⌝ }
-        requires { ⌜ stride < writerLimit ⌝ }
+        requires { ⌜ WiresReady self count first stride count ⌝ }
         ensures { λ r. ⌜
             Wrote self (now (table .entry)) (parity (self .wire) s first stride count) (now (table .exit)) r
             ⌝ }

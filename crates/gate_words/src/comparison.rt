@@ -1,10 +1,10 @@
 // Comparisons.
 use crate::writer::Writer;
 use gates::kind;
-ghost use Prim.Native.Nat.{_+_, _≤_, _<_};
 ghost use lib.ListN.{length};
 ghost use Rattle.gate_words.specs.Writing.{Room, Wrote};
 ghost use Rattle.gate_words.specs.Comparison.{firstDigit, compareWords, differences, above};
+ghost use Rattle.gate_words.specs.inner.Ready.{WordsReady};
 
 impl Writer {
     // Two digits compared both ways, with one conditional gate.
@@ -41,8 +41,7 @@ impl Writer {
         down: u32,
         digits: u32,
     ) -> Writer
-        requires { ⌜ Room self (length (compareWords (self .wire) x y up down digits)) ⌝ }
-        requires { ⌜ (x + digits ≤ self .wire) × (y + digits ≤ self .wire) ⌝ }
+        requires { ⌜ WordsReady self (length (compareWords (self .wire) x y up down digits)) x y digits ⌝ }
         ensures { λ r. ⌜
             Wrote self (now (table .entry)) (compareWords (self .wire) x y up down digits) (now (table .exit)) r
             ⌝ }
@@ -63,8 +62,7 @@ impl Writer {
 
     // Where the words at x and y differ.
     pub fn differences(self, table: &mut [u32], x: u32, y: u32, digits: u32) -> Writer
-        requires { ⌜ Room self digits ⌝ }
-        requires { ⌜ (x + digits ≤ self .wire) × (y + digits ≤ self .wire) ⌝ }
+        requires { ⌜ WordsReady self digits x y digits ⌝ }
         ensures { λ r. ⌜ Wrote self (now (table .entry)) (differences x y digits) (now (table .exit)) r ⌝ }
     {
         let mut w = self;
@@ -79,8 +77,7 @@ impl Writer {
     // A word compared one way with another, from which it differs where the wires from `differ` on say so, above what
     // wire s says of the digits before.
     pub fn above(self, table: &mut [u32], differ: u32, x: u32, s: u32, digits: u32) -> Writer
-        requires { ⌜ Room self digits ⌝ }
-        requires { ⌜ (differ + digits ≤ self .wire) × (x + digits ≤ self .wire) ⌝ }
+        requires { ⌜ WordsReady self digits differ x digits ⌝ }
         ensures { λ r. ⌜
             Wrote self (now (table .entry)) (above (self .wire) differ x s digits) (now (table .exit)) r
             ⌝ }

@@ -4,11 +4,12 @@ use crate::choice::chain_end;
 use crate::writer::Writer;
 use gates::kind;
 ghost use mathlib.Core.Path.{_≡_};
-ghost use Prim.Native.Nat.{suc, _+_, _≤_, _<_};
+ghost use Prim.Native.Nat.{suc, _+_, _<_};
 ghost use Rattle.gate_words.specs.Limits.{writerLimit};
-ghost use Rattle.gate_words.specs.Writing.{Room, Wrote};
+ghost use Rattle.gate_words.specs.Writing.{Wrote};
 ghost use Rattle.gate_words.specs.Halves.{anyOfHalves, unequalHalves, unequalSpan, unequalAt, aboveHalves};
 ghost use Rattle.gate_words.specs.Halves.{highUnequalAt, compareHalves, compareSpan, aboveAt};
+ghost use Rattle.gate_words.specs.inner.Ready.{WordReady, WordsReady};
 
 // The wire that says that words of above + 1 digits differ, of a comparison from wire n on.
 pub fn unequal_at(n: u32, above: u32) -> u32
@@ -40,8 +41,7 @@ fn high_unequal_at(n: u32, low: u32, high: u32) -> u32
 impl Writer {
     // Whether wire s or one of low + high wires from `first` on is 1.
     fn any_of_halves(self, table: &mut [u32], s: u32, first: u32, low: u32, high: u32) -> Writer
-        requires { ⌜ Room self (low + high) ⌝ }
-        requires { ⌜ first + (low + high) ≤ self .wire ⌝ }
+        requires { ⌜ WordReady self (low + high) first (low + high) ⌝ }
         ensures { λ r. ⌜
             Wrote self (now (table .entry)) (anyOfHalves (self .wire) s first low high) (now (table .exit)) r
             ⌝ }
@@ -60,8 +60,7 @@ impl Writer {
     // Which of two words is above: wires from f on say in which digits they differ, wire e that they do in the high
     // half.
     fn above_halves(self, table: &mut [u32], f: u32, x: u32, e: u32, low: u32, high: u32) -> Writer
-        requires { ⌜ Room self (low + high) ⌝ }
-        requires { ⌜ (f + suc (low + high) ≤ self .wire) × (x + suc (low + high) ≤ self .wire) ⌝ }
+        requires { ⌜ WordsReady self (low + high) f x (suc (low + high)) ⌝ }
         ensures { λ r. ⌜
             Wrote self (now (table .entry)) (aboveHalves (self .wire) f x e low high) (now (table .exit)) r
             ⌝ }
@@ -79,8 +78,7 @@ impl Writer {
 
     // Whether the words at x and y differ.
     pub fn unequal_halves(self, table: &mut [u32], x: u32, y: u32, low: u32, high: u32) -> Writer
-        requires { ⌜ Room self (unequalSpan (low + high)) ⌝ }
-        requires { ⌜ (x + suc (low + high) ≤ self .wire) × (y + suc (low + high) ≤ self .wire) ⌝ }
+        requires { ⌜ WordsReady self (unequalSpan (low + high)) x y (suc (low + high)) ⌝ }
         ensures { λ r. ⌜
             Wrote self (now (table .entry)) (unequalHalves (self .wire) x y low high) (now (table .exit)) r
             ⌝ }
@@ -92,8 +90,7 @@ impl Writer {
 
     // Whether they differ, and, where they do, whether x is above y.
     pub fn compare_halves(self, table: &mut [u32], x: u32, y: u32, low: u32, high: u32) -> Writer
-        requires { ⌜ Room self (compareSpan (low + high)) ⌝ }
-        requires { ⌜ (x + suc (low + high) ≤ self .wire) × (y + suc (low + high) ≤ self .wire) ⌝ }
+        requires { ⌜ WordsReady self (compareSpan (low + high)) x y (suc (low + high)) ⌝ }
         ensures { λ r. ⌜
             Wrote self (now (table .entry)) (compareHalves (self .wire) x y low high) (now (table .exit)) r
             ⌝ }

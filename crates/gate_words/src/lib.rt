@@ -6,4 +6,5 @@
 pub mod choice;
 pub mod comparison;
 pub mod halves;
+pub mod rows;
 pub mod writer;

@@ -1,4 +1,5 @@
--- A list of good gates that is neither too short nor too long is accepted, once it is written as numbers; and what is said of a table that is no list, or too long a one.
+-- A list of good gates is accepted if it is neither too short nor too long; and what the test answers for a table
+-- that ends in part of a gate, or has too many gates.
 -- Assumes nothing.
 use mathlib.Core.Path.{_≡_, _∙_, refl, sym, ap, subst}
 use mathlib.Core.Bool.{true, false}
@@ -32,7 +33,7 @@ good-list-accepted inputs k gs good enough few =
       read-whole gs,
     )
 
--- so many gates that make 0
+-- a list of n gates that make 0
 pub zeros : ℕ → List Gate
 zeros n = replicate n (record { kind = 0; a = 0; b = 0; c = 0 })
 
@@ -50,7 +51,7 @@ pub zeros-length : (n : ℕ) → length (zeros n) ≡ n
 unfolding zeros
 zeros-length n = length-replicate n _
 
--- a table that ends in a part of a gate
+-- a table that ends in part of a gate
 pub part-of-a-gate : (inputs k : ℕ) (table : List ℕ) → eqb (length table % 4) 0 ≡ false → tested inputs k table ≡ PartOfAGate
 unfolding tested
 part-of-a-gate inputs k table e = rw e

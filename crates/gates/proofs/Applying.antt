@@ -1,4 +1,4 @@
--- What `apply`'s answer tells of a kind.
+-- What the answer of `apply` says about a kind.
 -- Assumes nothing.
 use mathlib.Core.Path.{_≡_, _∙_, refl, sym, ap}
 use mathlib.Core.Bool.{Bool, true, false, cond}

@@ -13,7 +13,7 @@ use Rattle.gates.specs.Open.Gate.{Gate}
 use Rattle.gates.specs.Open.Board.{conditionals, conditionalCount}
 use Rattle.basics.proofs.Flags.{bit-most}
 
--- a gate counts once where its kind has the mark
+-- a gate counts if its kind has the mark
 pub count-cons : (g : Gate) (gs : List Gate) → conditionalCount (g ∷ gs) ≡ cond (conditionalOf (g .kind)) 1 0 + conditionalCount gs
 unfolding conditionalCount conditionals
 count-cons g gs = go (conditionalOf (g .kind))
@@ -26,7 +26,7 @@ pub count-nil : conditionalCount [] ≡ 0
 unfolding conditionalCount conditionals
 count-nil = refl
 
--- counts of lists put one after the other add up
+-- the counts of two lists, one after the other, add up
 pub count-append : (gs hs : List Gate) → conditionalCount (gs ++ hs) ≡ conditionalCount gs + conditionalCount hs
 count-append [] hs = omega (arith, count-nil)
 count-append (g ∷ gs) hs = omega (arith, count-cons g (gs ++ hs), count-cons g gs, count-append gs hs)

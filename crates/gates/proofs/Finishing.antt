@@ -1,4 +1,4 @@
--- What the steps of an accepted evaluation leave, as the definitions of the wires and the board say it.
+-- The steps of an accepted evaluation leave the wires and the board that the definitions name.
 -- Assumes nothing.
 use mathlib.Core.Path.{_≡_, _∙_, sym, ap}
 use mathlib.Core.List.{List, [], _∷_, _++_, zipWith, append-nil}
@@ -11,7 +11,7 @@ use Rattle.gates.specs.Open.Gate.{Gate, gatesOf}
 use Rattle.gates.specs.Open.Wires.{wiresOf, outputsOf}
 use Rattle.gates.specs.Open.Board.{conditionals, conditionalCount, shownBit, shownBits, boardOf}
 use Rattle.gates.specs.Open.Test.{firstBad}
-use Rattle.gates.specs.Open.Step.{rangeOf, stepWires, stepBoard, StepReady}
+use Rattle.gates.specs.Open.Step.{rangeOf, stepWires, stepBoard, StepReady, CloseReady}
 use Rattle.gates.specs.declared.place.Place.the-variants.{Nowhere}
 use Rattle.gates.proofs.WireLaws.{length-wires}
 
@@ -38,7 +38,8 @@ module _ (i : ℕ) (t : List ℕ) (gates k : ℕ) (tape ws board : List ℕ) (e 
       let end : drop (i + gates) ws ≡ [] = drop-of-length-le ws {i = i + gates} (omega arith) in
       rw (add-zero i, end, whole-range t gates e) (append-nil (wiresOf (take i ws) (gatesOf t)))
 
-  -- the steps one after the other, each from what the one before it left: the step's wire table, board and count, and the closed board
+  -- the steps in order, each from what the one before left: the wire table, board and count of the step, and the
+  -- closed board
   module _ (enough : k ≤ gates) (good : firstBad i 0 (gatesOf t) ≡ Nowhere) (lt : length tape ≡ conditionalCount (gatesOf t)) (lb : length board ≡ conditionalCount (gatesOf t) + k) where
     count-range : conditionalCount (rangeOf t 0 gates) ≡ conditionalCount (gatesOf t)
     count-range = ap conditionalCount (whole-range t gates e)
@@ -66,8 +67,12 @@ module _ (i : ℕ) (t : List ℕ) (gates k : ℕ) (tape ws board : List ℕ) (e 
       unfolding stepBoard bits
       stepped-board = f₂ ∙ rw (run-wires, whole-range t gates e)
 
-      pub can-close : (k ≤ length ws₂) × (length board₂ ≡ shown + k)
-      can-close = (omega (arith, ap length final-wires, length-wires (take i ws) (gatesOf t)), omega (arith, ap length stepped-board, length-sets board 0 bits, count-range))
+      pub can-close : CloseReady k shown ws₂ board₂
+      can-close =
+          record {
+            enough = omega (arith, ap length final-wires, length-wires (take i ws) (gatesOf t));
+            boardLength = omega (arith, ap length stepped-board, length-sets board 0 bits, count-range);
+          }
 
       pub final-board : (board₃ : List ℕ) → board₃ ≡ take shown board₂ ++ outputsOf k ws₂ → board₃ ≡ boardOf (wiresOf (take i ws) (gatesOf t)) (gatesOf t) k tape
       unfolding boardOf bits
@@ -79,7 +84,7 @@ module _ (i : ℕ) (t : List ℕ) (gates k : ℕ) (tape ws board : List ℕ) (e 
           ∙ ap (λ (b : List ℕ). b ++ outputsOf k ws₂) (take-at bits (drop (0 + length bits) board) shown c)
           ∙ ap (λ (b : List ℕ). bits ++ outputsOf k b) final-wires
 
--- inputs that were copied stand at the front of the wire table
+-- inputs that were copied are at the front of the wire table
 pub copied-front : (inputs ws last : List ℕ) → last ≡ take (length inputs) inputs ++ drop (length inputs) ws → take (length inputs) last ≡ inputs
 copied-front inputs ws last e =
     let p : length (take (length inputs) inputs) ≡ length inputs = ap length (take-length inputs) in

@@ -1,4 +1,4 @@
--- What the test of a gate tells, as facts with names.
+-- What the test of a gate says, as facts with names.
 -- Assumes nothing.
 use mathlib.Core.Path.{subst}
 use mathlib.Core.Bool.{Bool, true, false, _&&_}
@@ -18,7 +18,7 @@ pub and-right : (a b : Bool) → T (a && b) → T b
 and-right true b t = t
 and-right false b t = absurd t
 
--- an operand is below its gate's wire where it is used, and at most that wire in any case
+-- an operand in use is below its gate's wire, and any operand is at most that wire
 operand-most : (used : Bool) (own x : ℕ) → T (goodOperand used own x) → x ≤ own
 unfolding goodOperand
 operand-most true own x t = let h = ltb→lt x own t in omega arith

@@ -1,4 +1,4 @@
--- Demand 3: a mask that is applied twice falls away, so the second tape is the first board masked by the second wires.
+-- Demand 3: a mask that is applied twice cancels, so the second tape is the first board masked by the second wires.
 -- Assumes nothing.
 use mathlib.Core.Path.{_≡_, _∙_, refl, sym, ap}
 use mathlib.Core.Bool.{Bool, true, false, cond}
@@ -19,7 +19,7 @@ use Rattle.gates.proofs.Finishing.{length-shown}
 use Rattle.gates.proofs.WireLaws.{length-wires}
 use Rattle.gates.proofs.Laws.{length-outputs}
 
--- a search that finds nothing, and bits
+-- a search for bytes above 1 finds nothing exactly if all are bits
 pub none-above : (i : ℕ) (xs : List ℕ) → Bits xs → firstAboveOne i xs ≡ Nowhere
 unfolding firstAboveOne
 none-above i [] b = refl
@@ -38,7 +38,7 @@ all-bits i (x ∷ xs) e = go (ltb 1 x) refl (λ q. all-bits (suc i) xs q) e
     go true p rest q = let z : _≡_ {A = ℕ} 0 1 = cc in absurd (omega arith)
     go false p rest q = bits-cons x xs (ltb-false 1 x p) (rest q)
 
--- byte i of a list made of two lists, place by place
+-- byte i of two lists that are combined place by place
 zip-at : {A B : Type 0} (f : A → B → ℕ) (cs : List A) (ms : List B) (i : ℕ) (c : A) (m : B) → i < length cs → i < length ms → getD (zipWith f cs ms) i 0 ≡ f (getD cs i c) (getD ms i m)
 unfolding zipWith
 zip-at f [] ms i c m h l = absurd (omega arith)
@@ -63,7 +63,7 @@ board-finished ws gs k tape h l =
     below : (gs : List Gate) (i : ℕ) → i < conditionalCount gs → i < length (conditionals gs)
     below gs i g = unfold conditionalCount in g
 
--- masking twice with the same wires gives a tape of bits back
+-- masking twice with the same wires gives back a tape of bits
 twice : (a m : ℕ) → m ≤ 1 → (a + (a + m) % 2) % 2 ≡ m
 twice a m h = omega arith
 
@@ -91,7 +91,7 @@ shown-twice : (ws : List ℕ) (gs : List Gate) (tape : List ℕ) → MaskTape gs
 unfolding shownBits conditionalCount
 shown-twice ws gs tape m = unmask ws (conditionals gs) tape (m .size) (m .bits)
 
--- two boards with equal outputs are equal exactly where their shown bits are
+-- two boards with equal outputs are equal exactly if their shown bits are
 pub one-tape : (vs ws : List ℕ) (gs : List Gate) (k : ℕ) → outputsOf k vs ≡ outputsOf k ws → (s : List ℕ) → MaskTape gs s
     → ExactlyOne (λ (t : List ℕ). MaskTape gs t × (boardOf vs gs k s ≡ boardOf ws gs k t))
 unfolding boardOf

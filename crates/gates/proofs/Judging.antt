@@ -1,4 +1,4 @@
--- Judging the gates of a table one after the other.
+-- The gates of a table are judged one after another.
 -- Assumes nothing.
 use mathlib.Core.Path.{_≡_, _∙_, sym, ap}
 use mathlib.Core.Bool.{Bool, true, false, cond}
@@ -18,7 +18,7 @@ use Rattle.gates.specs.declared.list.ListCheck.the-variants.{Accepted, B
 use Rattle.gates.proofs.Table.{gates-from}
 use Rattle.gates.proofs.Counting.{count-cons, count-nil}
 
--- judging the gates from g on, with so many conditional gates before them, is the answer for the whole table
+-- judging the gates from g on, with the conditional gates before them counted, gives the answer for the whole table
 abbrev pub Judges : ℕ → List ℕ → ℕ → ℕ → ListCheck → Type 0
 Judges inputs t g conditional r =
     judged (firstBad inputs g (drop g (gatesOf t))) (length (gatesOf t)) (conditional + conditionalCount (drop g (gatesOf t))) ≡ r
@@ -35,7 +35,7 @@ unfolding judged
 judges-bad inputs t g conditional r h e j =
     sym (ap (λ (p : Place). judged p (length (gatesOf t)) (conditional + conditionalCount (drop g (gatesOf t)))) (bad-step inputs t g false h e)) ∙ j
 
--- a good gate leaves the answer to those behind it
+-- after a good gate the rest decides
 pub judges-good : (inputs : ℕ) (t : List ℕ) (g conditional mark : ℕ) (r : ListCheck) → g < length (gatesOf t) → true ≡ goodGate (inputs + g) (gateAt t g)
     → mark ≡ cond (conditionalOf (gateAt t g .kind)) 1 0 → Judges inputs t g conditional r → Judges inputs t (suc g) (conditional + mark) r
 judges-good inputs t g conditional mark r h e m j =

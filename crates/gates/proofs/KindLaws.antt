@@ -1,4 +1,5 @@
--- The laws of the eight kinds: what holds of each of them holds of every kind below 8; and a value depends only on the operands that its kind uses.
+-- Laws of the kinds: what holds for each of the eight holds for every kind below 8, and a value depends only on the
+-- operands that its kind uses.
 -- Assumes nothing.
 use mathlib.Core.Path.{_≡_, refl, ap, ap₂}
 use Prim.Native.Nat.{ℕ, zero, suc, _-_, _<_, min, max}

@@ -46,7 +46,7 @@ pub or-value : (a b c : ℕ) → valueOf 5 a b c ≡ max a b
 unfolding valueOf
 or-value a b c = refl
 
--- of two bits, that they differ is their sum modulo 2
+-- for bits, whether they differ is their sum modulo 2
 pub xor-value : (a b c : ℕ) → a ≤ 1 → b ≤ 1 → valueOf 6 a b c ≡ (a + b) % 2
 unfolding valueOf differ
 xor-value zero zero c ha hb = refl
@@ -65,7 +65,7 @@ pub mux-value-zero : (b c : ℕ) → valueOf 7 0 b c ≡ c
 unfolding valueOf choose
 mux-value-zero b c = refl
 
--- Operand counts and marks of the kinds, as the table has them.
+-- Operand counts and marks of the kinds, as in the table.
 pub operand-counts : (operandsOf 0 ≡ 0) × (operandsOf 1 ≡ 0) × (operandsOf 2 ≡ 1) × (operandsOf 3 ≡ 1) × (operandsOf 4 ≡ 2) × (operandsOf 5 ≡ 2) × (operandsOf 6 ≡ 2) × (operandsOf 7 ≡ 3)
 unfolding operandsOf
 operand-counts = (refl, refl, refl, refl, refl, refl, refl, refl)
@@ -74,12 +74,12 @@ pub marks : (conditionalOf 0 ≡ false) × (conditionalOf 1 ≡ false) × (condi
 unfolding conditionalOf
 marks = (refl, refl, refl, refl, refl, refl, refl, refl)
 
--- Well-formed lists: every gate is good for its own wire, the first of them making wire n.
+-- Well-formed lists: every gate is good for its own wire, and the first makes wire n.
 abbrev pub AllGood : ℕ → List Gate → Type 0
 AllGood n [] = Unit {0}
 AllGood n (g ∷ gs) = T (goodGate n g) × AllGood (suc n) gs
 
--- a good gate: its kind is known, its operands in use point back, the others are 0
+-- a gate is good if its kind is known, its operands in use name earlier wires, and the others are 0
 pub is-good : (n : ℕ) (g : Gate) → g .kind < 8 → T (goodOperand (ltb 0 (operandsOf (g .kind))) n (g .a)) → T (goodOperand (ltb 1 (operandsOf (g .kind))) n (g .b))
     → T (goodOperand (ltb 2 (operandsOf (g .kind))) n (g .c)) → T (goodGate n g)
 unfolding goodGate
@@ -173,7 +173,7 @@ pub length-outputs : (k : ℕ) (ws : List ℕ) → k ≤ length ws → length (o
 unfolding outputsOf
 length-outputs k ws h = omega (arith, length-drop (length ws - k) ws)
 
--- Wires are bits when inputs are.
+-- Wires are bits if the inputs are.
 bit-value : (k a b c : ℕ) → k < 8 → a ≤ 1 → b ≤ 1 → c ≤ 1 → valueOf k a b c ≤ 1
 unfolding valueOf differ choose
 bit-value k a b c h ha hb hc =
@@ -202,7 +202,7 @@ pub wire-bit : (ws : List ℕ) → Bits ws → (i : ℕ) → wire ws i ≤ 1
 unfolding wire
 wire-bit ws b i = b i
 
--- Reading back a written table, also where it is the first part of a longer one.
+-- Reading back a table that was written, also if it is the first part of a longer one.
 pub read-back : (gs : List Gate) (rest : List ℕ) → gatesOf (numbersOf gs ++ rest) ≡ gs ++ gatesOf rest
 unfolding gatesOf numbersOf
 read-back [] rest = refl
@@ -230,7 +230,7 @@ pub numbers-one : (g : Gate) → numbersOf (g ∷ []) ≡ g .kind ∷ g .a ∷ g
 unfolding numbersOf
 numbers-one g = refl
 
--- The choice by a bit that is known.
+-- The multiplexer with a known selector.
 pub mux-zero : (x b c : ℕ) → x ≡ 0 → valueOf 7 x b c ≡ c
 mux-zero x b c e = ap (λ (y : ℕ). valueOf 7 y b c) e ∙ mux-value-zero b c
 

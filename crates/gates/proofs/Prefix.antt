@@ -1,4 +1,4 @@
--- What stands after the first gates of a list, and that the evaluating step leads from so many gates to more of them.
+-- The wire table and the board after the first m gates of a list, and the step from there to more gates.
 -- Assumes nothing.
 use mathlib.Core.Path.{_≡_, _∙_, refl, sym, ap, subst}
 use mathlib.Core.Bool.{Bool, true, false, cond}
@@ -13,7 +13,7 @@ use Rattle.gates.specs.Open.Gate.{Gate, gatesOf}
 use Rattle.gates.specs.Open.Wires.{wire, wiresOf, outputsOf}
 use Rattle.gates.specs.Open.Board.{conditionals, conditionalCount, shownBit, shownBits, boardOf}
 use Rattle.gates.specs.Open.Test.{firstBad}
-use Rattle.gates.specs.Open.Step.{rangeOf, stepWires, stepBoard, StepReady, RunReady}
+use Rattle.gates.specs.Open.Step.{rangeOf, stepWires, stepBoard, StepReady, RunReady, CloseReady}
 use Rattle.gates.specs.declared.place.Place.the-variants.{Nowhere}
 use Rattle.gates.proofs.Goodness.{good-gate}
 use Rattle.gates.proofs.Counting.{count-append}
@@ -28,7 +28,7 @@ unfolding rangeOf
 range-append t from to h =
     sym (take-add from (to - from) (gatesOf t)) ∙ ap (λ (n : ℕ). take n (gatesOf t)) {x = from + (to - from)} {y = to} (omega arith)
 
--- parts of a list of good gates
+-- parts of a list of good gates are lists of good gates
 good-take : (n m : ℕ) (gs : List Gate) → AllGood n gs → AllGood n (take m gs)
 good-take n zero gs p = tt
 good-take n (suc m) [] p = tt
@@ -45,14 +45,14 @@ range-all-good inputs t from to e =
     good-take (inputs + from) (to - from) (drop from (gatesOf t))
     (good-drop inputs from (gatesOf t) (subst (λ (i : ℕ). AllGood i (gatesOf t)) (add-zero inputs) (all-good inputs 0 (gatesOf t) e)))
 
--- the count of the first gates, and of the first gates and a range
+-- C of the first gates, and of the first gates with a range after them
 pub count-range : (t : List ℕ) (from to : ℕ) → from ≤ to → conditionalCount (take from (gatesOf t)) + conditionalCount (rangeOf t from to) ≡ conditionalCount (take to (gatesOf t))
 count-range t from to h = sym (count-append (take from (gatesOf t)) (rangeOf t from to)) ∙ ap conditionalCount (range-append t from to h)
 
 pub count-prefix : (gs : List Gate) (m : ℕ) → conditionalCount (take m gs) ≤ conditionalCount gs
 count-prefix gs m = omega (arith, count-append (take m gs) (drop m gs), ap conditionalCount (take-append-drop m gs))
 
--- shown bits are as many as the conditional gates, where the tape reaches so far
+-- there are as many shown bits as conditional gates if the tape is long enough
 length-shown-bits : (ws : List ℕ) (gs : List Gate) (tape : List ℕ) → conditionalCount gs ≤ length tape → length (shownBits ws gs tape) ≡ conditionalCount gs
 unfolding shownBits conditionalCount
 length-shown-bits ws gs tape h = omega (arith, length-zip (shownBit ws) (conditionals gs) tape)
@@ -74,7 +74,7 @@ shown-append ws (g ∷ gs) hs tape h = go (λ (ms : List ℕ) (k : length (condi
     go more true (m ∷ ms) k = ap (λ (l : List ℕ). shownBit ws g m ∷ l) (more ms (omega arith))
     go more false ms k = more ms k
 
--- good gates show the same bits of any two tables of wires that agree below the wires that they make
+-- good gates show the same bits of two wire tables that agree below the wires that they make
 shown-agree : (vs ws : List ℕ) (own : ℕ) (gs : List Gate) (tape : List ℕ) → AllGood own gs → ((i : ℕ) → i < own + length gs → getD vs i 0 ≡ getD ws i 0)
     → shownBits vs gs tape ≡ shownBits ws gs tape
 unfolding shownBits conditionals zipWith shownBit wire
@@ -91,14 +91,15 @@ shown-agree vs ws own (g ∷ gs) tape p same =
         rw (same (g .a) (omega arith), rest ms)
     go rest false e ms = rest ms
 
--- What stands in a wire table and on a board, lent with lw and lb in them, after the first m gates, and how many bits are shown.
+-- What a wire table and a board hold after the first m gates, where lw and lb are their old contents, and how many
+-- bits are shown.
 pub record Stands (inputs t tape lw lb : List ℕ) (m : ℕ) (ws board : List ℕ) (shown : ℕ) : Type 0 where
   pub wiresAre : ws ≡ wiresOf inputs (take m (gatesOf t)) ++ drop (length inputs + m) lw
   pub boardIs : board ≡ shownBits (wiresOf inputs (gatesOf t)) (take m (gatesOf t)) tape ++ drop (conditionalCount (take m (gatesOf t))) lb
   pub count : shown ≡ conditionalCount (take m (gatesOf t))
 
 module _ (inputs t : List ℕ) (k : ℕ) (tape lw lb : List ℕ) (run : RunReady inputs t k tape lw lb) where
-  -- before the first gate: the inputs stand in the wire table, and nothing on the board
+  -- before the first gate: the inputs are in the wire table, the board is untouched
   pub stands-first : (ws board : List ℕ) (shown : ℕ) → ws ≡ take (length inputs) inputs ++ drop (length inputs) lw → board ≡ lb → shown ≡ 0 → Stands inputs t tape lw lb 0 ws board shown
   unfolding wiresOf shownBits conditionals conditionalCount zipWith
   stands-first ws board shown e f n =
@@ -155,7 +156,7 @@ module _ (inputs t : List ℕ) (k : ℕ) (tape lw lb : List ℕ) (run : RunReady
           count-prefix (gatesOf t) from,
         )
 
-    -- the step's demands
+    -- what the step asks
     pub can-step : StepReady (length inputs) t from to tape shown ws board
     can-step =
         record {
@@ -238,7 +239,7 @@ module _ (inputs t : List ℕ) (k : ℕ) (tape lw lb : List ℕ) (run : RunReady
         ∙ ap (λ (x : List ℕ). x ++ drop n board) joined
         ∙ ap (λ (x : List ℕ). shownBits (wiresOf inputs (gatesOf t)) (take to (gatesOf t)) tape ++ x) left
 
-    -- so the step leads from so many gates to more
+    -- so the step leads from m gates to more
     pub step-stands : (ws′ board′ : List ℕ) (shown′ : ℕ) → shown′ ≡ shown + conditionalCount (rangeOf t from to) → ws′ ≡ stepWires (length inputs) t from to ws
         → board′ ≡ stepBoard (length inputs) t from to tape shown ws board → Stands inputs t tape lw lb to ws′ board′ shown′
     step-stands ws′ board′ shown′ n e f =
@@ -265,19 +266,21 @@ module _ (inputs t : List ℕ) (k : ℕ) (tape lw lb : List ℕ) (run : RunReady
         ∙ ap (λ (x : List Gate). shownBits (wiresOf inputs (gatesOf t)) x tape ++ drop (conditionalCount x) lb) (take-length (gatesOf t))
 
     -- what closing asks
-    pub can-close : (k ≤ length ws) × (length board ≡ shown + k)
-    can-close = (
-      omega (arith, ap length last-wires, length-wires inputs (gatesOf t), run .enough),
-      omega (
-        arith,
-        ap length last-board,
-        length-append (shownBits (wiresOf inputs (gatesOf t)) (gatesOf t) tape) (drop (conditionalCount (gatesOf t)) lb),
-        last-bits,
-        last-count,
-        length-drop (conditionalCount (gatesOf t)) lb,
-        run .boardLength,
-      ),
-    )
+    pub can-close : CloseReady k shown ws board
+    can-close =
+        record {
+          enough = omega (arith, ap length last-wires, length-wires inputs (gatesOf t), run .enough);
+          boardLength =
+              omega (
+                arith,
+                ap length last-board,
+                length-append (shownBits (wiresOf inputs (gatesOf t)) (gatesOf t) tape) (drop (conditionalCount (gatesOf t)) lb),
+                last-bits,
+                last-count,
+                length-drop (conditionalCount (gatesOf t)) lb,
+                run .boardLength,
+              );
+        }
 
     -- the whole board
     pub closed-board : (board′ : List ℕ) → board′ ≡ take shown board ++ outputsOf k ws → board′ ≡ boardOf (wiresOf inputs (gatesOf t)) (gatesOf t) k tape

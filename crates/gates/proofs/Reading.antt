@@ -1,4 +1,4 @@
--- A table or a list read gate by gate: what the layers above use of it. They open none of the gate layer's definitions.
+-- Tables and lists read gate by gate: what the layers above use. They open none of the gate layer's definitions.
 -- Assumes nothing.
 use mathlib.Core.Path.{_≡_, _∙_, refl, sym, ap}
 use mathlib.Core.Bool.{Bool, true, false, cond, _&&_}
@@ -24,7 +24,7 @@ pub numbers-cons : (g : Gate) (gs : List Gate) → numbersOf (g ∷ gs) ≡ g .k
 unfolding numbersOf
 numbers-cons g gs = refl
 
--- the numbers of a table's gates are the table, where it holds whole gates
+-- a table of whole gates is the numbers of its gates
 pub whole-table : (t : List ℕ) → length t % 4 ≡ 0 → numbersOf (gatesOf t) ≡ t
 unfolding gatesOf numbersOf
 whole-table [] h = refl
@@ -42,7 +42,7 @@ pub first-bad-cons : (inputs g : ℕ) (x : Gate) (xs : List Gate) → firstBad i
 unfolding firstBad
 first-bad-cons inputs g x xs = refl
 
--- an operand of a good gate is 0 where it is not in use
+-- an unused operand of a good gate is 0
 pub record Unused (g : Gate) : Type 0 where
   pub a-zero : ltb 0 (operandsOf (g .kind)) ≡ false → g .a ≡ 0
   pub b-zero : ltb 1 (operandsOf (g .kind)) ≡ false → g .b ≡ 0
@@ -68,7 +68,7 @@ good-unused own g t =
       c-zero = unused-zero (ltb 2 n) own (g .c) (and-right (k && x && y) z t);
     }
 
--- where the operands that are not in use are 0, a gate of a known kind is good as all its operands are below its own wire
+-- if the unused operands are 0, a gate of a known kind is good exactly if all its operands are below its own wire
 below-by : (used : Bool) (own x : ℕ) → 0 < own → (used ≡ false → x ≡ 0) → goodOperand used own x ≡ ltb x own
 unfolding goodOperand
 below-by true own x pos h = refl

@@ -1,4 +1,4 @@
--- One turn of the evaluating step: what is left after a gate is what was left before it.
+-- One turn of the evaluating step: doing a gate and then the rest is doing all that was left.
 -- Assumes nothing.
 use mathlib.Core.Path.{_≡_, _∙_, refl, sym, ap}
 use mathlib.Core.Bool.{Bool, true, false, cond, false≢true}
@@ -30,7 +30,7 @@ range-from t g to h l =
     let k : g < length (gatesOf t) = omega arith in
     rw (e, gates-from t g)
 
--- where no gate is bad the first is good, and none behind it is bad
+-- if no gate is bad, the first is good and none after it is bad
 pub first-good : (inputs g : ℕ) (x : Gate) (xs : List Gate) → firstBad inputs g (x ∷ xs) ≡ Nowhere → T (goodGate (inputs + g) x) × (firstBad inputs (suc g) xs ≡ Nowhere)
 unfolding firstBad
 first-good inputs g x xs e = go (goodGate (inputs + g) x) e
@@ -66,7 +66,7 @@ uses-a k h e =
     (λ p. absurd (false≢true p)) (λ p. absurd (false≢true p)) (λ p. omega arith) (λ p. omega arith)
     (λ p. omega arith) (λ p. omega arith) (λ p. omega arith) (λ p. omega arith) k h e
 
--- the wires that are there already stand in the final wire table
+-- wires that are there already are in the final wire table
 pub wires-stand : (inputs : ℕ) (t : List ℕ) (g to : ℕ) (ws : List ℕ) (i : ℕ) → inputs + g ≤ length ws → i < inputs + g → getD (stepWires inputs t g to ws) i 0 ≡ getD ws i 0
 unfolding stepWires
 wires-stand inputs t g to ws i m h =
@@ -77,7 +77,7 @@ wires-stand inputs t g to ws i m h =
     ∙ wires-keep (take own ws) (rangeOf t g to) i (omega arith)
     ∙ getD-take own ws i 0 h
 
--- the board from gate g on, and after gate g is done, the shown bits being read in the final wires
+-- the board from gate g on, and after gate g; the shown bits are read from the final wires
 pub board-turn : (final ws : List ℕ) (x : Gate) (xs : List Gate) (board tape : List ℕ) (next : ℕ)
     → (conditionalOf (x .kind) ≡ true → wire final (x .a) ≡ wire ws (x .a)) → next + conditionalCount (x ∷ []) ≤ length tape
     → sets (cond (conditionalOf (x .kind)) (set board next (shownBit ws x (getD tape next 0))) board) (next + conditionalCount (x ∷ []))
@@ -98,7 +98,8 @@ board-turn final ws x xs board tape next same room = go (conditionalOf (x .kind)
         let n : next + conditionalCount (x ∷ []) ≡ next = omega (arith, count-one x, ap (λ (b : Bool). cond {A = ℕ} b 1 0) e) in
         rw (n, e)
 
--- The step's invariant: gates g up to `to` are left, and what they will make of the wiresOf, the board and the count is what the whole range makes.
+-- The step's invariant: gates g to `to` are left, and with what is there they make the wires, the board and the count
+-- of the whole range.
 pub record Left (inputs : ℕ) (t : List ℕ) (to : ℕ) (tape : List ℕ) (wiresSize boardSize total : ℕ) (final finalBoard ws board : List ℕ) (next g : ℕ) : Type 0 where
   pub order : g ≤ to
   pub wiresLeft : stepWires inputs t g to ws ≡ final

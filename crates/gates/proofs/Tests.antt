@@ -1,4 +1,4 @@
--- Two tests of numbers have one value where the facts that they test follow from each other.
+-- Two tests of numbers agree if the facts that they test follow from each other.
 -- Assumes nothing.
 use mathlib.Core.Path.{_≡_, _∙_, refl, sym}
 use mathlib.Core.Bool.{Bool, true, false}
@@ -14,6 +14,6 @@ eqb-iff a b c d to back = go (eqb a b) refl
     go true e = e ∙ sym (eq-eqb c d (to (eqb-true a b e)))
     go false e = e ∙ sym (ne-eqb c d (λ h. eqb-false a b e (back h)))
 
--- a sum is never formed: its second part is what the whole exceeds the first part by
+-- a sum is compared without being formed: its second part is compared with what the whole has beyond the first
 pub rest-eqb : (x a b : ℕ) → a ≤ x → eqb (x - a) b ≡ eqb x (a + b)
 rest-eqb x a b l = eqb-iff (x - a) b x (a + b) (λ h. omega arith) (λ h. omega arith)

@@ -1,4 +1,5 @@
--- What a second evaluator of lists, above this layer, uses: the values and the shown bits by the numbers that stand in a wire table, and a step over all gates as the whole list's wires and board.
+-- For a second evaluator of lists, above this layer: values and shown bits by the numbers in a wire table, and a step
+-- over all gates as the wires and board of the whole list.
 -- Assumes nothing.
 use mathlib.Core.Path.{_≡_, _∙_, refl, ap}
 use mathlib.Core.List.{List, [], _++_, append-nil}
@@ -15,7 +16,7 @@ use Rattle.gates.specs.Open.Step.{rangeOf, stepWires, stepBoard, StepRea
 use Rattle.gates.proofs.Stepping.{Left}
 use Rattle.gates.proofs.Finishing.{length-shown, whole-range}
 
--- the value of a gate and what it shows, by the wires' numbers
+-- the value of a gate and its shown bit, by the numbers of the wires
 pub value-is : (ws : List ℕ) (g : Gate) → value ws g ≡ valueOf (g .kind) (getD ws (g .a) 0) (getD ws (g .b) 0) (getD ws (g .c) 0)
 unfolding value wire
 value-is ws g = refl
@@ -43,7 +44,7 @@ module _ (i : ℕ) (t : List ℕ) (gates : ℕ) (ws : List ℕ) (e : gates ≡ l
       let end : drop (i + gates) ws ≡ [] = drop-of-length-le ws {i = i + gates} (omega arith) in
       rw (add-zero i, end, whole-range t gates e) (append-nil (wiresOf (take i ws) (gatesOf t)))
 
-  -- the board: the shown bits that the step left, and the outputs put behind them
+  -- the board: the shown bits that the step left, then the outputs
   module _ (k : ℕ) (tape board : List ℕ) (lt : length tape ≡ conditionalCount (gatesOf t)) (lb : length board ≡ conditionalCount (gatesOf t) + k) where
     bits : List ℕ
     bits = shownBits (wiresOf (take i ws) (gatesOf t)) (gatesOf t) tape

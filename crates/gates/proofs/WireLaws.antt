@@ -1,4 +1,4 @@
--- The laws of wires: their number, that a wire once made keeps its value, and lists put one after the other.
+-- Laws of wires: how many there are, that a wire keeps its value, and lists put one after the other.
 -- Assumes nothing.
 use mathlib.Core.Path.{_≡_, _∙_, refl}
 use mathlib.Core.List.{List, [], _∷_, _++_}
@@ -29,7 +29,7 @@ wires-keep ws [] i h = refl
 wires-keep ws (g ∷ gs) i h =
     wires-keep (ws ++ (value ws g ∷ [])) gs i (omega (arith, length-append ws (value ws g ∷ []))) ∙ List·getD-append ws (value ws g ∷ []) 0 i h
 
--- a good gate has one value on any two tables of wires that agree below its own wire
+-- a good gate has the same value on two wire tables that agree below its own wire
 pub same-value : (ws vs : List ℕ) (own : ℕ) (g : Gate) → GoodGate own g → ((i : ℕ) → i < own → getD ws i 0 ≡ getD vs i 0) → value ws g ≡ value vs g
 unfolding value wire
 same-value ws vs own g good agree =

@@ -1,4 +1,4 @@
--- Demand 3 at the gate layer, for any list: a board tells no more of the inputs than its outputs do.
+-- Demand 3 for any list: a board reveals no more of the inputs than its outputs do.
 use mathlib.Core.Path.{_≡_}
 use mathlib.Core.List.{List}
 use Prim.Native.Nat.{ℕ, _+_, _%_, _≤_, _<_}
@@ -7,7 +7,7 @@ use Rattle.gates.specs.Open.Gate.{Gate}
 use Rattle.gates.specs.Open.Wires.{wire, wiresOf, outputsOf}
 use Rattle.gates.specs.Open.Board.{conditionals, conditionalCount, boardOf, MaskTape}
 
--- There is one with this property, and any other with it is equal to that one.
+-- Something has this property, and whatever else has it is equal to it.
 abbrev pub ExactlyOne : {A : Type 0} → (A → Type 0) → Type 0
 ExactlyOne {A} P = (x : A) × P x × ((y : A) → P y → y ≡ x)
 
@@ -15,16 +15,16 @@ ExactlyOne {A} P = (x : A) × P x × ((y : A) → P y → y ≡ x)
 abbrev pub conditionalGate : List Gate → ℕ → Gate
 conditionalGate gs i = getD (conditionals gs) i (record { kind = 0; a = 0; b = 0; c = 0 })
 
--- A finished board of C + k bytes: shown bit i is the sum modulo 2 of tape byte i and of wire a of conditional gate
--- number i, and the k outputs stand behind them.
+-- A finished board of C + k bytes: shown bit i is the sum modulo 2 of tape byte i and wire a of conditional gate i;
+-- the k outputs follow.
 pub record Finished (ws : List ℕ) (gs : List Gate) (k : ℕ) (tape board : List ℕ) : Type 0 where
   pub size : length board ≡ conditionalCount gs + k
   pub shown : (i : ℕ) → i < conditionalCount gs
       → getD board i 0 ≡ (wire ws (conditionalGate gs i .a) + getD tape i 0) % 2
   pub closing : drop (conditionalCount gs) board ≡ outputsOf k ws
 
--- What two boards of one list show of its inputs xs and ys. Shown bits and outputs follow from the wires, and the
--- wires from the inputs and the list, never from a tape.
+-- What two boards of one list show of its inputs xs and ys. Shown bits and outputs depend on the wires, and the wires
+-- on inputs and list, never on a tape.
 pub record Hidden (gs : List Gate) (k : ℕ) (xs ys : List ℕ) : Type 0 where
   -- under every mask tape both boards are finished
   pub first-board : (s : List ℕ) → MaskTape gs s → Finished (wiresOf xs gs) gs k s (boardOf (wiresOf xs gs) gs k s)
@@ -33,7 +33,7 @@ pub record Hidden (gs : List Gate) (k : ℕ) (xs ys : List ℕ) : Type 0 where
   pub same-board : (s : List ℕ) → MaskTape gs s
       → ExactlyOne (λ (t : List ℕ). MaskTape gs t × (boardOf (wiresOf xs gs) gs k s ≡ boardOf (wiresOf ys gs) gs k t))
 
--- For any list of at least k gates, and any two inputs of it whose k outputs are equal.
+-- For any list of at least k gates, and any two inputs whose k outputs are equal.
 abbrev pub BoardHidesInputs : Type 0
 BoardHidesInputs =
     (gs : List Gate) (k : ℕ) (xs ys : List ℕ) → k ≤ length gs

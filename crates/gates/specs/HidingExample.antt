@@ -1,5 +1,5 @@
--- Demand 3 on one list: different inputs, equal outputs, two tapes, one board. The list has one gate, wire 0 and
--- wire 1, which is conditional.
+-- Demand 3 on one list: different inputs, equal outputs, two tapes, one board. The list has one gate, a conditional
+-- one on wire 0 and wire 1.
 use mathlib.Core.Path.{_≡_, refl}
 use mathlib.Core.List.{List, [], _∷_, zipWith}
 use Prim.Native.Nat.{ℕ}
@@ -50,7 +50,7 @@ pub second-wires : wiresOf (0 ∷ 1 ∷ []) (gatesOf oneGate) ≡ 0 ∷ 1 ∷ 0 
 unfolding oneGate wiresOf value wire gatesOf valueOf
 second-wires = refl
 
--- A gate of kind 6 in front of it, which is free: the tape still has one byte, and the board one shown bit.
+-- With a free gate of kind 6 in front, the tape still has one byte, and the board one shown bit.
 unfoldable pub freeGateFirst : List ℕ
 freeGateFirst = 6 ∷ 0 ∷ 1 ∷ 0 ∷ 4 ∷ 0 ∷ 2 ∷ 0 ∷ []
 

@@ -1,4 +1,4 @@
-// The eight kinds of gates, and the table of kinds: every other part reads operand counts and conditional marks in it.
+// The eight kinds of gates and their table. Operand counts and conditional marks are read from here and nowhere else.
 ghost use mathlib.Core.Path.{_≡_};
 ghost use mathlib.Core.Bool.{cond};
 ghost use Rattle.gates.specs.Kind.{operandCounts, operandsOf, conditionalMarks, conditionalOf, valueOf, applied};
@@ -28,13 +28,13 @@ pub const OPERANDS: [u32; 8] = [0, 0, 1, 1, 2, 2, 2, 3];
 // The conditional mark of each kind.
 pub const CONDITIONAL: [bool; 8] = [false, false, false, false, true, true, false, true];
 
-// What a gate comes to: its value, or a refusal, as no kind above 7 has a value.
+// What a gate comes to: a value, or a refusal, because no kind above 7 has a value.
 pub enum GateValue {
     Value(u8),
     NoSuchKind,
 }
 
-// The number of operands that a kind uses. The caller has the column at hand, so that a loop lays it out once.
+// The number of operands that a kind uses. The caller lends the column, so that a loop lays it out only once.
 pub fn operands(counts: &[u32; 8], kind: u32) -> u32
     requires { ⌜ now counts ≡ operandCounts ⌝ }
     ensures { λ r. ⌜ r ≡ operandsOf kind ⌝ }
@@ -46,7 +46,7 @@ pub fn operands(counts: &[u32; 8], kind: u32) -> u32
     }
 }
 
-// Whether a kind is conditional, so that its gate shows wire a under a mask.
+// Whether a kind is conditional: its gate then shows wire a under a mask.
 pub fn conditional(marks: &[bool; 8], kind: u32) -> bool
     requires { ⌜ now marks ≡ conditionalMarks ⌝ }
     ensures { λ r. ⌜ r ≡ conditionalOf kind ⌝ }
@@ -58,7 +58,7 @@ pub fn conditional(marks: &[bool; 8], kind: u32) -> bool
     }
 }
 
-// How many conditional gates one gate of a kind is: 1 where the kind has the mark, else 0.
+// What a gate of a kind adds to C: 1 if the kind is conditional, else 0.
 pub fn mark(marks: &[bool; 8], kind: u32) -> usize
     requires { ⌜ now marks ≡ conditionalMarks ⌝ }
     ensures { λ r. ⌜ r ≡ cond (conditionalOf kind) 1 0 ⌝ }
@@ -66,7 +66,7 @@ pub fn mark(marks: &[bool; 8], kind: u32) -> usize
     if conditional(marks, kind) { 1 } else { 0 }
 }
 
-// The value of a gate from the values of its operands. The only match on a kind.
+// The value of a gate from the values of its operands. The only match on a kind in this crate.
 pub fn apply(kind: u32, a: u8, b: u8, c: u8) -> GateValue
     ensures { λ r. ⌜ r ≡ applied kind a b c ⌝ }
 {
@@ -83,7 +83,7 @@ pub fn apply(kind: u32, a: u8, b: u8, c: u8) -> GateValue
     }
 }
 
-// The value of a gate, 0 where its kind has none.
+// The value of a gate, 0 if its kind is unknown.
 pub(crate) fn value(kind: u32, a: u8, b: u8, c: u8) -> u8
     ensures { λ r. ⌜ r ≡ valueOf kind a b c ⌝ }
 {

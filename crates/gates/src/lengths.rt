@@ -4,8 +4,8 @@ ghost use Prim.Native.Nat.{_+_};
 ghost use lib.Dec.{eqb};
 ghost use lib.ListN.{length};
 
-// Whether bytes are as many as first and second together. The tape is to have C and 0, the wire table I and G, the
-// board C and the outputs. The sum is never formed: it could wrap.
+// Whether there are first + second bytes: C + 0 for a tape, I + G for a wire table, C + k for a board. The sum is
+// never formed, because it could wrap.
 pub fn has_length(bytes: &[u8], first: usize, second: usize) -> bool
     ensures { λ r. ⌜ r ≡ eqb (length (now (bytes .entry))) (first + second) ⌝ }
 {

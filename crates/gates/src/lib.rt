@@ -1,4 +1,4 @@
-// Gate lists: their table of kinds, their test, and their evaluation with a masked board.
+// Gate lists: the table of kinds, the test of a list, and its evaluation with a masked board.
 // This crate knows gates and wires, and nothing of juries.
 pub mod kind;
 pub mod lengths;

@@ -1,24 +1,24 @@
-// The test of a list of gates, whoever wrote it.
+// The test of a gate list, whoever wrote it.
 use crate::kind;
 use crate::kind::GateValue;
 ghost use mathlib.Core.Path.{_≡_};
 ghost use mathlib.Core.Bool.{_&&_};
 ghost use Prim.Native.Nat.{ℕ, _+_, _<_};
 ghost use lib.Dec.{ltb, eqb};
-ghost use Rattle.gates.specs.Kind.{operandCounts};
 ghost use Rattle.gates.specs.Gate.{gatesOf};
 ghost use lib.ListN.{length};
 ghost use Rattle.gates.specs.Board.{conditionalCount};
 ghost use Rattle.gates.specs.Limits.{operandLimit, tableGateLimit};
 ghost use Rattle.gates.specs.Test.{goodGate, firstBad, judged, tested};
+ghost use Rattle.gates.specs.inner.Test.{TestReady};
 
-// The most gates that a list may have.
+// The most gates that a list may have: 2^20.
 pub const MOST_GATES: usize = 1048576;
 
-// No 32-bit operand reaches this number.
+// 2^32, which no 32-bit operand reaches.
 const OPERAND_LIMIT: usize = 4294967296;
 
-// The answer of a test: the list's own G and C, or the test that it fails.
+// The answer of a test: the list's own G and C, or what is wrong with it.
 pub enum ListCheck {
     Accepted { gates: usize, conditional: usize },
     PartOfAGate,
@@ -27,7 +27,7 @@ pub enum ListCheck {
     BadGate(usize),
 }
 
-// Whether operands that are not in use are good.
+// Whether unused operands are good: each of them 0.
 fn are_zero(a: u32, b: u32, c: u32) -> bool
     ensures { λ r. ⌜ r ≡ (eqb a 0 && eqb b 0 && eqb c 0) ⌝ }
 {
@@ -40,7 +40,7 @@ fn are_zero(a: u32, b: u32, c: u32) -> bool
     c == 0
 }
 
-// What an operand is compared with for the own wire of gate g, inputs + g, which could wrap.
+// The bound on gate g's operands: its own wire, inputs + g. Where that sum could wrap, 2^32 bounds them as well.
 fn own_wire(inputs: usize, g: usize) -> usize
     requires { ⌜ g < tableGateLimit ⌝ }
     ensures { λ r. ⌜ ((x : ℕ) → x < operandLimit → ltb x r ≡ ltb x (inputs + g)) ⌝ }
@@ -52,7 +52,7 @@ fn own_wire(inputs: usize, g: usize) -> usize
     }
 }
 
-// Whether gate g, of these four numbers, is good.
+// Whether gate g, made of these four numbers, is good.
 fn gate_is_good(
     inputs: usize,
     g: usize,
@@ -62,8 +62,7 @@ fn gate_is_good(
     b: u32,
     c: u32,
 ) -> bool
-    requires { ⌜ g < tableGateLimit ⌝ }
-    requires { ⌜ now counts ≡ operandCounts ⌝ }
+    requires { ⌜ TestReady g (now counts) ⌝ }
     ensures { λ r. ⌜ r ≡ goodGate (inputs + g) (record { kind = kind; a = a; b = b; c = c }) ⌝ }
 {
     let GateValue::Value(_) = kind::apply(kind, 0, 0, 0) else {
@@ -89,7 +88,7 @@ fn gate_is_good(
     (c as usize) < own
 }
 
-// Tests the gates of a table one after the other, and counts the conditional ones.
+// Tests the gates of a table one after another, and counts the conditional ones.
 fn test_gates(inputs: usize, table: &[u32]) -> ListCheck
     ensures { λ r. ⌜
         r ≡ judged (firstBad inputs 0 (gatesOf (now (table .entry)))) (length (gatesOf (now (table .entry))))
@@ -121,7 +120,7 @@ fn test_gates(inputs: usize, table: &[u32]) -> ListCheck
     ListCheck::Accepted { gates, conditional }
 }
 
-// Tests a list for a number of inputs and of outputs.
+// Tests a list for a given number of inputs and of outputs.
 pub fn test(inputs: usize, outputs: usize, table: &[u32]) -> ListCheck
     ensures { λ r. ⌜ r ≡ tested inputs outputs (now (table .entry)) ⌝ }
 {

@@ -1,8 +1,8 @@
-// Where a search found the first thing of its kind.
+// Where a search found what it looked for.
 ghost use mathlib.Core.Path.{_≡_};
 ghost use Rattle.gates.specs.Test.{firstAboveOne};
 
-// A place, counted from 0, or none.
+// The first place, counted from 0, or nowhere.
 pub enum Place {
     At(usize),
     Nowhere,

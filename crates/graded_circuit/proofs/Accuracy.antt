@@ -4,7 +4,7 @@ use mathlib.Core.Path.{_≡_, _∙_, sym, ap, subst}
 use mathlib.Core.Bool.{Bool, true, false, cond}
 use mathlib.Core.Logic.{_⊎_, inl, inr, ⊎-elim}
 use mathlib.Core.List.{List, [], _∷_}
-use Prim.Native.Nat.{ℕ, suc, _+_, _-_, _≤_, _<_}
+use Prim.Native.Nat.{ℕ, suc, _+_, _-_, _*_, _≤_, _<_}
 use native.Mathlib.Omega.{arith}
 use lib.ListN.{length, getD}
 use lib.Seq.{ext-getD}
@@ -18,6 +18,7 @@ use Rattle.jury.specs.Shape.{gradedLimits, ballotBytes}
 use Rattle.jury.specs.Counts.{countsOf, countOf}
 use Rattle.rule_judgment.specs.Median.{medianOf}
 use Rattle.jury.specs.Accepted.{GradedBallots}
+use Rattle.basics.specs.Lists.{sum, tabulate}
 use Rattle.basics.proofs.Cases.{below-or-not}
 use Rattle.jury.proofs.Limits.{within}
 use Rattle.basics.proofs.Tabulate.{length-tabulate}
@@ -40,13 +41,14 @@ use Rattle.graded_circuit.proofs.SumLaws.{Sums}
 use Rattle.graded_circuit.proofs.MergeLaws.{Same, Rule}
 use Rattle.graded_circuit.proofs.CircuitLaws.{circuit-block, wonFrom, won-end, Final, circuit-law}
 use Rattle.graded_circuit.proofs.RuleLaws.{Row, upTo, row-sums, same-sequence, judgment-rule}
-use Rattle.graded_circuit.proofs.Columns.{column}
+use Rattle.graded_circuit.proofs.Columns.{column, one-grade}
 use Rattle.basics.proofs.Flags.{never-true}
 
 -- wires of the circuit, over candidates with these rows of counts
 module _ (W : ℕ → ℕ) (b : Binary W) (p : Plan) (f : Planned p) (two : 1 < p .candidates) (h : Holds W (p .inputs) (circuit p))
     (rows : List (List ℕ)) (long : length rows ≡ p .candidates) (row-is : (c : ℕ) → c < p .candidates → Row (p .ballots) (p .grades) (getD rows c []))
-    (counted : (c g : ℕ) → c < p .candidates → g < p .grades → ones W (bitsAt p c g) (apart p) (p .ballots) ≡ getD (getD rows c []) g 0) where
+    (counted : (c g : ℕ) → c < p .candidates → g < p .grades → ones W (bitsAt p c g) (apart p) (p .ballots) ≡ getD (getD rows c []) g 0)
+    (single : (c i : ℕ) → c < p .candidates → i < p .ballots → sum (tabulate (p .grades) (λ g. W (bitsAt p c g + i * apart p))) ≡ 1) where
   some : 0 < p .grades
   some = omega (arith, f .d-least)
 
@@ -69,7 +71,7 @@ module _ (W : ℕ → ℕ) (b : Binary W) (p : Plan) (f : Planned p) (two : 1 < 
   next-count : (c g : ℕ) → c < p .candidates → suc g < p .grades → upTo (getD rows c []) g + ones W (bitsAt p c (suc g)) (apart p) (p .ballots) ≡ upTo (getD rows c []) (suc g)
   next-count c g l m = omega (arith, counted c (suc g) l m, running-next (getD rows c []) (suc g))
 
-  judged-by : Final p f two W b h (λ c. upTo (getD rows c [])) (λ i j. Precedes (getD rows i []) (getD rows j [])) rule (λ c. medianOf (getD rows c [])) sums first-count next-count → Judged
+  judged-by : Final p f two W b h (λ c. upTo (getD rows c [])) (λ i j. Precedes (getD rows i []) (getD rows j [])) rule (λ c. medianOf (getD rows c [])) sums first-count next-count single → Judged
   judged-by final =
       record {
         best = final .best;
@@ -82,7 +84,7 @@ module _ (W : ℕ → ℕ) (b : Binary W) (p : Plan) (f : Planned p) (two : 1 < 
       }
 
   judged : Judged
-  judged = judged-by (circuit-law p f two W b h (λ c. upTo (getD rows c [])) (λ i j. Precedes (getD rows i []) (getD rows j [])) rule (λ c. medianOf (getD rows c [])) sums first-count next-count)
+  judged = judged-by (circuit-law p f two W b h (λ c. upTo (getD rows c [])) (λ i j. Precedes (getD rows i []) (getD rows j [])) rule (λ c. medianOf (getD rows c [])) sums first-count next-count single)
 
   -- no sequence precedes the best one's
   unpreceded : (j : Judged) (c : ℕ) → c < p .candidates → precedes (sequenceOf (getD rows c [])) (sequenceOf (getD rows (j .best) [])) ≡ false
@@ -186,4 +188,4 @@ own-list-is-accurate s xs a = ⊎-elim many one (below-or-not 1 (s .candidates))
         ∙ closing-from s xs gs (enough-gates p f l)
         (λ i h.
         let at : length xs + length gs - s .candidates + i ≡ wonFrom p f l + i = omega (arith, won-end p f l, a .size) in
-        ap W at ∙ closing-wires W (bits-of gs good) p f l holds (countsOf s xs) (counts-length s xs) row-is counted i h)
+        ap W at ∙ closing-wires W (bits-of gs good) p f l holds (countsOf s xs) (counts-length s xs) row-is counted (one-grade s xs gs a) i h)

@@ -8,17 +8,20 @@ use lib.Dec.{T}
 use lib.ListN.{length, length-append}
 use Rattle.gates.specs.Gate.{Gate}
 use Rattle.gates.specs.Test.{goodGate}
+use Rattle.gates.specs.Kind.{operandsOf}
 use Rattle.gates.proofs.Laws.{AllGood, good-append, operand-counts}
 use Rattle.gate_words.specs.Word.{Below}
 use Rattle.gate_words.specs.Halves.{unequalCut, unequalSpan, compareCut, compareSpan}
 use Rattle.gate_words.specs.Reach.{reach, reachSpan}
-use Rattle.gate_words.specs.Choice.{copies, complements, choose, parity}
-use Rattle.gate_words.specs.Counter.{counter, countSize, accumulator, addSize, Countable}
-use Rattle.gate_words.proofs.ChoiceSteps.{length-each, length-choose, length-chain}
+use Rattle.gate_words.specs.Choice.{choose, parity}
+use Rattle.gate_words.specs.Rows.{xorRows}
+use Rattle.gate_words.specs.Counter.{countLevels, countDigitsAs, countSize, Countable}
+use Rattle.gate_words.proofs.ChoiceSteps.{length-choose, length-chain}
 use Rattle.gate_words.proofs.HalvesLaws.{length-unequal-cut, unequal-cut-good, length-compare-cut, compare-cut-good}
 use Rattle.gate_words.proofs.ReachLaws.{length-reach, reach-good}
-use Rattle.gate_words.proofs.CounterSteps.{length-counter, length-accumulator}
-use Rattle.gate_words.proofs.PointsBack.{copies-good, complements-good, choose-good, chain-good, counter-good, accumulator-good}
+use Rattle.gate_words.proofs.RowLaws.{length-rows, rows-good}
+use Rattle.gate_words.proofs.CounterSteps.{length-count, length-digits}
+use Rattle.gate_words.proofs.PointsBack.{choose-good, chain-good, count-levels-good, count-digits-good}
 
 -- a block of m gates, well-formed where its first gate makes wire n
 pub record Block (n : ℕ) (gs : List Gate) (m : ℕ) : Type 0 where
@@ -42,11 +45,9 @@ sized {n} {l} {m} {gs} e a = subst (Block n gs) e a
 pub gate-block : {n m : ℕ} {g : Gate} {gs : List Gate} → T (goodGate n g) → Block (suc n) gs m → Block n (g ∷ gs) (suc m)
 gate-block {n} {m} {g} {gs} t a = record { long = ap suc (a .long); good = (t, a .good) }
 
-pub copies-block : (n x w : ℕ) → x + w ≤ n → Block n (copies x w) w
-copies-block n x w h = record { long = length-each 2 x w; good = copies-good n x w h }
-
-pub complements-block : (n x w : ℕ) → x + w ≤ n → Block n (complements x w) w
-complements-block n x w h = record { long = length-each 3 x w; good = complements-good n x w h }
+-- a block from the same wire, said otherwise
+pub from-wire : {n k m : ℕ} {gs : List Gate} → n ≡ k → Block n gs m → Block k gs m
+from-wire {n} {k} {m} {gs} e a = subst (λ (i : ℕ). Block i gs m) e a
 
 pub choose-block : (n f x y w : ℕ) → f < n → x + w ≤ n → y + w ≤ n → Block n (choose f x y w) w
 choose-block n f x y w hf hx hy = record { long = length-choose f x y w; good = choose-good n f x y w hf hx hy }
@@ -63,8 +64,12 @@ reach-block n x y e r hx hy = record { long = length-reach n x y e r; good = rea
 pub parity-block : (n s at d m : ℕ) → s < n → Below n at d m → Block n (parity n s at d m) m
 parity-block n s at d m hs bl = record { long = length-chain 6 n s at d m; good = chain-good n 6 s at d m (omega arith) (operand-counts .6) hs bl }
 
-pub counter-block : (n at d m x r : ℕ) → Below n at d m → Countable m x r → Block n (counter n at d m x r) (countSize m x r + (r + 1))
-counter-block n at d m x r bl k = record { long = length-counter n at d m x r; good = counter-good n at d m x r bl k }
+pub rows-block : (n x dx y dy m : ℕ) → Below n x dx m → Below n y dy m → Block n (xorRows x dx y dy m) m
+rows-block n x dx y dy m hx hy = record { long = length-rows x dx y dy m; good = rows-good n x dx y dy m hx hy }
 
-pub accumulator-block : (n a at d m r : ℕ) → a + r < n → Below n at d m → Block n (accumulator n a at d m r) (addSize m r + (r + 1))
-accumulator-block n a at d m r ha bl = record { long = length-accumulator n a at d m r; good = accumulator-good n a at d m r ha bl }
+pub levels-block : (n at d m x r : ℕ) → Below n at d m → Countable m x r → Block n (countLevels n at d m x r) (countSize m x r)
+levels-block n at d m x r bl k = record { long = length-count n at d m x r; good = count-levels-good n at d m x r bl k }
+
+pub digits-block : (low top n at m x r q : ℕ) → low < 8 → operandsOf low ≡ 1 → top < 8 → operandsOf top ≡ 1 → at < q → n + countSize m x r ≤ q → Countable m x r
+    → Block q (countDigitsAs low top n at m x r) (r + 1)
+digits-block low top n at m x r q l₁ l₂ t₁ t₂ ha h k = record { long = length-digits low top n at m x r; good = count-digits-good low top n at m x r q l₁ l₂ t₁ t₂ ha h k }

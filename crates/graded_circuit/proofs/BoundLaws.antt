@@ -8,12 +8,11 @@ use native.Mathlib.Omega.{arith}
 use lib.ListN.{length}
 use lib.Pow.{pow-mono}
 use Rattle.basics.proofs.Cases.{below-or-not}
-use Rattle.gate_words.specs.Counter.{countSize}
-use Rattle.gate_words.proofs.CounterSteps.{count-size-most, add-size-most}
+use Rattle.gate_words.proofs.CounterSteps.{count-size-most}
 use Rattle.graded_circuit.specs.declared.plan.Plan.{Plan}
 use Rattle.graded_circuit.specs.Plan.{Planned}
 use Rattle.graded_circuit.specs.Bound.{boundOf}
-use Rattle.graded_circuit.specs.RunningSums.{wordSpan, middleSpan, lastSpan, laterSpan}
+use Rattle.graded_circuit.specs.RunningSums.{wordSpan, sumSize, worstSize}
 use Rattle.graded_circuit.specs.Key.{keySpan, candidateSpan}
 use Rattle.gate_words.proofs.ReachLaws.{reach-last-most}
 use Rattle.graded_circuit.specs.Median.{medianSize}
@@ -21,7 +20,7 @@ use Rattle.graded_circuit.specs.Nearest.{sideSpan, eitherSpan}
 use Rattle.graded_circuit.specs.Contest.{lowerSpan}
 use Rattle.graded_circuit.specs.Merge.{mergeSpan}
 use Rattle.graded_circuit.specs.OwnList.{levelsSpan, lowLevels, circuit}
-use Rattle.graded_circuit.proofs.CandidateBlocks.{middle-span, last-span, candidate-span}
+use Rattle.graded_circuit.proofs.CandidateBlocks.{candidate-span}
 use Rattle.graded_circuit.proofs.LevelsLaws.{span-one, span-more}
 use Rattle.graded_circuit.proofs.CircuitLaws.{circuit-block}
 
@@ -45,44 +44,41 @@ module _ (p : Plan) (f : Planned p) where
   nw : ℕ
   nw = p .ballots * suc (p .digits)
 
-  -- what a grade may take, and its share in the bound
-  grade : ℕ
-  grade = 2 * nw + 5 * w
+  -- what the levels of a sum may take, and a grade's share in the bound
+  levels : ℕ
+  levels = p .digits * (2 * p .ballots + 2)
 
   share : ℕ
   share = 2 * nw + (30 * w + 20)
 
-  first-most : countSize (p .ballots) (p .offset) (p .digits) + wordSpan p ≤ grade
-  unfolding grade nw w
-  first-most = omega (arith, count-size-most (p .ballots) (p .offset) (p .digits) (p .ballots) (omega arith) (f .n-least), levels-product (p .digits) (p .ballots))
+  sum-most : sumSize p ≤ levels
+  unfolding levels
+  sum-most = count-size-most (p .ballots) (p .offset) (p .digits) (p .ballots) (omega arith) (f .n-least)
 
-  middle-most : middleSpan p ≤ grade
-  unfolding grade nw w
-  middle-most = omega (arith, middle-span p, add-size-most (p .ballots) (p .digits) (p .ballots) (omega arith) (f .n-least), levels-product (p .digits) (p .ballots))
+  worst-most : worstSize p ≤ levels
+  unfolding levels
+  worst-most = count-size-most (p .ballots) (p .worst) (p .digits) (p .ballots) (omega arith) (f .n-least)
 
-  last-most : lastSpan p ≤ grade
-  unfolding grade nw w
-  last-most = omega (arith, last-span p, count-size-most (p .ballots) (p .worst) (p .digits) (p .ballots) (omega arith) (f .n-least), levels-product (p .digits) (p .ballots))
+  -- a row, its levels and a word of the key
+  small : p .ballots + levels + wordSpan p ≤ share
+  unfolding levels share nw w
+  small = omega (arith, levels-product (p .digits) (p .ballots))
 
-  later-most : (t : ℕ) → laterSpan p t ≤ t * grade
-  unfolding laterSpan
-  later-most zero = omega arith
-  later-most (suc t) = omega (arith, mul-le-mul-left {m = middleSpan p} {n = grade} t middle-most, last-most, suc-mul t grade)
-
-  -- a word of the key for each grade beside its sum
+  -- no more for each grade
   candidate-most : candidateSpan p ≤ p .grades * share
   candidate-most =
       let t = p .grades - 2 in
       let words : p .grades - 1 ≡ suc t = omega (arith, f .d-least) in
       let d : p .grades ≡ suc (suc t) = omega (arith, f .d-least) in
-      let each : t * (grade + wordSpan p) ≡ t * grade + t * wordSpan p = mul-add t grade (wordSpan p) in
       omega (
         arith,
         candidate-span p,
-        first-most,
-        later-most t,
-        each,
-        mul-le-mul-left {m = grade + wordSpan p} {n = share} t small,
+        mul-le-mul-right {m = p .grades - 3} {n = t} (p .ballots) (omega arith),
+        mul-le-mul-left {m = sumSize p} {n = levels} t sum-most,
+        worst-most,
+        mul-add t (p .ballots + levels) (wordSpan p),
+        mul-add t (p .ballots) levels,
+        mul-le-mul-left {m = p .ballots + levels + wordSpan p} {n = share} t small,
         small,
         ap (λ (k : ℕ). k * wordSpan p) words,
         suc-mul t (wordSpan p),
@@ -90,9 +86,6 @@ module _ (p : Plan) (f : Planned p) where
         suc-mul (suc t) share,
         suc-mul t share,
       )
-    where
-      small : grade + wordSpan p ≤ share
-      small = unfold grade share w in (omega arith)
 
   pub digits-most : p .digits ≤ 7
   digits-most = let no : ¬ (8 ≤ p .digits) = not-eight in omega arith
@@ -232,13 +225,11 @@ module _ (p : Plan) (f : Planned p) where
       let each : p .grades * share ≤ 7 * 5000 = mul-le-mul (f .d-most) share-small in
       omega (arith, candidate-most)
 
-  pub middle-small : middleSpan p ≤ 5000
-  unfolding grade share
-  middle-small = omega (arith, middle-most, share-small)
+  pub sum-small : sumSize p ≤ 5000
+  sum-small = omega (arith, sum-most, small, share-small)
 
-  pub last-small : lastSpan p ≤ 5000
-  unfolding grade share
-  last-small = omega (arith, last-most, share-small)
+  pub worst-small : worstSize p ≤ 5000
+  worst-small = omega (arith, worst-most, small, share-small)
 
   pub merge-few : (l m : ℕ) → l + m ≤ 8 → mergeSpan p l m + keySpan p ≤ 500
   merge-few l m h = omega (arith, merge-most l m h, merge-small)

@@ -2,26 +2,19 @@
 -- Assumes nothing.
 use mathlib.Core.Path.{_≡_, refl, sym, ap}
 use Prim.Native.Nat.{ℕ, zero, suc, _+_, _-_, _*_, _≤_, _<_}
-use native.Mathlib.Nat.{suc-mul, zero-mul}
+use native.Mathlib.Nat.{suc-mul, zero-mul, mul-one, mul-le-mul-right}
 use native.Mathlib.Omega.{arith}
-use Rattle.gate_words.specs.Counter.{countSize, addSize}
+use Rattle.gates.proofs.Laws.{operand-counts}
+use Rattle.gate_words.specs.Word.{Below}
+use Rattle.gate_words.proofs.Places.{below-first}
 use Rattle.graded_circuit.specs.declared.plan.Plan.{Plan}
 use Rattle.graded_circuit.specs.Plan.{Planned, bitsAt, apart}
-use Rattle.graded_circuit.specs.RunningSums.{wordSpan, firstSum, firstGrade, middleSpan, middleGrade, middleGrades, lastSpan, lastGrade, laterGrades, laterSpan}
-use Rattle.graded_circuit.specs.Key.{keyWord, keyWords, candidate, keyOf, keySpan, candidateSpan}
-use Rattle.graded_circuit.proofs.Blocks.{Block, none-block, both-block, sized, gate-block, copies-block, complements-block, counter-block, accumulator-block}
-use Rattle.graded_circuit.proofs.PlanFacts.{bits-below, first-countable, worst-countable}
-use Rattle.gate_words.proofs.PointsBack.{good-not}
+use Rattle.graded_circuit.specs.RunningSums.{wordSpan, sumSize, worstSize, rowAt, rowApart, rows, levelsFrom, sumLevels, allLevels, worstLevels}
+use Rattle.graded_circuit.specs.Key.{keyWord, keyWords, worstWord, sumsAt, worstAt, candidate, keyOf, keySpan, candidateSpan}
+use Rattle.graded_circuit.proofs.Blocks.{Block, none-block, both-block, sized, from-wire, rows-block, levels-block, digits-block}
+use Rattle.graded_circuit.proofs.PlanFacts.{all-below, bits-below, first-countable, worst-countable}
 
-pub middle-span : (p : Plan) → middleSpan p ≡ wordSpan p + addSize (p .ballots) (p .digits)
-unfolding middleSpan
-middle-span p = refl
-
-pub last-span : (p : Plan) → lastSpan p ≡ wordSpan p + countSize (p .ballots) (p .worst) (p .digits) + wordSpan p
-unfolding lastSpan
-last-span p = refl
-
-pub candidate-span : (p : Plan) → candidateSpan p ≡ countSize (p .ballots) (p .offset) (p .digits) + laterSpan p (p .grades - 2) + wordSpan p + keySpan p
+pub candidate-span : (p : Plan) → candidateSpan p ≡ (p .grades - 3) * p .ballots + (p .grades - 2) * sumSize p + worstSize p + keySpan p
 unfolding candidateSpan
 candidate-span p = refl
 
@@ -29,73 +22,89 @@ pub key-of : (p : Plan) (n : ℕ) → keyOf p n + keySpan p ≡ n + candidateSpa
 unfolding candidateSpan
 key-of p n = omega arith
 
+-- as many rows are written before wire m as the sums of the grades before grade t count
+abbrev pub RowsBefore : Plan → ℕ → ℕ → ℕ → Type 0
+RowsBefore p n m t = (g : ℕ) → g < t → n + g * p .ballots ≤ m
+
+pub rows-before : (p : Plan) (n : ℕ) → RowsBefore p n (sumsAt p n) (0 + (p .grades - 2))
+rows-before p n g l = omega (arith, mul-le-mul-right {m = g} {n = p .grades - 3} (p .ballots) (omega arith))
+
 module _ (p : Plan) (f : Planned p) where
-  pub first-block : (n c : ℕ) → p .inputs ≤ n → c < p .candidates → Block n (firstGrade p n c) (countSize (p .ballots) (p .offset) (p .digits) + wordSpan p)
-  unfolding firstGrade
-  first-block n c h hc =
-      let d = f .d-least in
-      counter-block n (bitsAt p c 0) (apart p) (p .ballots) (p .offset) (p .digits) (bits-below p f n c 0 h hc (omega arith)) (first-countable p f)
+  some-grades : 0 < p .grades
+  some-grades = omega (arith, f .d-least)
 
-  pub middle-block : (a c g : ℕ) → p .inputs ≤ a → c < p .candidates → g < p .grades → Block (a + wordSpan p) (middleGrade p a c g) (middleSpan p)
-  unfolding middleGrade
-  middle-block a c g h hc hg =
-      let e = middle-span p in
-      sized (omega arith)
-      (accumulator-block (a + wordSpan p) a (bitsAt p c g) (apart p) (p .ballots) (p .digits) (omega arith) (bits-below p f (a + wordSpan p) c g (omega arith) hc hg))
+  -- what the sum of a grade counts is there once its row is
+  pub counted-below : (n m c g : ℕ) → p .inputs ≤ n → c < p .candidates → n + g * p .ballots ≤ m → Below m (rowAt p n c g) (rowApart p g) (p .ballots)
+  unfolding rowAt rowApart
+  counted-below n m c zero h hc hm = bits-below p f m c 0 (omega (arith, zero-mul (p .ballots))) hc some-grades
+  counted-below n m c (suc g) h hc hm = all-below m (n + g * p .ballots) 1 (p .ballots) (omega (arith, suc-mul g (p .ballots), mul-one (p .ballots)))
 
-  pub middles-block : (a c g t : ℕ) → p .inputs ≤ a → c < p .candidates → g + t ≤ p .grades → Block (a + wordSpan p) (middleGrades p a c g t) (t * middleSpan p)
-  unfolding middleGrades
-  middles-block a c g zero h hc hg = sized (sym (zero-mul (middleSpan p))) (none-block (a + wordSpan p))
-  middles-block a c g (suc t) h hc hg =
-      sized (omega (arith, suc-mul t (middleSpan p)))
-      (both-block (middle-block a c g h hc (omega arith)) (omega arith) (middles-block (a + middleSpan p) c (g + 1) t (omega arith) hc (omega arith)))
+  pub next-rows-block : (n c g t : ℕ) → p .inputs ≤ n → c < p .candidates → g + t < p .grades → Block (n + g * p .ballots) (rows p n c g t) (t * p .ballots)
+  unfolding rows
+  next-rows-block n c g zero h hc hg = sized (sym (zero-mul (p .ballots))) (none-block (n + g * p .ballots))
+  next-rows-block n c g (suc t) h hc hg =
+      let m = n + g * p .ballots in
+      sized (omega (arith, suc-mul t (p .ballots)))
+      (both-block
+      (rows-block m (rowAt p n c g) (rowApart p g) (bitsAt p c (suc g)) (apart p) (p .ballots) (counted-below n m c g h hc (omega arith)) (bits-below p f m c (suc g) (omega arith) hc (omega arith)))
+      (omega (arith, suc-mul g (p .ballots)))
+      (next-rows-block n c (suc g) t h hc (omega arith)))
 
-  pub last-block : (a c : ℕ) → p .inputs ≤ a → c < p .candidates → Block (a + wordSpan p) (lastGrade p a c) (lastSpan p)
-  unfolding lastGrade
-  last-block a c h hc =
-      let e = last-span p in
-      let d = f .d-least in
-      let n = a + wordSpan p in
-      let size = countSize (p .ballots) (p .worst) (p .digits) in
-      sized (omega arith)
-      (both-block (counter-block n (bitsAt p c (p .grades - 1)) (apart p) (p .ballots) (p .worst) (p .digits) (bits-below p f n c (p .grades - 1) (omega arith) hc (omega arith)) (worst-countable p f)) refl
-      (complements-block (n + (size + (p .digits + 1))) (n + size) (wordSpan p) (omega arith)))
+  pub sum-block : (n m c g : ℕ) → p .inputs ≤ n → c < p .candidates → n + g * p .ballots ≤ m → Block (levelsFrom p m g) (sumLevels p n m c g) (sumSize p)
+  unfolding sumLevels
+  sum-block n m c g h hc hm =
+      levels-block (levelsFrom p m g) (rowAt p n c g) (rowApart p g) (p .ballots) (p .offset) (p .digits) (counted-below n (levelsFrom p m g) c g h hc (omega arith)) (first-countable p f)
 
-  pub later-block : (a c t : ℕ) → p .inputs ≤ a → c < p .candidates → t < p .grades → Block (a + wordSpan p) (laterGrades p a c t) (laterSpan p t)
-  unfolding laterGrades laterSpan
-  later-block a c zero h hc ht = none-block (a + wordSpan p)
-  later-block a c (suc t) h hc ht =
-      both-block (middles-block a c 1 t h hc (omega arith)) (omega arith) (last-block (a + t * middleSpan p) c (omega arith) hc)
+  pub all-levels-block : (n m c g t : ℕ) → p .inputs ≤ n → c < p .candidates → RowsBefore p n m (g + t) → Block (levelsFrom p m g) (allLevels p n m c g t) (t * sumSize p)
+  unfolding allLevels
+  all-levels-block n m c g zero h hc hm = sized (sym (zero-mul (sumSize p))) (none-block (levelsFrom p m g))
+  all-levels-block n m c g (suc t) h hc hm =
+      sized (omega (arith, suc-mul t (sumSize p)))
+      (both-block (sum-block n m c g h hc (hm g (omega arith))) (omega (arith, suc-mul g (sumSize p))) (all-levels-block n m c (suc g) t h hc (λ i l. hm i (omega arith))))
 
-  pub key-word-block : (n a : ℕ) → a + wordSpan p ≤ n → Block n (keyWord p a) (wordSpan p)
+  pub worst-levels-block : (m c : ℕ) → p .inputs ≤ m → c < p .candidates → Block m (worstLevels p m c) (worstSize p)
+  unfolding worstLevels
+  worst-levels-block m c h hc =
+      levels-block m (bitsAt p c (p .grades - 1)) (apart p) (p .ballots) (p .worst) (p .digits) (bits-below p f m c (p .grades - 1) h hc (omega (arith, some-grades))) (worst-countable p f)
+
+  pub key-word-block : (q n m c g : ℕ) → p .inputs ≤ n → c < p .candidates → n + g * p .ballots ≤ m → levelsFrom p m (suc g) ≤ q → Block q (keyWord p n m c g) (wordSpan p)
   unfolding keyWord
-  key-word-block n a h =
-      both-block (copies-block n a (p .digits) (omega arith)) refl (gate-block (good-not (n + p .digits) (a + p .digits) (omega arith)) (none-block (suc (n + p .digits))))
+  key-word-block q n m c g h hc hm hq =
+      let e = suc-mul g (sumSize p) in
+      digits-block 2 3 (levelsFrom p m g) (rowAt p n c g) (p .ballots) (p .offset) (p .digits) q (omega arith) (operand-counts .2) (omega arith) (operand-counts .3)
+      (below-first q (rowAt p n c g) (rowApart p g) (p .ballots) (f .n-least) (counted-below n q c g h hc (omega arith))) (omega arith) (first-countable p f)
 
-  pub key-words-block : (n a t : ℕ) → a + t * middleSpan p + wordSpan p ≤ n + middleSpan p → Block n (keyWords p a t) (t * wordSpan p)
+  pub key-words-block : (q n m c g t : ℕ) → p .inputs ≤ n → c < p .candidates → RowsBefore p n m (g + t) → levelsFrom p m (g + t) ≤ q → Block q (keyWords p n m c g t) (t * wordSpan p)
   unfolding keyWords
-  key-words-block n a zero h = sized (sym (zero-mul (wordSpan p))) (none-block n)
-  key-words-block n a (suc t) h =
-      let e = suc-mul t (middleSpan p) in
+  key-words-block q n m c g zero h hc hm hq = sized (sym (zero-mul (wordSpan p))) (none-block q)
+  key-words-block q n m c g (suc t) h hc hm hq =
+      let next : g + suc t ≡ suc g + t = omega arith in
+      let places = ap (λ (k : ℕ). k * sumSize p) next in
       sized (omega (arith, suc-mul t (wordSpan p)))
-      (both-block (key-word-block n a (omega arith)) refl (key-words-block (n + wordSpan p) (a + middleSpan p) t (omega arith)))
+      (both-block (key-word-block q n m c g h hc (hm g (omega arith)) (omega (arith, mul-le-mul-right {m = suc g} {n = suc g + t} (sumSize p) (omega arith)))) refl
+      (key-words-block (q + wordSpan p) n m c (suc g) t h hc (λ i l. hm i (omega arith)) (omega arith)))
 
-  -- the words before the last one end before it does
-  pub earlier-words : (t : ℕ) → t * middleSpan p ≤ laterSpan p t + middleSpan p
-  unfolding laterSpan
-  earlier-words zero = omega (arith, zero-mul (middleSpan p))
-  earlier-words (suc t) = omega (arith, suc-mul t (middleSpan p))
+  pub worst-word-block : (q m c : ℕ) → p .inputs ≤ m → c < p .candidates → m + worstSize p ≤ q → Block q (worstWord p m c) (wordSpan p)
+  unfolding worstWord
+  worst-word-block q m c h hc hq =
+      digits-block 3 2 m (bitsAt p c (p .grades - 1)) (p .ballots) (p .worst) (p .digits) q (omega arith) (operand-counts .3) (omega arith) (operand-counts .2)
+      (below-first q (bitsAt p c (p .grades - 1)) (apart p) (p .ballots) (f .n-least) (bits-below p f q c (p .grades - 1) (omega arith) hc (omega (arith, some-grades)))) hq (worst-countable p f)
 
   pub candidate-block : (n c : ℕ) → p .inputs ≤ n → c < p .candidates → Block n (candidate p n c) (candidateSpan p)
   unfolding candidate
   candidate-block n c h hc =
-      let a = firstSum p n in
       let t = p .grades - 2 in
-      let b = a + laterSpan p t in
+      let m = sumsAt p n in
+      let l = worstAt p n in
+      let x = keyOf p n in
       let d = f .d-least in
+      let before = rows-before p n in
       let words : p .grades - 1 ≡ suc t = omega arith in
+      let from : n + 0 * p .ballots ≡ n = omega (arith, zero-mul (p .ballots)) in
       sized (omega (arith, candidate-span p, ap (λ (k : ℕ). k * wordSpan p) words, suc-mul t (wordSpan p)))
-      (both-block (both-block (both-block (first-block n c h hc) (omega arith)
-      (later-block a c t (omega arith) hc (omega arith))) (omega arith)
-      (key-words-block (b + wordSpan p) a t (omega (arith, earlier-words t)))) (omega arith)
-      (key-word-block (b + wordSpan p + t * wordSpan p) b (omega arith)))
+      (both-block (both-block (both-block (both-block
+      (from-wire from (next-rows-block n c 0 (p .grades - 3) h hc (omega arith))) (omega (arith, zero-mul (sumSize p)))
+      (all-levels-block n m c 0 t h hc before)) (omega arith)
+      (worst-levels-block l c (omega arith) hc)) (omega arith)
+      (key-words-block x n m c 0 t h hc before (omega arith))) (omega arith)
+      (worst-word-block (x + t * wordSpan p) l c (omega arith) hc (omega arith)))

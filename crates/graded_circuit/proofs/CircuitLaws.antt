@@ -5,6 +5,7 @@ use Prim.Native.Nat.{ℕ, suc, _+_, _-_, _*_, _/_, _<_}
 use native.Mathlib.Nat.{zero-add}
 use native.Mathlib.Omega.{arith}
 use lib.ListN.{length}
+use Rattle.basics.specs.Lists.{sum, tabulate}
 use Rattle.gates.proofs.Laws.{Holds}
 use Rattle.gate_words.specs.Word.{ones}
 use Rattle.gate_words.proofs.Numbers.{Binary}
@@ -47,7 +48,8 @@ module _ (p : Plan) (f : Planned p) (two : 1 < p .candidates) where
   module _ (W : ℕ → ℕ) (b : Binary W) (h : Holds W (p .inputs) (circuit p)) (S : ℕ → ℕ → ℕ) (Before : ℕ → ℕ → Type 0) (rule : Rule (p .ballots) (p .grades - 1) (p .candidates) S Before)
       (medians : ℕ → ℕ) (sums : (i : ℕ) → i < p .candidates → Sums (p .ballots) (p .grades) (S i) (medians i))
       (none-before : (c : ℕ) → c < p .candidates → ones W (bitsAt p c 0) (apart p) (p .ballots) ≡ S c 0)
-      (one-more : (c g : ℕ) → c < p .candidates → suc g < p .grades → S c g + ones W (bitsAt p c (suc g)) (apart p) (p .ballots) ≡ S c (suc g)) where
+      (one-more : (c g : ℕ) → c < p .candidates → suc g < p .grades → S c g + ones W (bitsAt p c (suc g)) (apart p) (p .ballots) ≡ S c (suc g))
+      (single : (c i : ℕ) → c < p .candidates → i < p .ballots → sum (tabulate (p .grades) (λ g. W (bitsAt p c g + i * apart p))) ≡ 1) where
     -- the parts of the circuit
     parts : Holds W (p .inputs) (candidates p (p .inputs) 0 (p .candidates))
         × Holds W (levelsAt p) (levels p lowLevels (levelsAt p) 0 (p .candidates / 2))
@@ -65,7 +67,7 @@ module _ (p : Plan) (f : Planned p) (two : 1 < p .candidates) where
         (omega (arith, levels-block p f lowLevels other (k / 2) (k - k / 2) (omega arith) (omega arith) (omega arith) (omega arith) .long)) h
 
     keys : (c : ℕ) → c < p .candidates → Spells W b p f (keyAt p c) (S c)
-    keys c l = candidate-law W b p f (S c) (medians c) (sums c l) c l (none-before c l) (λ g m. one-more c g l m) (p .inputs + c * candidateSpan p) (omega arith) (each-candidate p f W (parts .0) c l)
+    keys c l = candidate-law W b p f (S c) (medians c) (sums c l) c l (none-before c l) (λ g m. one-more c g l m) (λ i m. single c i l m) (p .inputs + c * candidateSpan p) (omega arith) (each-candidate p f W (parts .0) c l)
 
     -- how each candidate stands to the best one
     pub record Final : Type 0 where

@@ -1,11 +1,12 @@
--- The bits that a grade's counter counts are the ones of its column.
+-- The bits of a grade are the ones of its column, and a ballot has one of them for each candidate.
 -- Assumes nothing.
 use mathlib.Core.Path.{_≡_, _∙_, sym, ap}
 use mathlib.Core.List.{List}
-use Prim.Native.Nat.{ℕ, zero, suc, _+_, _*_, _<_}
+use Prim.Native.Nat.{ℕ, zero, suc, _+_, _*_, _≤_, _<_}
 use native.Mathlib.Nat.{zero-mul, suc-mul, add-mul, mul-assoc}
 use native.Mathlib.Omega.{arith}
-use lib.ListN.{getD}
+use lib.ListN.{getD, drop}
+use lib.Seq.{getD-drop}
 use Rattle.gates.specs.Wires.{wire, wiresOf}
 use Rattle.gates.specs.Gate.{Gate}
 use Rattle.gates.proofs.Laws.{wires-start}
@@ -15,6 +16,9 @@ use Rattle.jury.specs.Counts.{countOf}
 use Rattle.jury.specs.Accepted.{GradedBallots}
 use Rattle.basics.proofs.Sums.{sum-none, sum-first}
 use Rattle.basics.proofs.Tabulate.{tabulate-cong}
+use Rattle.basics.proofs.Arithmetic.{row-within}
+use Rattle.jury.proofs.Sums.{addend, sum-ones}
+use Rattle.jury.proofs.CountLaws.{bit-added}
 use Rattle.jury.proofs.CountFacts.{column-bytes, byte-within}
 use Rattle.gate_words.specs.Word.{ones}
 use Rattle.gate_words.proofs.Numbers.{ones-none, ones-more}
@@ -34,16 +38,34 @@ ones-table W at d (suc m) =
 place : (i k c d g : ℕ) → (i * k + c) * d + g ≡ c * d + g + i * (k * d)
 place i k c d g = omega (arith, add-mul (i * k) c d, mul-assoc i k d)
 
--- for accepted ballots, whatever gates follow them
-pub column : (s : Shape) (xs : List ℕ) (gs : List Gate) → GradedBallots s xs → (c g : ℕ) → c < s .candidates → g < s .grades
-    → ones (wire (wiresOf xs gs)) (c * s .grades + g) (s .candidates * s .grades) (s .ballots) ≡ countOf s xs c g
-column s xs gs a c g hc hg =
-    ones-table (wire (wiresOf xs gs)) (c * s .grades + g) (s .candidates * s .grades) (s .ballots)
-    ∙ ap sum (tabulate-cong (s .ballots) _ _ (λ i l. byte i l))
-    ∙ sym (column-bytes s xs a c g)
-  where
-    byte : (i : ℕ) → i < s .ballots
-        → wire (wiresOf xs gs) (c * s .grades + g + i * (s .candidates * s .grades)) ≡ getD xs ((i * s .candidates + c) * s .grades + g) 0
-    byte i l =
-        let e = place i (s .candidates) c (s .grades) g in
-        ap (wire (wiresOf xs gs)) (sym e) ∙ wires-start xs gs ((i * s .candidates + c) * s .grades + g) (omega (arith, a .size, byte-within s i c g l hc hg))
+-- accepted ballots, whatever gates follow them
+module _ (s : Shape) (xs : List ℕ) (gs : List Gate) (a : GradedBallots s xs) where
+  byte : (i c g : ℕ) → i < s .ballots → c < s .candidates → g < s .grades
+      → wire (wiresOf xs gs) (c * s .grades + g + i * (s .candidates * s .grades)) ≡ getD xs ((i * s .candidates + c) * s .grades + g) 0
+  byte i c g l hc hg =
+      let e = place i (s .candidates) c (s .grades) g in
+      ap (wire (wiresOf xs gs)) (sym e) ∙ wires-start xs gs ((i * s .candidates + c) * s .grades + g) (omega (arith, a .size, byte-within s i c g l hc hg))
+
+  pub column : (c g : ℕ) → c < s .candidates → g < s .grades → ones (wire (wiresOf xs gs)) (c * s .grades + g) (s .candidates * s .grades) (s .ballots) ≡ countOf s xs c g
+  column c g hc hg =
+      ones-table (wire (wiresOf xs gs)) (c * s .grades + g) (s .candidates * s .grades) (s .ballots)
+      ∙ ap sum (tabulate-cong (s .ballots) _ _ (λ i l. byte i c g l hc hg))
+      ∙ sym (column-bytes s xs a c g)
+
+  pub one-grade : (c i : ℕ) → c < s .candidates → i < s .ballots → sum (tabulate (s .grades) (λ g. wire (wiresOf xs gs) (c * s .grades + g + i * (s .candidates * s .grades)))) ≡ 1
+  one-grade c i hc l =
+      ap sum (tabulate-cong (s .grades) _ _ (λ g hg. bit g hg))
+      ∙ sum-ones (s .grades) (drop (row * s .grades) xs)
+      ∙ a .rows row (omega (arith, row-within i (s .ballots) (s .candidates) l))
+    where
+      row : ℕ
+      row = i * s .candidates + c
+
+      bit : (g : ℕ) → g < s .grades → wire (wiresOf xs gs) (c * s .grades + g + i * (s .candidates * s .grades)) ≡ addend (getD (drop (row * s .grades) xs) g 0)
+      bit g hg =
+          byte i c g l hc hg
+          ∙ sym (added (getD xs (row * s .grades + g) 0) (a .bits (row * s .grades + g)))
+          ∙ ap addend (sym (getD-drop (row * s .grades) xs g 0))
+        where
+          added : (x : ℕ) → x ≤ 1 → addend x ≡ x
+          added x h = unfold addend in (bit-added x h)

@@ -1,40 +1,53 @@
 -- What decides of one candidate, side by side: its key.
-use mathlib.Core.List.{List, [], _∷_, _++_}
+use mathlib.Core.List.{List, [], _++_}
 use Prim.Native.Nat.{ℕ, zero, suc, _+_, _-_, _*_}
 use Rattle.gates.specs.Gate.{Gate}
-use Rattle.gate_words.specs.Gates.{notOf}
-use Rattle.gate_words.specs.Choice.{copies}
+use Rattle.gate_words.specs.Counter.{countDigitsAs}
 use Rattle.graded_circuit.specs.declared.plan.Plan.{Plan}
-use Rattle.gate_words.specs.Counter.{countSize}
-use Rattle.graded_circuit.specs.RunningSums.{wordSpan, firstSum, firstGrade, middleSpan, laterGrades, laterSpan}
+use Rattle.graded_circuit.specs.Plan.{bitsAt}
+use Rattle.graded_circuit.specs.RunningSums.{wordSpan, sumSize, worstSize, rowAt, rows, levelsFrom, allLevels}
+use Rattle.graded_circuit.specs.RunningSums.{worstLevels}
 
--- Of the sum at a: its low digits, and then whether twice the number of grades is below n. Where it is, the median
--- grade is worse than this grade.
-unfoldable pub keyWord : Plan → ℕ → List Gate
-keyWord p a = copies a (p .digits) ++ (notOf (a + p .digits) ∷ [])
+-- Of the sum of grade g: its low digits, and then whether twice the number of grades is below n. Where it is, the
+-- median grade is worse than this grade. The rows and the levels stand from wires n and m on.
+unfoldable pub keyWord : Plan → ℕ → ℕ → ℕ → ℕ → List Gate
+keyWord p n m c g = countDigitsAs 2 3 (levelsFrom p m g) (rowAt p n c g) (p .ballots) (p .offset) (p .digits)
 
--- The same of t sums, the first at a.
-unfoldable pub keyWords : Plan → ℕ → ℕ → List Gate
-keyWords p a zero = []
-keyWords p a (suc t) = keyWord p a ++ keyWords p (a + middleSpan p) t
+-- The same of t grades from grade g on.
+unfoldable pub keyWords : Plan → ℕ → ℕ → ℕ → ℕ → ℕ → List Gate
+keyWords p n m c g zero = []
+keyWords p n m c g (suc t) = keyWord p n m c g ++ keyWords p n m c (suc g) t
 
--- The circuit of candidate c from wire n on: the sums of all grades but the worst, and then the key, grade by grade.
+-- The same of the worst grade but one: the digits of the worst grade's count, whose levels start at wire m, say the
+-- opposite.
+unfoldable pub worstWord : Plan → ℕ → ℕ → List Gate
+worstWord p m c = countDigitsAs 3 2 m (bitsAt p c (p .grades - 1)) (p .ballots) (p .worst) (p .digits)
+
+-- The circuit of candidate c from wire n on: the rows, the levels of all sums, and then the key, grade by grade.
+abbrev pub sumsAt : Plan → ℕ → ℕ
+sumsAt p n = n + (p .grades - 3) * p .ballots
+
+abbrev pub worstAt : Plan → ℕ → ℕ
+worstAt p n = levelsFrom p (sumsAt p n) (p .grades - 2)
+
 unfoldable pub candidate : Plan → ℕ → ℕ → List Gate
 candidate p n c =
-    firstGrade p n c
-    ++ laterGrades p (firstSum p n) c (p .grades - 2)
-    ++ keyWords p (firstSum p n) (p .grades - 2)
-    ++ keyWord p (firstSum p n + laterSpan p (p .grades - 2))
+    rows p n c 0 (p .grades - 3)
+    ++ allLevels p n (sumsAt p n) c 0 (p .grades - 2)
+    ++ worstLevels p (worstAt p n) c
+    ++ keyWords p n (sumsAt p n) c 0 (p .grades - 2)
+    ++ worstWord p (worstAt p n) c
 
 -- Where its key stands, and how many gates it has.
 abbrev pub keyOf : Plan → ℕ → ℕ
-keyOf p n = firstSum p n + laterSpan p (p .grades - 2) + wordSpan p
+keyOf p n = worstAt p n + worstSize p
 
 abbrev pub keySpan : Plan → ℕ
 keySpan p = (p .grades - 1) * wordSpan p
 
 unfoldable pub candidateSpan : Plan → ℕ
-candidateSpan p = countSize (p .ballots) (p .offset) (p .digits) + laterSpan p (p .grades - 2) + wordSpan p + keySpan p
+candidateSpan p =
+    (p .grades - 3) * p .ballots + (p .grades - 2) * sumSize p + worstSize p + keySpan p
 
 -- In the key at x: the low digits of the sum of grade g, and whether the median grade is worse than g.
 abbrev pub lowAt : Plan → ℕ → ℕ → ℕ

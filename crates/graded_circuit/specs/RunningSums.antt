@@ -1,52 +1,55 @@
--- The running sums of one candidate's grade counts. The sum of a grade counts this grade and all better ones.
+-- The running sums of one candidate's grade counts. The sum of a grade counts this grade and all better ones: since a
+-- ballot gives one grade, it is the number of ones in a row that has the sums modulo 2 of these grades' bits.
 use mathlib.Core.List.{List, [], _++_}
 use Prim.Native.Nat.{ℕ, zero, suc, _+_, _-_, _*_}
 use Rattle.gates.specs.Gate.{Gate}
-use Rattle.gate_words.specs.Choice.{complements}
-use Rattle.gate_words.specs.Counter.{counter, countSize, accumulator, addSize}
+use Rattle.gate_words.specs.Rows.{xorRows}
+use Rattle.gate_words.specs.Counter.{countLevels, countSize}
 use Rattle.graded_circuit.specs.declared.plan.Plan.{Plan}
 use Rattle.graded_circuit.specs.Plan.{bitsAt, apart}
 
--- A sum is a word of digits + 1 wires: the offset plus the number of grades. Its top digit is 1 exactly where twice
+-- A sum is counted in digits + 1 digits: the offset plus the number of grades. Its top digit is 1 exactly where twice
 -- that number is at least n.
 abbrev pub wordSpan : Plan → ℕ
 wordSpan p = p .digits + 1
 
--- The best grade of candidate c, from wire n on.
-abbrev pub firstSum : Plan → ℕ → ℕ
-firstSum p n = n + countSize (p .ballots) (p .offset) (p .digits)
+abbrev pub sumSize : Plan → ℕ
+sumSize p = countSize (p .ballots) (p .offset) (p .digits)
 
-unfoldable pub firstGrade : Plan → ℕ → ℕ → List Gate
-firstGrade p n c = counter n (bitsAt p c 0) (apart p) (p .ballots) (p .offset) (p .digits)
+abbrev pub worstSize : Plan → ℕ
+worstSize p = countSize (p .ballots) (p .worst) (p .digits)
 
--- A grade g between the best and the two worst: its bits are added to the sum at a, right behind it.
-unfoldable pub middleSpan : Plan → ℕ
-middleSpan p = wordSpan p + addSize (p .ballots) (p .digits)
+-- What the sum of grade g of candidate c counts: the best grade's bits, or a row. The rows stand side by side from
+-- wire n on.
+unfoldable pub rowAt : Plan → ℕ → ℕ → ℕ → ℕ
+rowAt p n c zero = bitsAt p c 0
+rowAt p n c (suc g) = n + g * p .ballots
 
-unfoldable pub middleGrade : Plan → ℕ → ℕ → ℕ → List Gate
-middleGrade p a c g = accumulator (a + wordSpan p) a (bitsAt p c g) (apart p) (p .ballots) (p .digits)
+unfoldable pub rowApart : Plan → ℕ → ℕ
+rowApart p zero = apart p
+rowApart p (suc g) = 1
 
--- t such grades, from grade g on.
-unfoldable pub middleGrades : Plan → ℕ → ℕ → ℕ → ℕ → List Gate
-middleGrades p a c g zero = []
-middleGrades p a c g (suc t) = middleGrade p a c g ++ middleGrades p (a + middleSpan p) c (g + 1) t
+-- t rows behind that of grade g: each adds the next grade's bits to the row before it.
+unfoldable pub rows : Plan → ℕ → ℕ → ℕ → ℕ → List Gate
+rows p n c g zero = []
+rows p n c g (suc t) =
+    xorRows (rowAt p n c g) (rowApart p g) (bitsAt p c (suc g)) (apart p) (p .ballots) ++ rows p n c (suc g) t
 
--- The worst grade but one, behind the sum at a. Its sum is n less the count of the worst grade, since each ballot
--- gives one grade.
-unfoldable pub lastSpan : Plan → ℕ
-lastSpan p = wordSpan p + countSize (p .ballots) (p .worst) (p .digits) + wordSpan p
+-- The levels of the sum of grade g, where those of the best grade start at wire m.
+abbrev pub levelsFrom : Plan → ℕ → ℕ → ℕ
+levelsFrom p m g = m + g * sumSize p
 
-unfoldable pub lastGrade : Plan → ℕ → ℕ → List Gate
-lastGrade p a c =
-    counter (a + wordSpan p) (bitsAt p c (p .grades - 1)) (apart p) (p .ballots) (p .worst) (p .digits)
-    ++ complements (a + wordSpan p + countSize (p .ballots) (p .worst) (p .digits)) (wordSpan p)
+unfoldable pub sumLevels : Plan → ℕ → ℕ → ℕ → ℕ → List Gate
+sumLevels p n m c g =
+    countLevels (levelsFrom p m g) (rowAt p n c g) (rowApart p g) (p .ballots) (p .offset) (p .digits)
 
--- All grades behind the best one but the worst, t of them; the sum of the best stands at a.
-unfoldable pub laterGrades : Plan → ℕ → ℕ → ℕ → List Gate
-laterGrades p a c zero = []
-laterGrades p a c (suc t) = middleGrades p a c 1 t ++ lastGrade p (a + t * middleSpan p) c
+-- Those of t grades from grade g on.
+unfoldable pub allLevels : Plan → ℕ → ℕ → ℕ → ℕ → ℕ → List Gate
+allLevels p n m c g zero = []
+allLevels p n m c g (suc t) = sumLevels p n m c g ++ allLevels p n m c (suc g) t
 
--- How far behind a the last of these sums stands.
-unfoldable pub laterSpan : Plan → ℕ → ℕ
-laterSpan p zero = 0
-laterSpan p (suc t) = t * middleSpan p + lastSpan p
+-- The sum of the worst grade but one is n less the count of the worst grade, so it has no row: the levels from wire m
+-- on count the worst grade's bits.
+unfoldable pub worstLevels : Plan → ℕ → ℕ → List Gate
+worstLevels p m c =
+    countLevels m (bitsAt p c (p .grades - 1)) (apart p) (p .ballots) (p .worst) (p .digits)

@@ -7,15 +7,14 @@ use gates::kind;
 use graded_circuit::plan::Plan;
 use graded_keys::median::median;
 ghost use mathlib.Core.List.{_∷_, _++_, []};
-ghost use Prim.Native.Nat.{suc, _+_, _-_, _≤_};
+ghost use Prim.Native.Nat.{suc, _+_, _-_};
 ghost use Rattle.gate_words.specs.Gates.{copyOf, orOf, muxOf};
-ghost use Rattle.gate_words.specs.Halves.{unequalAt, compareCut, compareSpan, aboveAt};
+ghost use Rattle.gate_words.specs.Halves.{unequalAt, compareCut, aboveAt};
 ghost use Rattle.gate_words.specs.Writing.{Room, Wrote};
-ghost use Rattle.graded_circuit.specs.Plan.{Planned};
 ghost use Rattle.graded_circuit.specs.RunningSums.{wordSpan};
-ghost use Rattle.graded_circuit.specs.Key.{keySpan};
 ghost use Rattle.graded_circuit.specs.Median.{median};
 ghost use Rattle.graded_circuit.specs.Contest.{lower, lowerSpan, medianSpan, contest, contestSpan};
+ghost use Rattle.graded_contest.specs.inner.Ready.{KeyReady, KeysReady, SumReady};
 
 // What the medians say, as it is.
 fn medians_alone(w: Writer, table: &mut [u32], e: u32, s: u32) -> Writer
@@ -37,8 +36,7 @@ fn one_sum(
     above: u32,
     high: u32,
 ) -> Writer
-    requires { ⌜ Room w (compareSpan above + 2) ⌝ }
-    requires { ⌜ (x + suc above ≤ w .wire) × (y + suc above ≤ w .wire) × (high ≤ above) ⌝ }
+    requires { ⌜ SumReady w x y above high ⌝ }
     ensures { λ r. ⌜
         Wrote w (now (table .entry)) (compareCut (w .wire) x y above high
         ++ (orOf e (unequalAt (w .wire) above) ∷ muxOf e s (aboveAt (w .wire) x above) ∷ [])) (now (table .exit)) r
@@ -53,9 +51,7 @@ fn one_sum(
 
 // What the medians, by wires e and s, and the sums say.
 fn lower(w: Writer, table: &mut [u32], p: Plan, x: u32, y: u32, e: u32, s: u32, high: u32) -> Writer
-    requires { ⌜ Planned p ⌝ }
-    requires { ⌜ Room w (lowerSpan (p .digits) (p .grades - 2) + 2) ⌝ }
-    requires { ⌜ (x + keySpan p ≤ w .wire) × (y + keySpan p ≤ w .wire) × (high ≤ p .digits - 1) ⌝ }
+    requires { ⌜ KeysReady w (lowerSpan (p .digits) (p .grades - 2) + 2) p x y high ⌝ }
     ensures { λ r. ⌜
         Wrote w (now (table .entry)) (lower p (w .wire) x y e s (p .digits) high (p .grades - 2)) (now (table .exit)) r
         ⌝ }
@@ -75,9 +71,7 @@ fn lower(w: Writer, table: &mut [u32], p: Plan, x: u32, y: u32, e: u32, s: u32, 
 
 // The number of the median grade that a key tells of.
 fn key_median(w: Writer, table: &mut [u32], p: Plan, x: u32) -> Writer
-    requires { ⌜ Planned p ⌝ }
-    requires { ⌜ Room w (medianSpan p) ⌝ }
-    requires { ⌜ x + keySpan p ≤ w .wire ⌝ }
+    requires { ⌜ KeyReady w (medianSpan p) p x ⌝ }
     ensures { λ r. ⌜
         Wrote w (now (table .entry)) (median (w .wire) (x + p .digits) (wordSpan p) (p .grades - 1) (suc (p .places)))
         (now (table .exit)) r
@@ -95,9 +89,7 @@ fn key_median(w: Writer, table: &mut [u32], p: Plan, x: u32) -> Writer
 
 // The contest of the keys at x and y, whose words' highest `high` digits are gone through by themselves.
 pub fn contest(w: Writer, table: &mut [u32], p: Plan, x: u32, y: u32, high: u32) -> Writer
-    requires { ⌜ Planned p ⌝ }
-    requires { ⌜ Room w (contestSpan p) ⌝ }
-    requires { ⌜ (x + keySpan p ≤ w .wire) × (y + keySpan p ≤ w .wire) × (high ≤ p .digits - 1) ⌝ }
+    requires { ⌜ KeysReady w (contestSpan p) p x y high ⌝ }
     ensures { λ r. ⌜ Wrote w (now (table .entry)) (contest p (w .wire) x y high) (now (table .exit)) r ⌝ }
 {
     let places = p.places;

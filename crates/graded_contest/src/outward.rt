@@ -12,14 +12,14 @@ use graded_keys::nearest::right_end;
 use graded_keys::nearest::sides;
 ghost use mathlib.Core.Path.{_≡_};
 ghost use mathlib.Core.List.{_∷_, []};
-ghost use Prim.Native.Nat.{suc, _+_, _*_, _≤_, _<_};
+ghost use Prim.Native.Nat.{_+_, _*_, _≤_};
 ghost use Rattle.gate_words.specs.Gates.{notOf, andOf, orOf, xorOf, muxOf};
 ghost use Rattle.gate_words.specs.Halves.{unequalAt, compareSpan, aboveAt};
-ghost use Rattle.gate_words.specs.Limits.{writerLimit};
 ghost use Rattle.gate_words.specs.Writing.{Room, Wrote};
-ghost use Rattle.graded_circuit.specs.Nearest.{stride, sideSpan, eitherSpan};
-ghost use Rattle.graded_circuit.specs.Outward.{nearest, chosenHigh, compareAndReach, compareAndReachSpan};
+ghost use Rattle.graded_circuit.specs.Nearest.{sideSpan, eitherSpan};
+ghost use Rattle.graded_circuit.specs.Outward.{nearest, chosenHigh, compareAndReach};
 ghost use Rattle.graded_circuit.specs.Outward.{leftCarry, rightCarry, resolve, resolveSpan, outward, outwardSpan};
+ghost use Rattle.graded_contest.specs.inner.Ready.{OutwardReady, ReachReady, PartReady, ResolveReady};
 
 // The words at the nearest grades on either side of the median.
 fn nearest(
@@ -31,10 +31,9 @@ fn nearest(
     high: u32,
     between: u32,
 ) -> Writer
-    requires { ⌜ Room w (between * sideSpan above + between * eitherSpan above + between * eitherSpan above) ⌝ }
     requires { ⌜
-        (x + suc (suc between) * stride above ≤ w .wire) × (y + suc (suc between) * stride above ≤ w .wire)
-        × (above ≤ 7) × (between ≤ 6) × (high ≤ above)
+        OutwardReady w (between * sideSpan above + between * eitherSpan above + between * eitherSpan above) x y above
+        high between
         ⌝ }
     ensures { λ r. ⌜ Wrote w (now (table .entry)) (nearest (w .wire) x y above high between) (now (table .exit)) r ⌝ }
 {
@@ -81,11 +80,7 @@ fn compare_and_reach(
     above: u32,
     high: u32,
 ) -> Writer
-    requires { ⌜ Room w (compareAndReachSpan above) ⌝ }
-    requires { ⌜
-        (a + suc above ≤ w .wire) × (c + suc above ≤ w .wire) × (u + suc above ≤ w .wire) × (v + suc above ≤ w .wire)
-        × (high ≤ above)
-        ⌝ }
+    requires { ⌜ ReachReady w a c u v above high ⌝ }
     ensures { λ r. ⌜
         Wrote w (now (table .entry)) (compareAndReach (w .wire) a c u v bit above high) (now (table .exit)) r
         ⌝ }
@@ -109,8 +104,7 @@ fn lower_first(
     f: u32,
     g: u32,
 ) -> Writer
-    requires { ⌜ Room w 4 ⌝ }
-    requires { ⌜ q + resolveSpan < writerLimit ⌝ }
+    requires { ⌜ PartReady w 4 q ⌝ }
     ensures { λ r. ⌜
         Wrote w (now (table .entry)) (muxOf s j k ∷ notOf f ∷ xorOf f g ∷ muxOf (q + 2) q (q + 1)
         ∷ []) (now (table .exit)) r
@@ -124,8 +118,7 @@ fn lower_first(
 
 // What both grades say: e₁ and s₁ tell of the lower one, e₂ and s₂ of the upper one.
 fn both_say(w: Writer, table: &mut [u32], q: u32, e1: u32, s1: u32, e2: u32, s2: u32) -> Writer
-    requires { ⌜ Room w 5 ⌝ }
-    requires { ⌜ q + resolveSpan < writerLimit ⌝ }
+    requires { ⌜ PartReady w 5 q ⌝ }
     ensures { λ r. ⌜
         Wrote w (now (table .entry)) (andOf e1 e2 ∷ xorOf e1 e2 ∷ xorOf (q + 5) (q + 4) ∷ muxOf e2 s2 s1 ∷ xorOf s1 s2
         ∷ []) (now (table .exit)) r
@@ -140,8 +133,7 @@ fn both_say(w: Writer, table: &mut [u32], q: u32, e1: u32, s1: u32, e2: u32, s2:
 
 // Whether the lower grade decides against the upper one, where wire e says that the medians differ.
 fn lower_decides(w: Writer, table: &mut [u32], q: u32, e: u32) -> Writer
-    requires { ⌜ Room w 4 ⌝ }
-    requires { ⌜ q + resolveSpan < writerLimit ⌝ }
+    requires { ⌜ PartReady w 4 q ⌝ }
     ensures { λ r. ⌜
         Wrote w (now (table .entry)) (notOf e ∷ andOf (q + 8) (q + 9) ∷ andOf (q + 4) (q + 10) ∷ andOf (q + 11) (q + 3)
         ∷ []) (now (table .exit)) r
@@ -155,8 +147,7 @@ fn lower_decides(w: Writer, table: &mut [u32], q: u32, e: u32) -> Writer
 
 // Whether the keys differ, and which comes first.
 fn answer(w: Writer, table: &mut [u32], q: u32, e: u32, s: u32) -> Writer
-    requires { ⌜ Room w 3 ⌝ }
-    requires { ⌜ q + resolveSpan < writerLimit ⌝ }
+    requires { ⌜ PartReady w 3 q ⌝ }
     ensures { λ r. ⌜
         Wrote w (now (table .entry)) (muxOf e s (q + 7) ∷ orOf e (q + 6) ∷ xorOf (q + 13) (q + 12)
         ∷ []) (now (table .exit)) r
@@ -206,8 +197,7 @@ fn resolve_at(
     above: u32,
     span: u32,
 ) -> Writer
-    requires { ⌜ Room w resolveSpan ⌝ }
-    requires { ⌜ (w .wire ≡ m + compareAndReachSpan above) × (span ≡ compareSpan above) × (above ≤ 7) ⌝ }
+    requires { ⌜ ResolveReady w m above span ⌝ }
     ensures { λ r. ⌜
         Wrote w (now (table .entry))
         (resolve (w .wire) e s (unequalAt m above) (aboveAt m a above) (unequalAt (m + compareSpan above) above)
@@ -239,11 +229,7 @@ pub(crate) fn outward(
     high: u32,
     between: u32,
 ) -> Writer
-    requires { ⌜ Room w (outwardSpan above between) ⌝ }
-    requires { ⌜
-        (x + suc (suc between) * stride above ≤ w .wire) × (y + suc (suc between) * stride above ≤ w .wire)
-        × (above ≤ 7) × (between ≤ 6) × (high ≤ above)
-        ⌝ }
+    requires { ⌜ OutwardReady w (outwardSpan above between) x y above high between ⌝ }
     ensures { λ r. ⌜
         Wrote w (now (table .entry)) (outward bit (w .wire) x y e s above high between) (now (table .exit)) r
         ⌝ }

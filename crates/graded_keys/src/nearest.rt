@@ -4,17 +4,17 @@ use gate_words::halves::unequal_at;
 use gate_words::writer::Writer;
 use gates::kind;
 ghost use mathlib.Core.Path.{_≡_};
-ghost use Prim.Native.Nat.{suc, _+_, _*_, _≤_, _<_};
+ghost use Prim.Native.Nat.{_+_, _*_, _≤_, _<_};
 ghost use Rattle.gate_words.specs.Limits.{writerLimit};
-ghost use Rattle.gate_words.specs.Writing.{Room, Wrote};
-ghost use Rattle.graded_circuit.specs.Nearest.{stride, side, sideSpan, sides, either, eitherSpan, lastOf, firstOf};
+ghost use Rattle.gate_words.specs.Writing.{Wrote};
+ghost use Rattle.graded_circuit.specs.Nearest.{side, sides, either, eitherSpan, lastOf, firstOf};
 ghost use Rattle.graded_circuit.specs.Nearest.{leftEnd, rightEnd};
+ghost use Rattle.graded_keys.specs.inner.Nearest.{SideReady, SidesReady, EitherReady, LastReady, FirstReady};
 
 // Of one grade: whether the words, of which the highest `high` digits are gone through by themselves, differ on either
 // side of the median.
 fn side(w: Writer, table: &mut [u32], x: u32, y: u32, above: u32, high: u32) -> Writer
-    requires { ⌜ Room w (sideSpan above) ⌝ }
-    requires { ⌜ (x + stride above ≤ w .wire) × (y + stride above ≤ w .wire) × (high ≤ above) ⌝ }
+    requires { ⌜ SideReady w x y above high ⌝ }
     ensures { λ r. ⌜ Wrote w (now (table .entry)) (side (w .wire) x y above high) (now (table .exit)) r ⌝ }
 {
     let differ = unequal_at(w.wire, above);
@@ -33,10 +33,7 @@ pub fn sides(
     high: u32,
     count: u32,
 ) -> Writer
-    requires { ⌜ Room w (count * sideSpan above) ⌝ }
-    requires { ⌜
-        (x + count * stride above ≤ w .wire) × (y + count * stride above ≤ w .wire) × (above ≤ 7) × (high ≤ above)
-        ⌝ }
+    requires { ⌜ SidesReady w x y above high count ⌝ }
     ensures { λ r. ⌜ Wrote w (now (table .entry)) (sides (w .wire) x y above high count) (now (table .exit)) r ⌝ }
 {
     let mut next = w;
@@ -63,10 +60,7 @@ fn either(
     v: u32,
     above: u32,
 ) -> Writer
-    requires { ⌜ Room w (eitherSpan above) ⌝ }
-    requires { ⌜
-        (x + suc above ≤ w .wire) × (y + suc above ≤ w .wire) × (u + suc above ≤ w .wire) × (v + suc above ≤ w .wire)
-        ⌝ }
+    requires { ⌜ EitherReady w x y u v above ⌝ }
     ensures { λ r. ⌜ Wrote w (now (table .entry)) (either f x y u v above) (now (table .exit)) r ⌝ }
 {
     let left = w.choose(table, f, x, u, above + 1);
@@ -85,11 +79,7 @@ pub fn last_of(
     above: u32,
     count: u32,
 ) -> Writer
-    requires { ⌜ Room w (count * eitherSpan above) ⌝ }
-    requires { ⌜
-        (f + count * sideSpan above < w .wire + sideSpan above) × (x + count * stride above ≤ w .wire)
-        × (y + count * stride above ≤ w .wire) × (u + suc above ≤ w .wire) × (v + suc above ≤ w .wire) × (above ≤ 7)
-        ⌝ }
+    requires { ⌜ LastReady w f x y u v above count ⌝ }
     ensures { λ r. ⌜ Wrote w (now (table .entry)) (lastOf (w .wire) f x y u v above count) (now (table .exit)) r ⌝ }
 {
     let mut next = w;
@@ -124,12 +114,7 @@ pub fn first_of(
     above: u32,
     count: u32,
 ) -> Writer
-    requires { ⌜ Room w (count * eitherSpan above) ⌝ }
-    requires { ⌜
-        (f + count * sideSpan above < w .wire + sideSpan above) × (x + count * stride above ≤ w .wire)
-        × (y + count * stride above ≤ w .wire) × (u + suc above ≤ w .wire) × (v + suc above ≤ w .wire) × (above ≤ 7)
-        × (count ≤ 6)
-        ⌝ }
+    requires { ⌜ FirstReady w f x y u v above count ⌝ }
     ensures { λ r. ⌜ Wrote w (now (table .entry)) (firstOf (w .wire) f x y u v above count) (now (table .exit)) r ⌝ }
 {
     let mut next = w;

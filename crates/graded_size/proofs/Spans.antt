@@ -1,15 +1,13 @@
 -- The spans of the circuit's parts, case by case, as the program computes them.
 -- Assumes nothing.
 use mathlib.Core.Logic.{⊎-elim}
-use mathlib.Core.Path.{_≡_, _∙_, refl, sym, ap, subst}
-use Prim.Native.Nat.{ℕ, zero, suc, _+_, _-_, _*_, _/_, _%_, _≤_, _<_}
+use mathlib.Core.Path.{_≡_, refl, ap, subst}
+use Prim.Native.Nat.{ℕ, zero, suc, _+_, _-_, _*_, _/_, _≤_, _<_}
 use native.Mathlib.Nat.{mul-add, mul-le-mul}
 use native.Mathlib.Omega.{arith}
-use Rattle.gate_words.specs.Counter.{adders, countSize, Countable}
-use Rattle.gate_words.proofs.CounterSteps.{count-size-step, countable-step}
 use Rattle.gate_words.specs.Reach.{reachSpan}
 use Rattle.graded_circuit.specs.declared.plan.Plan.{Plan}
-use Rattle.graded_circuit.specs.RunningSums.{middleSpan, lastSpan, laterSpan}
+use Rattle.graded_circuit.specs.RunningSums.{sumSize, worstSize}
 use Rattle.graded_circuit.specs.Median.{Fits, medianSize}
 use Rattle.graded_circuit.proofs.MedianLaws.{fits-half, fits-some}
 use Rattle.graded_circuit.specs.Nearest.{sideSpan, eitherSpan}
@@ -18,39 +16,9 @@ use Rattle.graded_circuit.specs.Key.{keySpan, candidateSpan}
 use Rattle.graded_circuit.specs.Contest.{lowerSpan, contestSpan}
 use Rattle.graded_circuit.specs.OwnList.{levelsSpan}
 use Rattle.graded_circuit.proofs.LevelsLaws.{span-one, span-more}
-use Rattle.graded_circuit.proofs.BoundLaws.{merge-few, candidate-small, middle-small}
+use Rattle.graded_circuit.proofs.BoundLaws.{merge-few, candidate-small}
 use Rattle.graded_circuit.proofs.CandidateBlocks.{candidate-span}
 use Rattle.basics.proofs.Cases.{below-or-not}
-
--- the carries of a level are half of its bits, with the public bit
-pub carries : (m e : ℕ) → 0 < m → (m + e) / 2 ≡ adders (m - 1) e
-unfolding adders
-carries m e h = let q : m + e ≡ m - 1 + e + 1 = omega arith in ap (λ (x : ℕ). x / 2) q
-
--- a level of a counter, and the levels left
-pub size-turn : (m x r : ℕ) → 0 < r → Countable m x r
-    → Countable ((m + x % 2) / 2) (x / 2) (r - 1) × (countSize m x r ≡ 3 * ((m + x % 2) / 2) + countSize ((m + x % 2) / 2) (x / 2) (r - 1)) × ((m + x % 2) / 2 ≤ m)
-size-turn m x r h c =
-    let q = countable-step m x r h c in
-    let e = carries m (x % 2) (q .0) in
-    let a : (m + x % 2) / 2 ≤ m = omega (arith, q .0) in
-    (subst (λ (k : ℕ). Countable k (x / 2) (r - 1)) (sym e) (q .1), count-size-step m x r h ∙ ap (λ (k : ℕ). 3 * k + countSize k (x / 2) (r - 1)) (sym e), a)
-
-pub size-none : (m x r : ℕ) → r ≤ 0 → countSize m x r ≡ 0
-unfolding countSize
-size-none m x r h = let e : r ≡ 0 = omega arith in rw e
-
--- the later grades
-pub later-none : (p : Plan) (t : ℕ) → t ≡ 0 → laterSpan p t ≡ 0
-unfolding laterSpan
-later-none p t e = rw e
-
-pub later-some : (p : Plan) (t : ℕ) → 0 < t → laterSpan p t ≡ (t - 1) * middleSpan p + lastSpan p
-later-some p zero h = absurd (omega arith)
-later-some p (suc t) h = more ∙ ap (λ (x : ℕ). x * middleSpan p + lastSpan p) {x = t} {y = suc t - 1} (omega arith)
-  where
-    more : laterSpan p (suc t) ≡ t * middleSpan p + lastSpan p
-    more = unfold laterSpan in refl
 
 -- below the medians
 pub lower-none : (r t : ℕ) → r ≡ 0 → lowerSpan r t ≡ 0
@@ -122,11 +90,8 @@ module _ (p : Plan) where
         (below-or-not 1 m)
 
     -- a candidate's parts
-    pub parts-small : countSize (p .ballots) (p .offset) (p .digits) + laterSpan p (p .grades - 2) + keySpan p ≤ 35000
+    pub parts-small : (p .grades - 3) * p .ballots + (p .grades - 2) * sumSize p + worstSize p + keySpan p ≤ 35000
     parts-small = omega (arith, candidate-span p, candidate-small p f)
-
-    pub middles-small : (p .grades - 3) * middleSpan p ≤ 4 * 5000
-    middles-small = mul-le-mul {n₁ = p .grades - 3} {m₁ = middleSpan p} {n₂ = 4} {m₂ = 5000} (omega (arith, f .d-most)) (middle-small p f)
 
     pub all-small : p .candidates * candidateSpan p ≤ 8 * 35000
     all-small = mul-le-mul {n₁ = p .candidates} {m₁ = candidateSpan p} {n₂ = 8} {m₂ = 35000} (f .k-most) (candidate-small p f)

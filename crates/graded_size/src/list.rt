@@ -4,14 +4,11 @@ use crate::contest::contest_span;
 use graded_circuit::plan::Plan;
 use jury::shape::Shape;
 ghost use mathlib.Core.Path.{_≡_};
-ghost use Prim.Native.Nat.{_≤_, _<_};
 ghost use lib.Dec.{T};
 ghost use lib.ListN.{length};
 ghost use Rattle.jury.specs.Shape.{gradedLimits};
-ghost use Rattle.graded_circuit.specs.Plan.{Planned};
-ghost use Rattle.graded_circuit.specs.Key.{keySpan};
-ghost use Rattle.graded_circuit.specs.Contest.{contestSpan};
 ghost use Rattle.graded_circuit.specs.OwnList.{levelsSpan, circuit, ownList};
+ghost use Rattle.graded_size.specs.inner.Ready.{GroupReady, CircuitReady};
 
 // What follows a contest in a merge: who comes first, and which of both groups stays.
 const VERDICT: u32 = 4;
@@ -19,8 +16,7 @@ const VERDICT: u32 = 4;
 // The best of one or two candidates: their merge, with the better key, where there are two. A merge is a contest, its
 // verdict and a wire for each candidate; `contest` and `key` are the spans of those.
 fn pair_span(p: Plan, contest: u32, key: u32, count: u32) -> u32
-    requires { ⌜ Planned p ⌝ }
-    requires { ⌜ (contest ≡ contestSpan p) × (key ≡ keySpan p) × (count ≤ 2) ⌝ }
+    requires { ⌜ GroupReady p contest key count 2 ⌝ }
     ensures { λ r. ⌜ r ≡ levelsSpan p 1 count ⌝ }
 {
     if count <= 1 {
@@ -31,8 +27,7 @@ fn pair_span(p: Plan, contest: u32, key: u32, count: u32) -> u32
 
 // The best of one to four candidates: both halves, their merge, and the better key.
 fn four_span(p: Plan, contest: u32, key: u32, count: u32) -> u32
-    requires { ⌜ Planned p ⌝ }
-    requires { ⌜ (contest ≡ contestSpan p) × (key ≡ keySpan p) × (count ≤ 4) ⌝ }
+    requires { ⌜ GroupReady p contest key count 4 ⌝ }
     ensures { λ r. ⌜ r ≡ levelsSpan p 2 count ⌝ }
 {
     if count <= 1 {
@@ -46,8 +41,7 @@ fn four_span(p: Plan, contest: u32, key: u32, count: u32) -> u32
 
 // The circuits of all candidates, the levels of both halves, and the last merge, which keeps no key.
 fn circuit_span(p: Plan) -> u32
-    requires { ⌜ Planned p ⌝ }
-    requires { ⌜ 1 < p .candidates ⌝ }
+    requires { ⌜ CircuitReady p ⌝ }
     ensures { λ r. ⌜ r ≡ length (circuit p) ⌝ }
 {
     let each = candidate_span(p);

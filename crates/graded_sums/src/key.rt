@@ -1,57 +1,88 @@
 // The key of one candidate, and its whole circuit.
-use crate::sums::count_grade;
-use crate::sums::later_grades;
-use crate::sums::middle_span;
-use crate::sums::sum_before;
+use crate::sums::all_levels;
+use crate::sums::bits_at;
+use crate::sums::row_at;
+use crate::sums::rows;
+use crate::sums::worst_levels;
+use gate_adders::counter::count_digits;
+use gate_adders::counter::count_size;
 use gate_words::writer::Writer;
 use gates::kind;
 use graded_circuit::plan::Plan;
-ghost use Prim.Native.Nat.{_+_, _*_, _≤_, _<_};
-ghost use Rattle.gate_words.specs.Writing.{Room, Wrote};
-ghost use Rattle.graded_circuit.specs.Plan.{Planned};
-ghost use Rattle.graded_circuit.specs.RunningSums.{wordSpan, middleSpan};
-ghost use Rattle.graded_circuit.specs.Key.{keyWord, keyWords, candidate, candidateSpan};
+ghost use Prim.Native.Nat.{_-_};
+ghost use Rattle.gate_words.specs.Writing.{Wrote};
+ghost use Rattle.gate_words.specs.Counter.{countDigitsAs};
+ghost use Rattle.graded_circuit.specs.RunningSums.{rowAt};
+ghost use Rattle.graded_circuit.specs.Key.{keyWords, worstWord, candidate, candidateSpan};
+ghost use Rattle.graded_sums.specs.inner.Ready.{PartReady, WordReady, WordsReady, WorstReady};
 
-// What the key has of the sum at a.
-fn key_word(w: Writer, table: &mut [u32], p: Plan, a: u32) -> Writer
-    requires { ⌜ Room w (wordSpan p) ⌝ }
-    requires { ⌜ a + wordSpan p ≤ w .wire ⌝ }
-    ensures { λ r. ⌜ Wrote w (now (table .entry)) (keyWord p a) (now (table .exit)) r ⌝ }
+// What the key has of grade g, whose levels start at wire base. The rows stand from wire n on.
+fn key_word(w: Writer, table: &mut [u32], p: Plan, n: u32, base: u32, c: u32, g: u32) -> Writer
+    requires { ⌜ WordReady w p n base c g ⌝ }
+    ensures { λ r. ⌜
+        Wrote w (now (table .entry))
+        (countDigitsAs 2 3 base (rowAt p n c g) (p .ballots) (p .offset) (p .digits)) (now (table .exit)) r
+        ⌝ }
 {
-    let low = w.copies(table, a, p.digits);
-    low.emit(table, kind::NOT, a + p.digits, 0, 0)
+    let row = row_at(p, n, c, g);
+    count_digits(
+        w,
+        table,
+        kind::COPY,
+        kind::NOT,
+        base,
+        row,
+        p.ballots,
+        p.offset,
+        p.digits,
+    )
 }
 
-// What it has of so many sums, the first at a.
-fn key_words(w: Writer, table: &mut [u32], p: Plan, a: u32, count: u32) -> Writer
-    requires { ⌜ Planned p ⌝ }
-    requires { ⌜ Room w (count * wordSpan p) ⌝ }
-    requires { ⌜ a + count * middleSpan p + wordSpan p ≤ w .wire + middleSpan p ⌝ }
-    ensures { λ r. ⌜ Wrote w (now (table .entry)) (keyWords p a count) (now (table .exit)) r ⌝ }
+// What it has of all grades but the two worst, the first of whose levels start at wire m.
+fn key_words(w: Writer, table: &mut [u32], p: Plan, n: u32, m: u32, c: u32) -> Writer
+    requires { ⌜ WordsReady w p n m c ⌝ }
+    ensures { λ r. ⌜ Wrote w (now (table .entry)) (keyWords p n m c 0 (p .grades - 2)) (now (table .exit)) r ⌝ }
 {
-    let span = middle_span(p);
+    let size = count_size(p.ballots, p.offset, p.digits);
     let mut next = w;
-    let mut at = a;
-    let mut left = count;
-    while 0 < left {
-        next = key_word(next, table, p, at);
-        at += span;
-        left -= 1;
+    let mut base = m;
+    let mut g: u32 = 0;
+    while g + 2 < p.grades {
+        next = key_word(next, table, p, n, base, c, g);
+        base += size;
+        g += 1;
     }
     next
 }
 
-// The circuit of candidate c: the sums of all grades but the worst, and its key.
+// What it has of the worst grade but one: the opposite of what the worst grade's count says.
+fn worst_word(w: Writer, table: &mut [u32], p: Plan, base: u32, c: u32) -> Writer
+    requires { ⌜ WorstReady w p base c ⌝ }
+    ensures { λ r. ⌜ Wrote w (now (table .entry)) (worstWord p base c) (now (table .exit)) r ⌝ }
+{
+    let bits = bits_at(p, c, p.grades - 1);
+    count_digits(
+        w,
+        table,
+        kind::NOT,
+        kind::COPY,
+        base,
+        bits,
+        p.ballots,
+        p.worst,
+        p.digits,
+    )
+}
+
+// The circuit of candidate c: the rows, the levels of all sums, and its key.
 pub fn candidate(w: Writer, table: &mut [u32], p: Plan, c: u32) -> Writer
-    requires { ⌜ Planned p ⌝ }
-    requires { ⌜ Room w (candidateSpan p) ⌝ }
-    requires { ⌜ (p .inputs ≤ w .wire) × (c < p .candidates) ⌝ }
+    requires { ⌜ PartReady w p (w .wire) c (candidateSpan p) ⌝ }
     ensures { λ r. ⌜ Wrote w (now (table .entry)) (candidate p (w .wire) c) (now (table .exit)) r ⌝ }
 {
-    let best = count_grade(w, table, p, c, 0, p.offset);
-    let first = sum_before(p, best.wire);
-    let sums = later_grades(best, table, p, first, c);
-    let last = sum_before(p, sums.wire);
-    let words = key_words(sums, table, p, first, p.grades - 2);
-    key_word(words, table, p, last)
+    let n = w.wire;
+    let rowed = rows(w, table, p, c);
+    let counted = all_levels(rowed, table, p, n, c);
+    let worst = worst_levels(counted, table, p, c);
+    let words = key_words(worst, table, p, n, rowed.wire, c);
+    worst_word(words, table, p, counted.wire, c)
 }

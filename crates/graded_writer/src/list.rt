@@ -10,23 +10,20 @@ use jury::shape::Shape;
 ghost use mathlib.Core.Path.{_≡_};
 ghost use mathlib.Core.Bool.{cond};
 ghost use mathlib.Core.List.{_++_};
-ghost use Prim.Native.Nat.{_+_, _-_, _*_, _/_, _≤_, _<_};
+ghost use Prim.Native.Nat.{_+_, _-_, _/_};
 ghost use lib.Dec.{T, leb};
-ghost use lib.ListN.{length};
-ghost use Rattle.gate_words.specs.Limits.{writerLimit};
-ghost use Rattle.gate_words.specs.Writing.{Room, Wrote};
+ghost use Rattle.gate_words.specs.Writing.{Wrote};
 ghost use Rattle.jury.specs.Shape.{gradedLimits, ballotBytes};
-ghost use Rattle.graded_circuit.specs.Plan.{Planned};
-ghost use Rattle.graded_circuit.specs.Key.{keySpan, candidateSpan};
-ghost use Rattle.graded_circuit.specs.Merge.{merge, mergeSpan};
+ghost use Rattle.graded_circuit.specs.Key.{keySpan};
+ghost use Rattle.graded_circuit.specs.Merge.{merge};
 ghost use Rattle.graded_circuit.specs.OwnList.{candidates, keyAt, levelsSpan, levels, otherAt, halvesMerge};
 ghost use Rattle.graded_circuit.specs.OwnList.{lowLevels, levelsAt, circuit, ownList};
+ghost use Rattle.graded_writer.specs.inner.Ready.{CandidatesReady, KeyAtReady, BestReady, WonReady, GroupReady};
+ghost use Rattle.graded_writer.specs.inner.Ready.{HalvesReady, LevelsReady, CircuitReady};
 
 // The circuits of all candidates.
 fn candidates(w: Writer, table: &mut [u32], p: Plan) -> Writer
-    requires { ⌜ Planned p ⌝ }
-    requires { ⌜ Room w (p .candidates * candidateSpan p) ⌝ }
-    requires { ⌜ p .inputs ≤ w .wire ⌝ }
+    requires { ⌜ CandidatesReady w p ⌝ }
     ensures { λ r. ⌜ Wrote w (now (table .entry)) (candidates p (w .wire) 0 (p .candidates)) (now (table .exit)) r ⌝ }
 {
     let count = p.candidates;
@@ -41,8 +38,7 @@ fn candidates(w: Writer, table: &mut [u32], p: Plan) -> Writer
 
 // Where the key of candidate c stands; a candidate's circuit has `span` gates.
 fn key_at(p: Plan, span: u32, c: u32) -> u32
-    requires { ⌜ Planned p ⌝ }
-    requires { ⌜ (span ≡ candidateSpan p) × (c < p .candidates) × (levelsAt p < writerLimit) ⌝ }
+    requires { ⌜ KeyAtReady p span c ⌝ }
     ensures { λ r. ⌜ r ≡ keyAt p c ⌝ }
 {
     p.inputs + (c + 1) * span - key_span(p)
@@ -50,10 +46,7 @@ fn key_at(p: Plan, span: u32, c: u32) -> u32
 
 // The key of the best of so many candidates from candidate c on, whose merges end before wire `end`.
 fn best_key(p: Plan, span: u32, c: u32, count: u32, end: u32) -> u32
-    requires { ⌜ Planned p ⌝ }
-    requires { ⌜
-        (span ≡ candidateSpan p) × (c < p .candidates) × (levelsAt p < writerLimit) × (1 < count → keySpan p ≤ end)
-        ⌝ }
+    requires { ⌜ BestReady p span c count end ⌝ }
     ensures { λ r. ⌜ r ≡ cond (leb count 1) (keyAt p c) (end - keySpan p) ⌝ }
 {
     if count <= 1 {
@@ -64,8 +57,7 @@ fn best_key(p: Plan, span: u32, c: u32, count: u32, end: u32) -> u32
 
 // The wires of these candidates.
 fn group_won(p: Plan, count: u32, end: u32) -> u32
-    requires { ⌜ Planned p ⌝ }
-    requires { ⌜ (1 < count → count + keySpan p ≤ end) ⌝ }
+    requires { ⌜ WonReady p count end ⌝ }
     ensures { λ r. ⌜ r ≡ cond (leb count 1) 0 (end - keySpan p - count) ⌝ }
 {
     if count <= 1 {
@@ -76,11 +68,7 @@ fn group_won(p: Plan, count: u32, end: u32) -> u32
 
 // The best of one or two candidates from candidate c on.
 fn pair(w: Writer, table: &mut [u32], p: Plan, span: u32, c: u32, count: u32) -> Writer
-    requires { ⌜ Planned p ⌝ }
-    requires { ⌜ Room w (levelsSpan p 1 count) ⌝ }
-    requires { ⌜
-        (span ≡ candidateSpan p) × (levelsAt p ≤ w .wire) × (0 < count) × (count ≤ 2) × (c + count ≤ p .candidates)
-        ⌝ }
+    requires { ⌜ GroupReady w (levelsSpan p 1 count) p span c count 0 2 ⌝ }
     ensures { λ r. ⌜ Wrote w (now (table .entry)) (levels p 1 (w .wire) c count) (now (table .exit)) r ⌝ }
 {
     if count <= 1 {
@@ -104,15 +92,7 @@ fn halves(
     second: u32,
     middle: u32,
 ) -> Writer
-    requires { ⌜ Planned p ⌝ }
-    requires { ⌜ Room w (mergeSpan p first second) ⌝ }
-    requires { ⌜
-        (span ≡ candidateSpan p) × (levelsAt p ≤ middle) × (middle ≤ w .wire) × (0 < first) × (0 < second)
-        × (c + first + second ≤ p .candidates)
-        ⌝ }
-    requires { ⌜
-        (1 < first → levelsAt p + first + keySpan p ≤ middle) × (1 < second → middle + second + keySpan p ≤ w .wire)
-        ⌝ }
+    requires { ⌜ HalvesReady w p span c first second middle ⌝ }
     ensures { λ r. ⌜
         Wrote w (now (table .entry))
         (merge p (w .wire) (cond (leb first 1) (keyAt p c) (middle - keySpan p))
@@ -130,11 +110,7 @@ fn halves(
 
 // The best of two to four candidates from candidate c on.
 fn two_to_four(w: Writer, table: &mut [u32], p: Plan, span: u32, c: u32, count: u32) -> Writer
-    requires { ⌜ Planned p ⌝ }
-    requires { ⌜ Room w (levelsSpan p 2 count) ⌝ }
-    requires { ⌜
-        (span ≡ candidateSpan p) × (levelsAt p ≤ w .wire) × (1 < count) × (count ≤ 4) × (c + count ≤ p .candidates)
-        ⌝ }
+    requires { ⌜ GroupReady w (levelsSpan p 2 count) p span c count 1 4 ⌝ }
     ensures { λ r. ⌜ Wrote w (now (table .entry)) (levels p 2 (w .wire) c count) (now (table .exit)) r ⌝ }
 {
     let first = count / 2;
@@ -149,11 +125,7 @@ fn two_to_four(w: Writer, table: &mut [u32], p: Plan, span: u32, c: u32, count: 
 
 // The best of one to four candidates from candidate c on.
 fn four(w: Writer, table: &mut [u32], p: Plan, span: u32, c: u32, count: u32) -> Writer
-    requires { ⌜ Planned p ⌝ }
-    requires { ⌜ Room w (levelsSpan p 2 count) ⌝ }
-    requires { ⌜
-        (span ≡ candidateSpan p) × (levelsAt p ≤ w .wire) × (0 < count) × (count ≤ 4) × (c + count ≤ p .candidates)
-        ⌝ }
+    requires { ⌜ GroupReady w (levelsSpan p 2 count) p span c count 0 4 ⌝ }
     ensures { λ r. ⌜ Wrote w (now (table .entry)) (levels p 2 (w .wire) c count) (now (table .exit)) r ⌝ }
 {
     if count <= 1 {
@@ -164,13 +136,7 @@ fn four(w: Writer, table: &mut [u32], p: Plan, span: u32, c: u32, count: u32) ->
 
 // Three levels of merges, behind the circuits of all candidates.
 fn all_levels(all: Writer, table: &mut [u32], p: Plan, span: u32) -> Writer
-    requires { ⌜ Planned p ⌝ }
-    requires { ⌜
-        Room all (levelsSpan p lowLevels (p .candidates / 2) +
-        (levelsSpan p lowLevels (p .candidates - p .candidates / 2) + mergeSpan p (p .candidates / 2)
-        (p .candidates - p .candidates / 2)))
-        ⌝ }
-    requires { ⌜ (span ≡ candidateSpan p) × (all .wire ≡ levelsAt p) × (1 < p .candidates) ⌝ }
+    requires { ⌜ LevelsReady all p span ⌝ }
     ensures { λ r. ⌜
         Wrote all (now (table .entry)) (levels p lowLevels (levelsAt p) 0 (p .candidates / 2)
         ++ levels p lowLevels (otherAt p lowLevels (levelsAt p) (p .candidates)) (p .candidates / 2)
@@ -187,9 +153,7 @@ fn all_levels(all: Writer, table: &mut [u32], p: Plan, span: u32) -> Writer
 
 // The candidates, and all levels.
 fn circuit(w: Writer, table: &mut [u32], p: Plan) -> Writer
-    requires { ⌜ Planned p ⌝ }
-    requires { ⌜ Room w (length (circuit p)) ⌝ }
-    requires { ⌜ (w .wire ≡ p .inputs) × (1 < p .candidates) ⌝ }
+    requires { ⌜ CircuitReady w p ⌝ }
     ensures { λ r. ⌜ Wrote w (now (table .entry)) (circuit p) (now (table .exit)) r ⌝ }
 {
     let all = candidates(w, table, p);

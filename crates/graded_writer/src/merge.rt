@@ -4,17 +4,18 @@ use gates::kind;
 use graded_circuit::plan::Plan;
 use graded_contest::contest::contest;
 ghost use mathlib.Core.Path.{_≡_};
-ghost use Prim.Native.Nat.{_+_, _-_, _*_, _≤_, _<_};
-ghost use Rattle.gate_words.specs.Writing.{Room, Wrote};
+ghost use Prim.Native.Nat.{_+_};
+ghost use Rattle.gate_words.specs.Writing.{Wrote};
 ghost use Rattle.graded_circuit.specs.Plan.{Planned};
 ghost use Rattle.graded_circuit.specs.Key.{keySpan};
 ghost use Rattle.gate_words.specs.Choice.{choose};
-ghost use Rattle.graded_circuit.specs.Merge.{bothOf, stillWon, verdict, highDigits, merge, mergeSpan};
+ghost use Rattle.graded_circuit.specs.Merge.{bothOf, stillWon, verdict, highDigits, merge};
+ghost use Rattle.gate_words.specs.inner.Ready.{WordReady};
+ghost use Rattle.graded_writer.specs.inner.Ready.{StillReady, VerdictReady, MergeReady, BetterReady};
 
 // Each of so many wires from `at` on, and the wire `stays`.
 fn both_of(w: Writer, table: &mut [u32], at: u32, stays: u32, count: u32) -> Writer
-    requires { ⌜ Room w count ⌝ }
-    requires { ⌜ at + count ≤ w .wire ⌝ }
+    requires { ⌜ WordReady w count at count ⌝ }
     ensures { λ r. ⌜ Wrote w (now (table .entry)) (bothOf at stays count) (now (table .exit)) r ⌝ }
 {
     let mut next = w;
@@ -28,8 +29,7 @@ fn both_of(w: Writer, table: &mut [u32], at: u32, stays: u32, count: u32) -> Wri
 
 // Who of a group of so many candidates stays.
 fn still_won(w: Writer, table: &mut [u32], at: u32, stays: u32, count: u32) -> Writer
-    requires { ⌜ Room w count ⌝ }
-    requires { ⌜ (0 < count) × (1 < count → at + count ≤ w .wire) ⌝ }
+    requires { ⌜ StillReady w at count ⌝ }
     ensures { λ r. ⌜ Wrote w (now (table .entry)) (stillWon at stays count) (now (table .exit)) r ⌝ }
 {
     if count == 1 {
@@ -40,8 +40,7 @@ fn still_won(w: Writer, table: &mut [u32], at: u32, stays: u32, count: u32) -> W
 
 // Who comes first and which group stays, behind a contest whose result stands at q.
 fn verdict(w: Writer, table: &mut [u32], q: u32) -> Writer
-    requires { ⌜ Room w 4 ⌝ }
-    requires { ⌜ w .wire ≡ q + 2 ⌝ }
+    requires { ⌜ VerdictReady w q ⌝ }
     ensures { λ r. ⌜ Wrote w (now (table .entry)) (verdict q) (now (table .exit)) r ⌝ }
 {
     let first = w.emit(table, kind::AND, q, q + 1, 0);
@@ -72,10 +71,7 @@ pub(crate) fn merge(
     l: u32,
     m: u32,
 ) -> Writer
-    requires { ⌜ Planned p ⌝ }
-    requires { ⌜ Room w (mergeSpan p l m) ⌝ }
-    requires { ⌜ (x + keySpan p ≤ w .wire) × (y + keySpan p ≤ w .wire) × (0 < l) × (0 < m) ⌝ }
-    requires { ⌜ (1 < l → u + l ≤ w .wire) × (1 < m → v + m ≤ w .wire) ⌝ }
+    requires { ⌜ MergeReady w p x y u v l m ⌝ }
     ensures { λ r. ⌜ Wrote w (now (table .entry)) (merge p (w .wire) x y u v l m) (now (table .exit)) r ⌝ }
 {
     let compared = contest(w, table, p, x, y, high_digits(p, l + m));
@@ -87,9 +83,7 @@ pub(crate) fn merge(
 
 // The better of two keys, by a contest whose result stands at q.
 pub(crate) fn better(w: Writer, table: &mut [u32], p: Plan, q: u32, x: u32, y: u32) -> Writer
-    requires { ⌜ Planned p ⌝ }
-    requires { ⌜ Room w (keySpan p) ⌝ }
-    requires { ⌜ (x + keySpan p ≤ w .wire) × (y + keySpan p ≤ w .wire) × (q + 1 < w .wire) ⌝ }
+    requires { ⌜ BetterReady w p q x y ⌝ }
     ensures { λ r. ⌜ Wrote w (now (table .entry)) (choose (q + 1) x y (keySpan p)) (now (table .exit)) r ⌝ }
 {
     let span = key_span(p);

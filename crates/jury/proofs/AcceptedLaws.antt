@@ -1,4 +1,4 @@
--- Ballots that no test turns away, as facts about their bytes and rows: these follow from the tests, and the tests from them.
+-- The ballots that no test refuses, as facts about their bytes and rows; and back, from these facts to the tests.
 -- Assumes nothing.
 use mathlib.Core.Path.{_≡_, _∙_, refl, sym, ap}
 use mathlib.Core.Bool.{Bool, true, false, cond}
@@ -26,7 +26,7 @@ use Rattle.jury.proofs.Limits.{within, graded-is}
 use Rattle.jury.proofs.BallotLaws.{judged, kindReason, judged-by, graded-reason, ranked-reason}
 use Rattle.jury.proofs.RankingLaws.{passes-orders}
 
--- no test applies where the answer is none
+-- if the answer is none, no test applies
 size-passed : (size : Bool) (byte : Place) (kind : Option Reason) → judged size byte kind ≡ none → size ≡ true
 unfolding judged unless firstOf
 size-passed true byte kind e = refl
@@ -53,7 +53,7 @@ ranks-passed (At i) notWeakOrder e = let z : _≡_ {A = ℕ} 0 1 = cc in absurd 
 ranks-passed Nowhere (At b) e = let z : _≡_ {A = ℕ} 0 1 = cc in absurd (omega arith)
 ranks-passed Nowhere Nowhere e = (refl, refl)
 
--- a choice between a search further on that finds nothing and a place
+-- a search that finds nothing: its test passes here, and further on it finds nothing
 passed-over : (t : Bool) (i : ℕ) (rest : Place) → cond t rest (At i) ≡ Nowhere → (t ≡ true) × (rest ≡ Nowhere)
 passed-over true i rest e = (refl, e)
 passed-over false i rest e = let z : _≡_ {A = ℕ} 0 1 = cc in absurd (omega arith)
@@ -65,7 +65,7 @@ row-first d xs = ap (λ (m : ℕ). drop m xs) (zero-mul d)
 pub row-next : (d j : ℕ) (xs : List ℕ) → drop (j * d) (drop d xs) ≡ drop (suc j * d) xs
 row-next d j xs = drop-drop (j * d) d xs ∙ ap (λ (m : ℕ). drop m xs) (add-comm d (j * d) ∙ sym (suc-mul j d))
 
--- every row holds one 1 where no other row was found
+-- if no bad row is found, every row holds one 1
 pub all-rows : (d r : ℕ) (xs : List ℕ) (n : ℕ) → firstBadRow n (rowsOf d r xs) ≡ Nowhere → (j : ℕ) → j < r → ones (take d (drop (j * d) xs)) ≡ 1
 unfolding firstBadRow rowsOf
 all-rows d zero xs n e j h = absurd (omega arith)

@@ -31,7 +31,7 @@ ones-here xs i h e = ones-step xs i h ∙ ap (λ (t : Bool). cond t (suc (ones (
 pub ones-later : (xs : List ℕ) (i : ℕ) → i < length xs → (getD xs i 0 ≡ 1 → ⊥) → ones (drop i xs) ≡ ones (drop (suc i) xs)
 ones-later xs i h e = ones-step xs i h ∙ ap (λ (t : Bool). cond t (suc (ones (drop (suc i) xs))) (ones (drop (suc i) xs))) (ne-eqb (getD xs i 0) 1 e)
 
--- of a bit, both in one
+-- for a bit, both cases in one
 pub ones-bit : (xs : List ℕ) (i : ℕ) → i < length xs → getD xs i 0 ≤ 1 → ones (drop i xs) ≡ getD xs i 0 + ones (drop (suc i) xs)
 ones-bit xs i h b = ⊎-elim
     (λ (l : 0 < getD xs i 0). omega (arith, ones-here xs i h (omega arith)))
@@ -70,7 +70,7 @@ pub bad-end : (d row rows : ℕ) (xs : List ℕ) → rows ≤ row → firstBadRo
 unfolding firstBadRow rowsOf
 bad-end d row rows xs h = ap (λ (n : ℕ). firstBadRow row (rowsOf d n xs)) {x = rows - row} {y = 0} (omega arith)
 
--- what the tests of ballots answer, from the outcomes of the first two and those of the kind of the shape
+-- what the tests of ballots answer, from the outcomes of 4, of 5, and of those of the shape's kind
 unfoldable pub judged : Bool → Place → Option Reason → Option Reason
 judged size byte kind = firstOf (unless size 4 ∷ foundAt 5 byte ∷ kind ∷ [])
 

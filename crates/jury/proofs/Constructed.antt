@@ -1,4 +1,4 @@
--- What the constructor's answer tells of the shape that it was asked for.
+-- What the constructor's answer says about the shape that was asked for.
 -- Assumes nothing.
 use mathlib.Core.Path.{_≡_, refl, sym, ap}
 use mathlib.Core.Bool.{Bool, true, false, cond}
@@ -8,7 +8,7 @@ use Rattle.jury.specs.declared.shape.Shape.{Shape}
 use Rattle.jury.specs.declared.shape.ShapeResult.{ShapeResult}
 use Rattle.jury.specs.declared.shape.ShapeResult.the-variants.{Within, Outside}
 
--- the shape in an answer, any other where there is none
+-- the shape in an answer, or any other if there is none
 held : Shape → ShapeResult → Shape
 held s (Within x) = x
 held s Outside = s

@@ -1,4 +1,5 @@
--- Facts about the grade counts: each is the number of ones in its column, only the ballot bytes are read, and a candidate's counts have the sum n.
+-- Facts about grade counts: each is the number of ones in its column, only ballot bytes are read, and a candidate's
+-- counts add up to n.
 -- Assumes nothing.
 use mathlib.Core.Path.{_≡_, _∙_, refl, sym, ap}
 use mathlib.Core.List.{List, []}
@@ -54,14 +55,14 @@ pub column-bytes : (s : Shape) (xs : List ℕ) → GradedBallots s xs → (c g :
 unfolding countOf byteOf
 column-bytes s xs a c g = column-sum s xs a (s .ballots) c g
 
--- each byte that is counted stands among the ballot bytes
+-- each byte that is counted is a ballot byte
 pub byte-within : (s : Shape) (b c g : ℕ) → b < s .ballots → c < s .candidates → g < s .grades → (b * s .candidates + c) * s .grades + g < ballotBytes s
 byte-within s b c g hb hc hg =
     let inside = grades-columns s (unfold isRanking in (ne-eqb (s .grades) 0 (λ e. absurd (omega arith)))) in
     let row : b * s .candidates + c < s .ballots * s .candidates = omega (arith, row-within b (s .ballots) (s .candidates) hb) in
     omega (arith, row-within (b * s .candidates + c) (s .ballots * s .candidates) (s .grades) row)
 
--- counts depend on the bytes of their columns alone
+-- counts depend only on the bytes of their columns
 counts-same : (s : Shape) (xs ys : List ℕ) (n c g : ℕ) → ((b : ℕ) → b < n → byteOf s xs b c g ≡ byteOf s ys b c g) → countUpTo s xs n c g ≡ countUpTo s ys n c g
 counts-same s xs ys n c g h =
     column-addends s xs n c g
@@ -95,7 +96,7 @@ one-addend s xs a c b hc hb =
     row : ℕ
     row = b * s .candidates + c
 
--- a candidate's counts have the sum of the ballots counted
+-- a candidate's counts add up to the number of ballots counted
 sum-up-to : (s : Shape) (xs : List ℕ) → GradedBallots s xs → (c : ℕ) → c < s .candidates → (b : ℕ) → b ≤ s .ballots → sum (tabulate (s .grades) (countUpTo s xs b c)) ≡ b
 unfolding countUpTo addend
 sum-up-to s xs a c hc zero h = sum-zero (s .grades)

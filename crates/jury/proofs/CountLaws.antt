@@ -72,7 +72,7 @@ module _ (s : Shape) (xs : List ℕ) where
       go true = count-most s xs b c g
       go false = omega arith
 
-  -- so is whatever is read of the array
+  -- so is whatever is read from the array
   pub read-most : (b c g : ℕ) → getD (getD (arrayAfter s xs b) c []) g 0 ≤ b
   unfolding arrayAfter rowAfter
   read-most b c g = ⊎-elim inside outside (below-or-not c 8)
@@ -89,7 +89,7 @@ module _ (s : Shape) (xs : List ℕ) where
       outside : 8 ≤ c → getD (getD (tabulate 8 (rowAfter s xs b)) c []) g 0 ≤ b
       outside l = rw (List·getD-eq-default (tabulate 8 (rowAfter s xs b)) [] {n = c} (omega (arith, length-tabulate 8 (rowAfter s xs b)))) (omega arith)
 
-  -- the array is eight by seven, and can take one ballot more
+  -- the array is eight by seven, and has room for one ballot more
   pub array-eight-by-seven : (b : ℕ) → b < 256 → EightBySeven (arrayAfter s xs b)
   unfolding arrayAfter rowAfter
   array-eight-by-seven b h = record {
@@ -118,7 +118,7 @@ module _ (s : Shape) (xs : List ℕ) where
   abbrev pub ballotRow : ℕ → ℕ → List ℕ
   ballotRow b c = take (s .grades) (drop (c * s .grades) (ballotAt b))
 
-  -- the byte of ballot b, row c and grade g stands in that ballot
+  -- the byte of ballot b, row c and grade g lies in that ballot
   pub ballot-byte : (b c g : ℕ) → c < s .candidates → g < s .grades → getD (ballotAt b) (c * s .grades + g) 0 ≡ byteOf s xs b c g
   unfolding byteOf
   ballot-byte b c g hc hg =
@@ -172,7 +172,7 @@ module _ (s : Shape) (xs : List ℕ) where
     unfolding rowAfter
     row-kept b c hc = tabulate-cong 7 (entryAfter s xs b c) (entryAfter s xs (suc b) c) (λ g h. entry-below b c g hc ∙ sym (entry-below (suc b) c g hc))
 
-    -- adding ballot b leads from the array after b ballots to that after one more
+    -- adding ballot b leads from the array after b ballots to the array after one more
     pub array-step : (b : ℕ) → plusBallot (s .candidates) (s .grades) (arrayAfter s xs b) (ballotAt b) ≡ arrayAfter s xs (suc b)
     unfolding plusBallot arrayAfter
     array-step b =

@@ -1,4 +1,4 @@
--- A shape within its limits, as facts about its numbers: first of each kind, then of both.
+-- A shape within its limits, as facts about its numbers: for each kind, then for both.
 -- Assumes nothing.
 use mathlib.Core.Path.{_≡_, _∙_, sym, ap, subst}
 use mathlib.Core.Bool.{Bool, true, false, cond, _&&_, true≢false}
@@ -12,7 +12,7 @@ use Rattle.jury.specs.declared.shape.Shape.{Shape}
 use Rattle.jury.specs.Shape.{isRanking, gradedLimits, rankedLimits, withinLimits, columns, ballotBytes}
 use Rattle.basics.proofs.Flags.{and-first, and-second, or-either, or-first, T-true, true-T}
 
--- a tasting with grades
+-- a graded jury
 pub record Within (s : Shape) : Type 0 where
   pub k-least : 1 ≤ s .candidates
   pub k-most : s .candidates ≤ 8
@@ -21,7 +21,7 @@ pub record Within (s : Shape) : Type 0 where
   pub n-least : 1 ≤ s .ballots
   pub n-most : s .ballots ≤ 255
 
--- the test within limits says the six facts
+-- the test of the limits says the six facts
 pub within : (s : Shape) → gradedLimits s ≡ true → Within s
 unfolding gradedLimits
 within s e =
@@ -47,7 +47,7 @@ unfolding gradedLimits
 within-back s w =
     simp (le-leb _ _ (w .k-least), le-leb _ _ (w .k-most), le-leb _ _ (w .d-least), le-leb _ _ (w .d-most), le-leb _ _ (w .n-least), le-leb _ _ (w .n-most))
 
--- the rows of all ballots, and the ballot bytes, are few
+-- there are few rows in all ballots, and few ballot bytes
 pub rows-bound : (s : Shape) → Within s → s .ballots * s .candidates ≤ 2040
 rows-bound s w = mul-le-mul (w .n-most) (w .k-most)
 
@@ -58,7 +58,7 @@ pub graded-is : (s : Shape) → Within s → isRanking s ≡ false
 unfolding isRanking
 graded-is s w = ne-eqb (s .grades) 0 (λ e. let l = w .d-least in absurd (omega arith))
 
--- the columns are the grades wherever there are any
+-- if there are grades, they are the columns
 pub grades-columns : (s : Shape) → isRanking s ≡ false → ballotBytes s ≡ s .ballots * s .candidates * s .grades
 unfolding ballotBytes columns
 grades-columns s e = ap (λ (t : Bool). s .ballots * s .candidates * cond t (s .candidates) (s .grades)) e
@@ -66,7 +66,7 @@ grades-columns s e = ap (λ (t : Bool). s .ballots * s .candidates * cond t (s .
 pub bytes-are : (s : Shape) → Within s → ballotBytes s ≡ s .ballots * s .candidates * s .grades
 bytes-are s w = grades-columns s (graded-is s w)
 
--- a ranked tasting
+-- a ranked jury
 pub record Ranked (s : Shape) : Type 0 where
   pub k-least : 1 ≤ s .candidates
   pub k-most : s .candidates ≤ 8
@@ -110,7 +110,7 @@ graded-within s e = or-first (gradedLimits s) (rankedLimits s) e
 pub graded-T : (s : Shape) → T (gradedLimits s) → T (withinLimits s)
 graded-T s h = true-T (withinLimits s) (graded-within s (T-true (gradedLimits s) h))
 
--- what holds of both kinds
+-- what holds for both kinds
 pub record Bounds (s : Shape) : Type 0 where
   pub k-least : 1 ≤ s .candidates
   pub k-most : s .candidates ≤ 8
@@ -137,7 +137,7 @@ bounds s e = ⊎-elim graded rank (kinds s e)
 pub bounds-T : (s : Shape) → T (withinLimits s) → Bounds s
 bounds-T s h = bounds s (T-true (withinLimits s) h)
 
--- a shape within its limits has ballot bytes, of whichever kind it is
+-- a shape within its limits has ballot bytes, graded or ranked
 pub some-bytes : (s : Shape) → withinLimits s ≡ true → 1 ≤ ballotBytes s
 some-bytes s e = ⊎-elim graded rank (kinds s e)
   where
@@ -156,14 +156,14 @@ some-bytes s e = ⊎-elim graded rank (kinds s e)
         let all : 0 < s .ballots * s .candidates * s .candidates = mul-pos rows (w .k-least) in
         omega (arith, ranked-bytes s (w .ranking))
 
--- the ballot bytes of either kind are few
+-- ballots of either kind have few bytes
 pub inputs-bound : (s : Shape) → Bounds s → ballotBytes s ≤ 16320
 unfolding ballotBytes
 inputs-bound s b =
     let rows : s .ballots * s .candidates ≤ 2040 = mul-le-mul (b .n-most) (b .k-most) in
     mul-le-mul rows (b .c-most)
 
--- numbers of a shape multiplied, whichever they are, fit
+-- products of two numbers of a shape fit into a machine number
 pub two-fit : (a b : ℕ) → a ≤ 255 → b ≤ 255 → a * b < 2 ^ 64
 two-fit a b ha hb = let h : a * b ≤ 255 * 255 = mul-le-mul ha hb in omega arith
 

@@ -14,7 +14,7 @@ use Rattle.jury.proofs.Limits.{Within}
 use Rattle.basics.proofs.Tabulate.{tabulate-cong, take-tabulate, map-tabulate, length-tabulate, getD-tabulate}
 use Rattle.jury.proofs.CountLaws.{entryAfter, rowAfter, arrayAfter, entry-inside, array-end}
 
--- the first k rows of the array, d counts of each, are the matrix
+-- the first d counts of the array's first k rows are the matrix
 pub array-rows : (s : Shape) (xs : List ℕ) → Within s → rowsIn (s .candidates) (s .grades) (countArray s xs) ≡ countsOf s xs
 unfolding rowsIn arrayAfter rowAfter countsOf countOf
 array-rows s xs w =

@@ -1,4 +1,4 @@
--- The ranked ballots that pass the tests 11 and 12 are the strict weak orders, and these are transitive.
+-- The ranked ballots that pass the tests 11 and 12 are exactly the strict weak orders, and these are transitive.
 -- Assumes nothing.
 use mathlib.Core.Path.{_≡_, _∙_, refl, sym, ap}
 use mathlib.Core.Bool.{Bool, true, false, cond, not, _&&_, true≢false}
@@ -15,7 +15,7 @@ use Rattle.jury.proofs.Searches.{first-none, none-first, some-here, som
 use Rattle.basics.proofs.Flags.{either}
 
 module _ (k : ℕ) (xs : List ℕ) (b : ℕ) where
-  -- one ballot: no byte clashes
+  -- one ballot passes 11: it is asymmetric
   abbrev NoClash : Type 0
   NoClash = (i j : ℕ) → i < k → j < k → before k xs b i j ≡ true → before k xs b j i ≡ false
 
@@ -37,7 +37,7 @@ module _ (k : ℕ) (xs : List ℕ) (b : ℕ) where
       first-none (notAsymmetricAt k xs b i) k
       (λ j hj. either (before k xs b i j) (λ f. clash-not-back k xs b i j f (h i j hi hj f)) (clash-not-forth k xs b i j)))
 
-  -- one ballot: no gap
+  -- one ballot passes 12: it leaves no gap between two candidates
   abbrev NoGap : Type 0
   NoGap = (i l j : ℕ) → i < k → l < k → j < k → before k xs b i l ≡ false → before k xs b l j ≡ false → before k xs b i j ≡ false
 
@@ -85,7 +85,7 @@ module _ (k : ℕ) (xs : List ℕ) (b : ℕ) where
   not-found true e = let z : _≡_ {A = ℕ} 0 1 = cc in absurd (omega arith)
   not-found false e = refl
 
--- the tests pass exactly where every ballot is a strict weak order
+-- the tests pass exactly if every ballot is a strict weak order
 pub passes-orders : (k n : ℕ) (xs : List ℕ) →
     ((firstNotAsymmetric k n xs ≡ Nowhere) × (firstNotWeakOrder k n xs ≡ Nowhere)) ↔ ((b : ℕ) → b < n → StrictWeakOrder k (before k xs b))
 unfolding firstNotAsymmetric firstNotWeakOrder gap-found

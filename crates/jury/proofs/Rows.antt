@@ -1,4 +1,4 @@
--- The rows of an array of counts, and the eight bytes that a count answers.
+-- The rows of an array of counts, and the eight bytes that are answered.
 -- Assumes nothing.
 use mathlib.Core.Path.{_≡_, _∙_, sym, ap}
 use mathlib.Core.Logic.{⊎-elim}

@@ -1,4 +1,4 @@
--- Searches in order, and tests of some number below m: what the loops that make them know.
+-- Searches in order, and tests of the numbers below m: what the loops that make them know.
 -- Assumes nothing.
 use mathlib.Core.Path.{_≡_, _∙_, refl, ap}
 use mathlib.Core.Bool.{Bool, true, false, _||_}
@@ -21,7 +21,7 @@ pub first-later : (found : ℕ → Place) (i : ℕ) → firstOver i found ≡ No
 unfolding firstOver orElse
 first-later found i none here = ap (λ (m : ℕ). firstOver m found) (add-one i) ∙ ap (λ (r : Place). orElse r (found i)) none ∙ here
 
--- nothing was found before the first place
+-- what is found at the first place that finds anything
 pub first-here : (found : ℕ → Place) (m i place : ℕ) → i < m → firstOver i found ≡ Nowhere → found i ≡ At place → firstOver m found ≡ At place
 unfolding firstOver orElse
 first-here found zero i place h none here = absurd (omega arith)
@@ -29,7 +29,7 @@ first-here found (suc m) i place h none here =
     ⊎-elim (λ l. ap (λ (r : Place). orElse r (found m)) (first-here found m i place l none here))
     (λ l. let e : m ≡ i = omega arith in rw e (ap (λ (r : Place). orElse r (found i)) none ∙ here)) (below-or-not i m)
 
--- nothing is found where no search finds anything, and else some search does
+-- nothing is found exactly if no search finds anything
 pub first-none : (found : ℕ → Place) (m : ℕ) → ((i : ℕ) → i < m → found i ≡ Nowhere) → firstOver m found ≡ Nowhere
 unfolding firstOver orElse
 first-none found zero h = refl
@@ -91,11 +91,11 @@ rank-within k b i j hi hj =
     let m : (b * k + i) * k + k ≤ (b + 1) * k * k = row-within (b * k + i) ((b + 1) * k) k (omega arith) in
     omega arith
 
--- a row's number is no larger than a place in it
+-- the number of a row is no larger than any place in it
 row-below : (k row : ℕ) → 0 < k → row ≤ row * k
 row-below k row h = let l : row * 1 ≤ row * k = mul-le-mul {n₁ = row} {m₁ = 1} {n₂ = row} {m₂ = k} (omega arith) h in omega arith
 
--- what the loops over a ballot know of their places: each is within the ballot, and its row's number is no larger
+-- what the loops over a ballot know about a place: it lies within the ballot, and its row's number is no larger
 pub rank-known : (k b i j : ℕ) → i < k → j < k → ((b * k + i) * k + j < (b + 1) * k * k) × (b * k + i ≤ (b * k + i) * k)
 rank-known k b i j hi hj = (rank-within k b i j hi hj, row-below k (b * k + i) (omega arith))
 
@@ -103,7 +103,7 @@ rank-known k b i j hi hj = (rank-within k b i j hi hj, row-below k (b * k + i) (
 pub ballot-within : (k n b : ℕ) → b < n → (b + 1) * k * k ≤ n * k * k
 ballot-within k n b h = mul-le-mul {n₁ = (b + 1) * k} {m₁ = k} {n₂ = n * k} {m₂ = k} (mul-le-mul {n₁ = b + 1} {m₁ = k} {n₂ = n} {m₂ = k} (omega arith) (omega arith)) (omega arith)
 
--- a byte that clashes, and one that does not
+-- a byte that is 1 with its opposite, and one that is not
 pub clash-here : (k : ℕ) (xs : List ℕ) (b i j : ℕ) → before k xs b i j ≡ true → before k xs b j i ≡ true → notAsymmetricAt k xs b i j ≡ At (rankPlace k b i j)
 unfolding notAsymmetricAt
 clash-here k xs b i j e f = rw (e, f)

@@ -16,7 +16,7 @@ within-step : (steps m : ℕ) → 0 < m → widthWithin (suc steps) m ≡ suc (w
 unfolding widthWithin
 within-step steps m h = ap (λ (t : Bool). cond {A = ℕ} t 0 (suc (widthWithin steps (m / 2)))) (ne-eqb m 0 (λ e. omega arith))
 
--- any number of steps that is enough gives the same width
+-- any sufficient number of steps gives the same width
 enough : (i j m : ℕ) → m ≤ i → m ≤ j → widthWithin i m ≡ widthWithin j m
 unfolding widthWithin
 enough zero zero m hi hj = refl
@@ -41,12 +41,12 @@ unfolding widthOf
 width-half zero h = absurd (omega arith)
 width-half (suc m) h = within-step m (suc m) h ∙ ap suc (enough m (suc m / 2) (suc m / 2) (omega arith) (omega arith))
 
--- the widths of some numbers of ballots, the largest among them
+-- the widths of some numbers of ballots, 255 among them
 pub width-examples : (widthOf 1 ≡ 1) × (widthOf 3 ≡ 2) × (widthOf 4 ≡ 3) × (widthOf 255 ≡ 8)
 unfolding widthOf widthWithin
 width-examples = (refl, refl, refl, refl)
 
--- a number needs no more digits than its width
+-- a number is below 2 to the power of its width
 below-within : (steps m : ℕ) → m ≤ steps → m < 2 ^ widthOf m
 below-within zero m h = rw (width-of-zero m (omega arith)) (omega arith)
 below-within (suc steps) m h =
@@ -57,7 +57,7 @@ below-within (suc steps) m h =
 pub below-width : (m : ℕ) → m < 2 ^ widthOf m
 below-width m = below-within m m (omega arith)
 
--- and no fewer
+-- and not below half of that
 least-step : (m : ℕ) → (0 < m / 2 → 2 ^ widthOf (m / 2 / 2) ≤ m / 2) → 0 < m → 2 ^ widthOf (m / 2) ≤ m
 least-step m ih h =
     ⊎-elim (λ e. rw (width-of-zero (m / 2) e) (omega arith))
@@ -73,7 +73,7 @@ least-within (suc steps) m h l = least-step m (least-within steps (m / 2) (omega
 pub least-width : (m : ℕ) → 0 < m → 2 ^ (widthOf m - 1) ≤ m
 least-width m h = rw (width-half m h, sub-one-suc (widthOf (m / 2))) (least-within m m (omega arith) h)
 
--- the width of a number of ballots within its limit
+-- up to 255 ballots, the width is at most 8
 pub width-most : (m : ℕ) → m ≤ 255 → widthOf m ≤ 8
 width-most m h = ⊎-elim (λ e. rw (width-of-zero m e) (omega arith)) most (eq-zero-or-pos m)
   where

@@ -1,5 +1,5 @@
--- Accepted ballots, as facts. `AcceptedLaws` of proofs/ shows that they say what the tests 1, 4, 5 and 6, or 11 and
--- 12, say, no more and no less.
+-- Accepted ballots, as facts. `AcceptedLaws` of proofs/ shows that these facts hold exactly if the tests 1, 4, 5, and
+-- 6 or 11 and 12, pass.
 use mathlib.Core.Path.{_≡_}
 use mathlib.Core.Bool.{true, false}
 use mathlib.Core.List.{List}
@@ -11,7 +11,7 @@ use Rattle.jury.specs.Ballots.{ones}
 use Rattle.jury.specs.Rankings.{before}
 use Rattle.jury.specs.WeakOrder.{StrictWeakOrder}
 
--- The shape is within its limits, the length is I, all bytes are bits (past the end `getD` gives 0); every row of
+-- The shape is within its limits, the length is I, all bytes are bits (past the end `getD` gives 0). Every row of
 -- grades has a single 1, and every ranking is a strict weak order.
 pub record AcceptedBallots (s : Shape) (xs : List ℕ) : Type 0 where
   pub within : withinLimits s ≡ true
@@ -22,7 +22,7 @@ pub record AcceptedBallots (s : Shape) (xs : List ℕ) : Type 0 where
   pub orders : isRanking s ≡ true → (b : ℕ) → b < s .ballots
       → StrictWeakOrder (s .candidates) (before (s .candidates) xs b)
 
--- The same of graded ballots alone.
+-- The same for graded ballots only.
 pub record GradedBallots (s : Shape) (xs : List ℕ) : Type 0 where
   pub within : gradedLimits s ≡ true
   pub size : length xs ≡ ballotBytes s

@@ -1,6 +1,7 @@
 pub mod Shape
 pub mod Width
 pub mod Reason
+pub mod Shaped
 pub mod Rankings
 pub mod Ballots
 pub mod WeakOrder

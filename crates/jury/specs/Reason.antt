@@ -23,7 +23,7 @@ pub record Reason : Type 0 where
 unfoldable pub reasonAt : ℕ → ℕ → Reason
 reasonAt number place = record { number = number; place = place }
 
--- The number and place [order] of each case of the program's enum.
+-- The number and the place [order] of each case of the program's enum.
 unfoldable pub reasonOf : Refusal → Reason
 reasonOf Shape = reasonAt 1 0
 reasonOf Table = reasonAt 2 0
@@ -46,28 +46,28 @@ reasonOf Dealing = reasonAt 18 0
 reasonOf Juries = reasonAt 19 0
 reasonOf GatesPerRound = reasonAt 20 0
 
--- The reason of a verdict, where it is a refusal.
+-- The reason of a verdict, if it is a refusal.
 unfoldable pub refusedFor : Verdict → Option Reason
 refusedFor Accepted = none
 refusedFor (Refused r) = some (reasonOf r)
 
--- The reason of what the constructor of shapes answers, where it refuses.
+-- The reason for which the constructor of shapes refuses, if it does.
 unfoldable pub shapedFor : ShapeResult → Option Reason
 shapedFor (Within s) = none
 shapedFor Outside = some (reasonAt 1 0)
 
--- The reason of that number, which names no place, unless its test passes.
+-- The reason of that number, which has no place, unless its test passes.
 unfoldable pub unless : Bool → ℕ → Option Reason
 unless true number = none
 unless false number = some (reasonAt number 0)
 
--- The reason of that number at the place that was found, if any.
+-- The reason of that number at the place that was found, if one was.
 unfoldable pub foundAt : ℕ → Place → Option Reason
 foundAt number Nowhere = none
 foundAt number (At place) = some (reasonAt number place)
 
--- The number and place [order] of each answer of the gate layer's test of a list: 2 where the numbers make no whole
--- gates or the gates are fewer or more than there may be, 3 at the first bad gate.
+-- The number and place [order] of each answer of the gate layer's test: 2 if the numbers are no whole gates, or the
+-- gates too few or too many; 3 at the first bad gate.
 unfoldable pub listReason : ListCheck → Option Reason
 listReason (tested.Accepted gates conditional) = none
 listReason tested.PartOfAGate = some (reasonAt 2 0)
@@ -75,7 +75,7 @@ listReason tested.TooFewGates = some (reasonAt 2 0)
 listReason tested.TooManyGates = some (reasonAt 2 0)
 listReason (tested.BadGate g) = some (reasonAt 3 g)
 
--- The first reason in a list of tests.
+-- The first reason that applies, in a list of tests.
 unfoldable pub firstOf : List (Option Reason) → Option Reason
 firstOf [] = none
 firstOf (none ∷ rest) = firstOf rest

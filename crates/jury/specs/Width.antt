@@ -1,14 +1,13 @@
--- The width of a number: how many binary digits are needed to write it.
+-- The width of a number: how many binary digits it has.
 use mathlib.Core.Bool.{cond}
 use Prim.Native.Nat.{ℕ, zero, suc, _/_}
 use lib.Dec.{eqb}
 
--- 0 has no digit; any other number has one more than its half, rounded down. For numbers that at most `steps`
--- halvings take to 0.
+-- 0 has no digit; any other number has one more than its half, rounded down. `steps` bounds the number of halvings.
 unfoldable pub widthWithin : ℕ → ℕ → ℕ
 widthWithin zero m = 0
 widthWithin (suc steps) m = cond (eqb m 0) 0 (suc (widthWithin steps (m / 2)))
 
--- m halvings take m to 0, so that many are enough.
+-- m halvings are enough to take m to 0.
 unfoldable pub widthOf : ℕ → ℕ
 widthOf m = widthWithin m m

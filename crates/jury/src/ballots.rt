@@ -8,12 +8,13 @@ ghost use mathlib.Core.Path.{_≡_};
 ghost use Prim.Native.Nat.{ℕ, _*_, _≤_, _<_};
 ghost use lib.Dec.{T};
 ghost use lib.ListN.{length, getD};
-ghost use Rattle.gates.specs.Board.{Bits};
-ghost use Rattle.jury.specs.Shape.{gradedLimits, withinLimits};
+ghost use Rattle.jury.specs.Shape.{withinLimits};
 ghost use Rattle.jury.specs.Reason.{refusedFor, firstOf};
 ghost use Rattle.jury.specs.Ballots.{gradedReasons, rankedReasons, ballotReasons, ones, rowsOf, firstBadRow};
+ghost use Rattle.jury.specs.inner.Ballots.{GradedBits, RowsOfBits};
 
-// Reasons 4 and 5, then those of the kind of the shape: 5 looks at all bytes before any of them begins.
+// Reasons 4 and 5, then those of the shape's kind: 6 for grades, 11 and 12 for rankings. Each test looks at
+// everything before the next begins.
 pub fn test(shape: Shape, ballots: &[u8]) -> Verdict
     requires { ⌜ T (withinLimits shape) ⌝ }
     ensures { λ r. ⌜ refusedFor r ≡ firstOf (ballotReasons shape (now (ballots .entry))) ⌝ }
@@ -31,12 +32,9 @@ pub fn test(shape: Shape, ballots: &[u8]) -> Verdict
     }
 }
 
-// Reason 6.
+// Reason 6, of graded ballots.
 fn test_grades(shape: Shape, ballots: &[u8]) -> Verdict
-    requires { ⌜
-        T (gradedLimits shape) × (length (now ballots) ≡ shape .ballots * shape .candidates * shape .grades)
-        ⌝ }
-    requires { ⌜ Bits (now ballots) ⌝ }
+    requires { ⌜ GradedBits shape (now ballots) ⌝ }
     ensures { λ r. ⌜ refusedFor r ≡ firstOf (gradedReasons shape (now (ballots .entry))) ⌝ }
 {
     match first_bad_row(ballots, shape.grades, shape.ballots * shape.candidates) {
@@ -45,7 +43,7 @@ fn test_grades(shape: Shape, ballots: &[u8]) -> Verdict
     }
 }
 
-// Reasons 11 and 12: 11 looks at all ballots before 12 begins.
+// Reasons 11 and 12, of rankings. 11 looks at all ballots before 12 begins.
 fn test_rankings(shape: Shape, ballots: &[u8]) -> Verdict
     requires { ⌜ length (now ballots) ≡ shape .ballots * shape .candidates * shape .candidates ⌝ }
     ensures { λ r. ⌜ refusedFor r ≡ firstOf (rankedReasons shape (now (ballots .entry))) ⌝ }
@@ -63,10 +61,9 @@ fn test_rankings(shape: Shape, ballots: &[u8]) -> Verdict
     }
 }
 
-// The first of so many rows of d bytes that has no 1, or more than one.
+// The first row of d bytes that has no 1, or more than one.
 fn first_bad_row(bytes: &[u8], d: usize, rows: usize) -> Place
-    requires { ⌜ length (now bytes) ≡ rows * d ⌝ }
-    requires { ⌜ Bits (now bytes) ⌝ }
+    requires { ⌜ RowsOfBits (now bytes) d rows ⌝ }
     ensures { λ r. ⌜ r ≡ firstBadRow 0 (rowsOf d rows (now (bytes .entry))) ⌝ }
 {
     let mut row = 0;
@@ -82,7 +79,7 @@ fn first_bad_row(bytes: &[u8], d: usize, rows: usize) -> Place
     Place::Nowhere
 }
 
-// How many of the bytes, which are 0 or 1, are 1: their sum.
+// How many of these bytes, which are 0 or 1, are 1: their sum.
 fn ones_in(bytes: &[u8]) -> usize
     requires { ⌜ ((i : ℕ) → i < length (now bytes) → getD (now bytes) i 0 ≤ 1) ⌝ }
     ensures { λ r. ⌜ r ≡ ones (now (bytes .entry)) ⌝ }

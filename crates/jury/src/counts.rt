@@ -1,17 +1,13 @@
 // The matrix of grade counts, one row a candidate, filled ballot by ballot.
 use crate::shape::Shape;
 ghost use mathlib.Core.Path.{_≡_};
-ghost use Prim.Native.Nat.{ℕ, _*_, _≤_, _<_};
-ghost use lib.ListN.{length, getD};
-ghost use Rattle.jury.specs.Counts.{countArray, AddUp};
 ghost use Rattle.jury.specs.Accepted.{GradedBallots};
-ghost use Rattle.jury.specs.inner.Counts.{rowsIn, EightBySeven, plusRow, plusBallot};
+ghost use Rattle.jury.specs.inner.Counts.{plusRow, plusBallot, RowReady, BallotReady, Counted};
 
 // How many ballots give each candidate each grade. Entries outside the shape stay 0.
 pub fn counts(shape: Shape, ballots: &[u8]) -> [[u16; 7]; 8]
     requires { ⌜ GradedBallots shape (now ballots) ⌝ }
-    ensures { λ r. ⌜ r ≡ countArray shape (now (ballots .entry)) ⌝ }
-    ensures { λ r. ⌜ AddUp shape (rowsIn (shape .candidates) (shape .grades) r) ⌝ }
+    ensures { λ r. ⌜ Counted shape (now (ballots .entry)) r ⌝ }
 {
     let k = shape.candidates;
     let d = shape.grades;
@@ -28,11 +24,10 @@ pub fn counts(shape: Shape, ballots: &[u8]) -> [[u16; 7]; 8]
     counts
 }
 
-// Adds one ballot, k rows of d bytes, to the counts. They are lent and not handed on: a copy of what was just stored
-// makes the processor wait for it, at each row.
+// Adds one ballot, k rows of d bytes, to the counts. They are lent and not passed by value: the processor would wait
+// at each row for a copy of what was just stored.
 fn add_ballot(counts: &mut [[u16; 7]; 8], ballot: &[u8], k: usize, d: usize)
-    requires { ⌜ (k ≤ 8) × (d ≤ 7) × (length (now ballot) ≡ k * d) ⌝ }
-    requires { ⌜ EightBySeven (now counts) ⌝ }
+    requires { ⌜ BallotReady (now counts) (now ballot) k d ⌝ }
     ensures { λ _. ⌜ now (counts .exit) ≡ plusBallot k d (now (counts .entry)) (now (ballot .entry)) ⌝ }
 {
     let mut at = 0;
@@ -45,10 +40,9 @@ fn add_ballot(counts: &mut [[u16; 7]; 8], ballot: &[u8], k: usize, d: usize)
     }
 }
 
-// Adds one row of a ballot to the counts of one candidate: a byte is the 0 or 1 that it adds.
+// Adds one row of a ballot to the counts of one candidate. A byte is the 0 or 1 that it adds.
 fn add_row(counts: &mut [u16; 7], row: &[u8])
-    requires { ⌜ (length (now counts) ≡ 7) × (length (now row) ≤ 7) ⌝ }
-    requires { ⌜ ((g : ℕ) → getD (now counts) g 0 < 256) ⌝ }
+    requires { ⌜ RowReady (now counts) (now row) ⌝ }
     ensures { λ _. ⌜ now (counts .exit) ≡ plusRow (now (counts .entry)) (now (row .entry)) ⌝ }
 {
     let mut g = 0;

@@ -1,11 +1,11 @@
-// The tests of what ranked ballots say.
+// The tests of ranked ballots.
 use gates::place::Place;
 ghost use mathlib.Core.Path.{_≡_};
 ghost use Prim.Native.Nat.{_+_, _*_, _≤_, _<_};
 ghost use lib.ListN.{length};
 ghost use Rattle.jury.specs.Rankings as spec;
 
-// The first byte, through all ballots, that is 1 while its opposite is 1 too.
+// Reason 11: the first byte, through all ballots, that is 1 and whose opposite is 1 too.
 pub fn first_not_asymmetric(ballots: &[u8], k: usize, n: usize) -> Place
     requires { ⌜ length (now ballots) ≡ n * k * k ⌝ }
     ensures { λ r. ⌜ r ≡ spec.firstNotAsymmetric k n (now (ballots .entry)) ⌝ }
@@ -52,8 +52,7 @@ fn not_asymmetric_in_row(ballots: &[u8], k: usize, b: usize, i: usize) -> Place
     Place::Nowhere
 }
 
-// The first ballot in which some candidate is before another while a third is neither after the one nor before the
-// other.
+// Reason 12: the first ballot in which i is before j and a third candidate is not after i and not before j.
 pub fn first_not_weak_order(ballots: &[u8], k: usize, n: usize) -> Place
     requires { ⌜ length (now ballots) ≡ n * k * k ⌝ }
     ensures { λ r. ⌜ r ≡ spec.firstNotWeakOrder k n (now (ballots .entry)) ⌝ }
@@ -83,7 +82,7 @@ fn not_weak_order(ballots: &[u8], k: usize, b: usize) -> bool
     false
 }
 
-// Whether i is before some candidate while a third stands neither behind i nor before that one.
+// Whether i is before some j while a third candidate is not after i and not before j.
 fn not_weak_order_after(ballots: &[u8], k: usize, b: usize, i: usize) -> bool
     requires { ⌜ ((b + 1) * k * k ≤ length (now ballots)) × (i < k) ⌝ }
     ensures { λ r. ⌜ r ≡ spec.notWeakOrderAfter k (now (ballots .entry)) b i ⌝ }

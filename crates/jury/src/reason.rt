@@ -2,8 +2,8 @@
 ghost use mathlib.Core.Path.{_≡_};
 ghost use Rattle.jury.specs.Reason.{reasonOf};
 
-// In checking order 1 to 10, with those of rankings, 11 and 12, behind 6; then those of the urn, 13 to 15, of the
-// trustees, 16 to 18, and of the dispatcher, 19 and 20. The number in a case is the place.
+// In checking order 1 to 10, with 11 and 12 of rankings after 6; then 13 to 15 of the urn, 16 to 18 of the trustees,
+// 19 and 20 of the dispatcher. The number in a case is the place.
 pub enum Refusal {
     Shape,
     Table,
@@ -27,7 +27,7 @@ pub enum Refusal {
     GatesPerRound,
 }
 
-// The outcome of a call that answers no number of its own.
+// The outcome of a test: passed, or the reason.
 pub enum Verdict {
     Accepted,
     Refused(Refusal),
@@ -62,7 +62,7 @@ impl Refusal {
         }
     }
 
-    // The place of a reason, 0 where none is named.
+    // The place of a reason, 0 if it has none.
     pub fn place(self) -> usize
         ensures { λ r. ⌜ r ≡ (reasonOf self) .place ⌝ }
     {

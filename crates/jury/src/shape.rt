@@ -1,13 +1,12 @@
-// The shape of a jury: its numbers of candidates, grades and ballots, and the limits that belong to it. Where there
-// are no grades the candidates are ranked.
+// The shape of a jury: how many candidates, grades and ballots, and their limits. Without grades, the candidates are
+// ranked.
 ghost use mathlib.Core.Path.{_≡_};
-ghost use mathlib.Core.Bool.{cond};
 ghost use lib.Dec.{T};
-ghost use Rattle.jury.specs.Reason.{shapedFor, unless};
 ghost use Rattle.jury.specs.Shape.{isRanking, gradedLimits, rankedLimits, withinLimits, ballotBytes};
+ghost use Rattle.jury.specs.Shaped.{Shaped};
 ghost use Rattle.jury.specs.Shape as spec;
 
-// Candidates are blends [limits]. The numbers are wide enough to hold what lies outside the limits.
+// Candidates are blends [limits]. The numbers can also hold what lies outside the limits, so that it can be refused.
 pub struct Shape {
     pub candidates: usize,
     pub grades: usize,
@@ -35,15 +34,7 @@ impl Shape {
 
     // A shape within the limits, or its refusal.
     pub fn new(candidates: usize, grades: usize, ballots: usize) -> ShapeResult
-        ensures { λ r. ⌜
-            r ≡ cond (withinLimits (record { candidates = candidates; grades = grades; ballots = ballots }))
-            (ShapeResult.Within (record { candidates = candidates; grades = grades; ballots = ballots }))
-            ShapeResult.Outside
-            ⌝ }
-        ensures { λ r. ⌜
-            shapedFor r
-            ≡ unless (withinLimits (record { candidates = candidates; grades = grades; ballots = ballots })) 1
-            ⌝ }
+        ensures { λ r. ⌜ Shaped (record { candidates = candidates; grades = grades; ballots = ballots }) r ⌝ }
     {
         let shape = Shape {
             candidates,
@@ -64,7 +55,7 @@ impl Shape {
         self.grades == 0
     }
 
-    // Whether a shape is within the limits of a tasting with grades.
+    // Whether a shape is within the limits of a graded jury.
     pub fn is_within_graded_limits(self) -> bool
         ensures { λ r. ⌜ r ≡ gradedLimits self ⌝ }
     {
@@ -76,7 +67,7 @@ impl Shape {
             && self.ballots <= Shape::MOST_BALLOTS
     }
 
-    // Whether a shape is within the limits of a ranked tasting.
+    // Whether a shape is within the limits of a ranked jury.
     pub fn is_within_ranked_limits(self) -> bool
         ensures { λ r. ⌜ r ≡ rankedLimits self ⌝ }
     {
@@ -87,14 +78,14 @@ impl Shape {
             && self.ballots <= Shape::MOST_BALLOTS
     }
 
-    // Whether a shape, however it was made, is within the limits of one of the two kinds.
+    // Whether a shape is within the limits of either kind. Its fields are public, so it may not come from `new`.
     pub fn is_within_limits(self) -> bool
         ensures { λ r. ⌜ r ≡ withinLimits self ⌝ }
     {
         self.is_within_graded_limits() || self.is_within_ranked_limits()
     }
 
-    // The bytes of a row: a grade each, or a candidate each where they are ranked.
+    // The bytes of a row: one for each grade, or one for each candidate in a ranking.
     pub fn columns(self) -> usize
         ensures { λ r. ⌜ r ≡ spec.columns self ⌝ }
     {

@@ -24,7 +24,7 @@ use Rattle.tally.specs.Memory.{Each}
 use Rattle.tally.specs.Test.{testReasons, testOutcome}
 use Rattle.tally.proofs.TestReasons.{test-passed}
 use Rattle.levels.specs.Answer.{Depths, depthsOf}
-use Rattle.levels.specs.Levels.{levelsReasons, levelsOutcome, levelsWritten}
+use Rattle.levels.specs.Levels.{levelsReasons, levelsOutcome, levelsWritten, LevelsResult}
 use Rattle.levels.specs.Demands.{Memory, OperandBelow, Depth, Demands}
 use Rattle.tally.proofs.RunReasons.{outcome-refused, accepted-values}
 use Rattle.levels.proofs.Reasons.{ListFacts, list-facts, both-passed, call-refused, call-accepted}
@@ -59,15 +59,15 @@ written-length : (s : Shape) (table levels : List ℕ) → length (levelsWritten
 written-length s table levels = go (firstOf (levelsReasons s table levels)) refl
   where
     go : (o : Option Reason) → firstOf (levelsReasons s table levels) ≡ o → length (levelsWritten s table levels) ≡ length levels
-    go (some r) e = ap length (sym (call-refused s table levels r e .1))
-    go none e = ap length (sym (call-accepted s table levels e .1)) ∙ length-levels (ballotBytes s) (gatesOf table) ∙ sym (both-passed s table levels e .1)
+    go (some r) e = ap (λ (q : LevelsResult). length (q .levels)) (sym (call-refused s table levels r e))
+    go none e = ap (λ (q : LevelsResult). length (q .levels)) (sym (call-accepted s table levels e)) ∙ length-levels (ballotBytes s) (gatesOf table) ∙ sym (both-passed s table levels e .1)
 
 pub memory : Memory
 unfolding Each
 memory s table levels =
     record {
       number = levels-number s table levels;
-      refusal = λ r e. (sym (call-refused s table levels r (refused-by s table levels r e) .1), tt);
+      refusal = λ r e. (ap (λ (q : LevelsResult). q .levels) (sym (call-refused s table levels r (refused-by s table levels r e))), tt);
       empties = λ values e. tt;
       lengths = (written-length s table levels, tt);
     }
@@ -94,7 +94,7 @@ module _ (s : Shape) (table levels : List ℕ) (depths : Depths) (e : levelsOutc
   own = sym (accepted-by s table levels depths e .1)
 
   written : levelsWritten s table levels ≡ levelsOf (ballotBytes s) (gatesOf table)
-  written = sym (call-accepted s table levels is-none .1)
+  written = ap (λ (q : LevelsResult). q .levels) (sym (call-accepted s table levels is-none))
 
   facts : ListFacts s table (length (gatesOf table)) (sizeOf (gatesOf table) .conditional)
   unfolding sizeOf

@@ -19,14 +19,14 @@ use Rattle.jury.specs.declared.shape.Shape.{Shape}
 use Rattle.jury.specs.Shape.{withinLimits, ballotBytes}
 use Rattle.jury.specs.Reason.{Reason, reasonAt, unless, firstOf}
 use Rattle.jury.proofs.Limits.{some-bytes}
-use Rattle.tally.specs.Answer.{refused, accepted, outcome, sizeOf}
+use Rattle.tally.specs.Answer.{Outcome, refused, accepted, outcome, sizeOf}
 use Rattle.tally.specs.Test.{testReasons, testOutcome}
 use Rattle.tally.proofs.TestReasons.{orElse, first-append, TestPassed}
 use Rattle.tally.proofs.RunReasons.{outcome-refused}
-use Rattle.levels.specs.Answer.{depthsOf}
-use Rattle.levels.specs.Levels.{levelsReasons, levelsOutcome, afterwards, levelsWritten}
+use Rattle.levels.specs.Answer.{Depths, depthsOf}
+use Rattle.levels.specs.Levels.{levelsReasons, levelsOutcome, afterwards, levelsWritten, LevelsResult, levelsResult}
 
--- what an accepted test tells of the list
+-- what an accepted test says about the list
 pub record ListFacts (s : Shape) (table : List ℕ) (gates conditional : ℕ) : Type 0 where
   pub reasons : firstOf (testReasons s table) ≡ none
   pub within : withinLimits s ≡ true
@@ -82,14 +82,20 @@ module _ (s : Shape) (table levels : List ℕ) where
       go none false f g = let q = sym (by none false f g) ∙ e in let z : _≡_ {A = ℕ} 0 1 = cc in absurd (omega arith)
       go none true f g = (f, eqb-true (length levels) (length (gatesOf table)) g)
 
-  pub call-refused : (r : Reason) → firstOf (levelsReasons s table levels) ≡ some r → (refused r ≡ levelsOutcome s table levels) × (levels ≡ levelsWritten s table levels)
+  pub call-refused : (r : Reason) → firstOf (levelsReasons s table levels) ≡ some r → _≡_ {A = LevelsResult} (record { answer = refused r; levels = levels }) (levelsResult s table levels)
   unfolding levelsOutcome levelsWritten outcome afterwards
-  call-refused r e = (rw e, rw e)
+  call-refused r e = rw e
 
   pub call-accepted : firstOf (levelsReasons s table levels) ≡ none
-      → (accepted (depthsOf (ballotBytes s) (gatesOf table)) ≡ levelsOutcome s table levels) × (levelsOf (ballotBytes s) (gatesOf table) ≡ levelsWritten s table levels)
+      → _≡_ {A = LevelsResult} (record { answer = accepted (depthsOf (ballotBytes s) (gatesOf table)); levels = levelsOf (ballotBytes s) (gatesOf table) }) (levelsResult s table levels)
   unfolding levelsOutcome levelsWritten outcome afterwards
-  call-accepted e = (rw e, rw e)
+  call-accepted e = rw e
+
+-- two parts make the result of a call
+pub same-result : {answer answer′ : Outcome Depths} {levels levels′ : List ℕ} → answer ≡ answer′ → levels ≡ levels′
+    → _≡_ {A = LevelsResult} (record { answer = answer; levels = levels }) (record { answer = answer′; levels = levels′ })
+same-result {answer} {answer′} {levels} e f =
+    ap (λ (z : Outcome Depths). record { answer = z; levels = levels }) e ∙ ap (λ (z : List ℕ). record { answer = answer′; levels = z }) f
 
 -- the answer of an accepted call
 pub depths-are : (inputs : ℕ) (table : List ℕ) (g c r : ℕ) → g ≡ length (gatesOf table) → c ≡ conditionalCount (gatesOf table) → r ≡ roundsOf inputs (gatesOf table)

@@ -12,21 +12,21 @@ use Rattle.levels.specs.declared.answer.LevelRefusal.the-variants.{OfCor
 use Rattle.levels.specs.declared.answer.Answer.{Answer}
 use Rattle.levels.specs.declared.answer.Answer.the-variants.{Accepted, Refused}
 
--- The number and place of each case. Our own: 200, a table of levels that does not fit the list; 201, a round that
--- the list does not have; 202, sums that cannot have been heard.
+-- The number and place of each case. Our own are 200, a level table that does not fit the list; 201, a round that the
+-- list does not have; 202, sums that cannot have been heard.
 unfoldable pub levelReasonOf : LevelRefusal → Reason
 levelReasonOf (OfCore r) = reasonOf r
 levelReasonOf Levels = reasonAt 200 0
 levelReasonOf Round = reasonAt 201 0
 levelReasonOf Heard = reasonAt 202 0
 
--- What an accepted call gives: G, C and the rounds R.
+-- The numbers answered: G, C and the rounds R.
 pub record Depths : Type 0 where
   pub gates : ℕ
   pub conditional : ℕ
   pub rounds : ℕ
 
--- Those of a list over so many inputs.
+-- Those of a list with this many inputs.
 unfoldable pub depthsOf : ℕ → List Gate → Depths
 depthsOf inputs gs = record { gates = length gs; conditional = conditionalCount gs; rounds = roundsOf inputs gs }
 

@@ -1,4 +1,4 @@
--- What is shown of the call [levels], over the definitions that its contract equates with the program's answer and
+-- What is shown of the call [levels], about the definitions that its contract equates with its answer and the level
 -- table.
 use mathlib.Core.Path.{_≡_}
 use mathlib.Core.Bool.{true}
@@ -25,14 +25,14 @@ Memory =
     (s : Shape) (table levels : List ℕ)
     → KeepsMemory (1 ∷ 2 ∷ 3 ∷ 200 ∷ []) (levelsOutcome s table levels) (levelTable s table levels ∷ []) []
 
--- One operand x of gate g: its level is at most the gate's, and below it where the gate is conditional.
+-- An operand x of gate g: its level is at most the gate's, and below it if the gate is conditional.
 pub record OperandBelow (s : Shape) (table levels : List ℕ) (g x : ℕ) : Type 0 where
   pub most : wireLevel (ballotBytes s) (levelsWritten s table levels) x ≤ getD (levelsWritten s table levels) g 0
   pub below : conditionalOf (gateAt table g .kind) ≡ true
       → wireLevel (ballotBytes s) (levelsWritten s table levels) x < getD (levelsWritten s table levels) g 0
 
--- Of an accepted call: G, C and R are the list's own, R is at most C, no level is above R, and whoever opens level by
--- level has every operand when it is needed.
+-- For an accepted call: G, C and R are the list's own, R is at most C, no level is above R, and opening level by
+-- level gives every operand before it is needed.
 pub record Depth (s : Shape) (table levels : List ℕ) (depths : Depths) : Type 0 where
   pub own : depths ≡ depthsOf (ballotBytes s) (gatesOf table)
   pub few : depths .rounds ≤ depths .conditional

@@ -13,8 +13,8 @@ use Rattle.tally.specs.Answer.{Outcome, outcome}
 use Rattle.tally.specs.Test.{testReasons}
 use Rattle.levels.specs.Answer.{Depths, depthsOf}
 
--- The reasons in checking order: 1, 2 and 3 as for the test of a list, then 200, a table that has not one number a
--- gate.
+-- The reasons in checking order: 1, 2 and 3 as in the test of a list, then 200 if the table has not one number for
+-- each gate.
 unfoldable pub levelsReasons : Shape → List ℕ → List ℕ → List (Option Reason)
 levelsReasons s table levels = testReasons s table ++ unless (eqb (length levels) (length (gatesOf table))) 200 ∷ []
 
@@ -22,7 +22,7 @@ unfoldable pub levelsOutcome : Shape → List ℕ → List ℕ → Outcome Depth
 levelsOutcome s table levels =
     outcome (firstOf (levelsReasons s table levels)) (depthsOf (ballotBytes s) (gatesOf table))
 
--- A lent table afterwards: new where the call is accepted, as it was on a refusal.
+-- A lent table afterwards: new if the call is accepted, unchanged on a refusal.
 unfoldable pub afterwards : Option Reason → List ℕ → List ℕ → List ℕ
 afterwards (some r) new old = old
 afterwards none new old = new
@@ -30,3 +30,12 @@ afterwards none new old = new
 unfoldable pub levelsWritten : Shape → List ℕ → List ℕ → List ℕ
 levelsWritten s table levels =
     afterwards (firstOf (levelsReasons s table levels)) (levelsOf (ballotBytes s) (gatesOf table)) levels
+
+-- What a call leaves: its answer and the table.
+pub record LevelsResult : Type 0 where
+  pub answer : Outcome Depths
+  pub levels : List ℕ
+
+abbrev pub levelsResult : Shape → List ℕ → List ℕ → LevelsResult
+levelsResult s table levels =
+    record { answer = levelsOutcome s table levels; levels = levelsWritten s table levels }

@@ -1,9 +1,9 @@
-// What the calls by levels answer: this one, and those of a trustee on a machine of its own.
+// What the calls by levels answer: `write` here, and those of a trustee on its own machine.
 use jury::reason::Refusal;
 ghost use mathlib.Core.Path.{_≡_};
 ghost use Rattle.levels.specs.Answer.{levelReasonOf};
 
-// Why such a call is turned away. The numbers 200 to 202 are our own: the documents' reasons end at 24.
+// Why such a call is refused. The numbers 200 to 202 are our own; those of the requests end at 24.
 pub enum LevelRefusal {
     OfCore(Refusal),
     Levels,
@@ -34,7 +34,7 @@ impl LevelRefusal {
         }
     }
 
-    // The place of a reason, 0 where none is named.
+    // The place of a reason, 0 if it has none.
     pub fn place(self) -> usize
         ensures { λ r. ⌜ r ≡ (levelReasonOf self) .place ⌝ }
     {

@@ -5,12 +5,13 @@ use gate_levels::level;
 use jury::shape::Shape;
 ghost use mathlib.Core.Path.{_≡_};
 ghost use Rattle.levels.specs.Answer.{depthsOutcome};
-ghost use Rattle.levels.specs.Levels.{levelsOutcome, levelsWritten};
+ghost use Rattle.levels.specs.Levels.{levelsResult};
 
-// Writes the level of each gate of anyone's list, for a jury of a shape.
+// Writes the level of each gate of a list, whoever wrote it.
 pub fn write(shape: Shape, table: &[u32], levels: &mut [u32]) -> Answer
-    ensures { λ r. ⌜ depthsOutcome r ≡ levelsOutcome shape (now (table .entry)) (now (levels .entry)) ⌝ }
-    ensures { λ _. ⌜ now (levels .exit) ≡ levelsWritten shape (now (table .entry)) (now (levels .entry)) ⌝ }
+    ensures { λ r.
+        ⌜ record { answer = depthsOutcome r; levels = now (levels .exit) }
+        ≡ levelsResult shape (now (table .entry)) (now (levels .entry)) ⌝ }
 {
     match tally::test::test(shape, table) {
         tally::answer::Answer::Refused(reason) => Answer::Refused(LevelRefusal::OfCore(reason)),

@@ -1,8 +1,8 @@
-// What the programs print with.
+// What the two programs print with.
 use libc::STDOUT_FILENO;
 ghost use Prim.Native.Nat.{_<_};
 
-// A byte as a wider number, of which it is still known that it is small.
+// A byte as a wider number that is known to be small.
 fn wide(x: u8) -> u32
     ensures { λ r. ⌜ r < 256 ⌝ }
 {
@@ -19,7 +19,7 @@ pub fn print_number(n: usize) {
     io::print_decimal(STDOUT_FILENO, n as u64);
 }
 
-// The line of a refusal: its reason's number and place.
+// The line of a refusal: its number and its place.
 pub fn print_refused(number: usize, place: usize) {
     print_text(b"refused");
     print_number(number);

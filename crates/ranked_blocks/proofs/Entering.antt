@@ -1,24 +1,28 @@
 -- The entries of the tables, as they are written: numbers and places, stages, and what is kept.
 -- Assumes nothing.
 use mathlib.Core.Path.{_≡_, _∙_, refl, sym, ap}
-use mathlib.Core.Bool.{Bool, true, false, cond, _||_, not}
+use mathlib.Core.Bool.{Bool, true, false, cond, _&&_, _||_, not}
 use mathlib.Core.Logic.{_≢_}
-use mathlib.Core.List.{[], _++_}
+use mathlib.Core.List.{List, [], _++_}
 use Prim.Native.Nat.{ℕ, zero, suc, _+_, _-_, _*_, _/_, _%_, _≤_, _<_}
 use native.Mathlib.Nat.{mul-le-mul}
 use native.Mathlib.Numerals.{add-one}
 use native.Mathlib.Omega.{arith}
-use lib.Dec.{eqb}
-use lib.ListN.{length}
+use lib.Dec.{eqb, leb, ltb}
+use lib.ListN.{length, set}
 use borrow.Author.Tests.{eq-eqb, ne-eqb, lt-ltb, le-ltb}
 use Rattle.gate_words.specs.Choice.{masked}
 use Rattle.gate_words.specs.Counter.{counter}
 use Rattle.basics.proofs.Arithmetic.{row-within}
-use Rattle.basics.proofs.Flags.{or-first, or-second}
+use Rattle.basics.proofs.Flags.{and-both, or-first, or-second}
 use Rattle.ranked_circuit.specs.Blocks.{compare, smaller, larger, largerIf}
-use Rattle.ranked_circuit.specs.Stages.{votesBlock, linksBlock, stays, newWord, pathBlock}
+use Rattle.ranked_circuit.specs.Stages.{votesBlock, laterOf, linksBlock, stays, newWord, pathBlock}
+use Rattle.ranked_circuit.specs.Contests.{meetingOf, meetingsBlock}
+use Rattle.ranked_circuit.proofs.BlockLaws.{length-whole}
+use Rattle.ranked_circuit.proofs.ContestLaws.{length-meeting}
 use Rattle.ranked_circuit.proofs.TableLaws.{row-low, column-low, number-of}
 use Rattle.ranked_circuit.proofs.StageLaws.{apart-all, stagePad, stage-length}
+use Rattle.ranked_blocks.specs.Ranked.{keepLinks}
 
 -- the number of each two candidates is small
 pub square-small : (k : ℕ) → k ≤ 8 → k * k ≤ 64
@@ -127,15 +131,56 @@ module _ (k n w at i j : ℕ) where
   unfolding votesBlock
   votes-moved e q ne = ap (λ (x : ℕ). counter at x (k * k) n 0 w) (sym q) ∙ sym (ap (λ (c : Bool). cond c [] (counter at (i * k + j) (k * k) n 0 w)) (ne-eqb i j ne))
 
--- comparisons
-module _ (words : ℕ → ℕ → ℕ) (w at i j : ℕ) where
-  pub links-kept : i ≤ j → [] ≡ linksBlock words w at i j
-  unfolding linksBlock
-  links-kept l = sym (ap (λ (c : Bool). cond c (compare at (words i j) (words j i) w) []) (le-ltb j i l))
+-- blocks once for two candidates: none where the row is not the later one, or has none
+pub not-later : (rows : ℕ → Bool) (i j : ℕ) → i ≤ j → (ltb j i && rows i) ≡ false
+not-later rows i j l = ap (λ (c : Bool). c && rows i) (le-ltb j i l)
 
-  pub links-moved : j < i → (x y : ℕ) → x ≡ words i j → y ≡ words j i → compare at x y w ≡ linksBlock words w at i j
-  unfolding linksBlock
-  links-moved l x y ex ey = rw (ex, ey, lt-ltb j i l)
+pub no-row : (rows : ℕ → Bool) (i j : ℕ) → rows i ≡ false → (ltb j i && rows i) ≡ false
+no-row rows i j e = ap (λ (c : Bool). ltb j i && c) e ∙ none (ltb j i)
+  where
+    none : (t : Bool) → (t && false) ≡ false
+    none true = refl
+    none false = refl
+
+pub a-row : (rows : ℕ → Bool) (i j : ℕ) → j < i → rows i ≡ true → (ltb j i && rows i) ≡ true
+a-row rows i j l e = and-both (ltb j i) (rows i) (lt-ltb j i l) e
+
+-- the wires that tell of them are kept
+pub same-links : (rows : ℕ → Bool) (ls : List ℕ) (k i j wire : ℕ) → (ltb j i && rows i) ≡ false → ls ≡ keepLinks rows ls k i j wire
+same-links rows ls k i j wire e = sym (ap (λ (t : Bool). cond t (set (set ls (i * k + j) (wire - 2)) (j * k + i) (wire - 1)) ls) e)
+
+pub new-links : (rows : ℕ → Bool) (ls : List ℕ) (k i j wire : ℕ) → (ltb j i && rows i) ≡ true
+    → set (set ls (i * k + j) (wire - 2)) (j * k + i) (wire - 1) ≡ keepLinks rows ls k i j wire
+new-links rows ls k i j wire e = sym (ap (λ (t : Bool). cond t (set (set ls (i * k + j) (wire - 2)) (j * k + i) (wire - 1)) ls) e)
+
+-- comparisons
+module _ (first : ℕ) (words : ℕ → ℕ → ℕ) (w at i j : ℕ) where
+  pub links-kept : (ltb j i && leb first i) ≡ false → [] ≡ linksBlock first words w at i j
+  unfolding linksBlock laterOf
+  links-kept e = sym (ap (λ (c : Bool). cond c (compare at (words i j) (words j i) w) []) e)
+
+  pub links-moved : (ltb j i && leb first i) ≡ true → (x y : ℕ) → x ≡ words i j → y ≡ words j i → compare at x y w ≡ linksBlock first words w at i j
+  unfolding linksBlock laterOf
+  links-moved e x y ex ey = rw (ex, ey, e)
+
+  pub links-long : (ltb j i && leb first i) ≡ true → length (linksBlock first words w at i j) ≡ 3 + 3 * w
+  links-long e = ap length (sym (links-moved e (words i j) (words j i) refl refl)) ∙ length-whole at (words i j) (words j i) w
+
+-- meetings
+module _ (l : ℕ) (words met : ℕ → ℕ → ℕ) (w at i j : ℕ) where
+  pub meetings-kept : (ltb j i && ltb i l) ≡ false → [] ≡ meetingsBlock l words met w at i j
+  unfolding meetingsBlock laterOf
+  meetings-kept e = sym (ap (λ (c : Bool). cond c (meetingOf l words met w at i j) []) e)
+
+  pub meetings-moved : (ltb j i && ltb i l) ≡ true → meetingOf l words met w at i j ≡ meetingsBlock l words met w at i j
+  unfolding meetingsBlock laterOf
+  meetings-moved e = sym (ap (λ (c : Bool). cond c (meetingOf l words met w at i j) []) e)
+
+  pub meeting-long : length (meetingOf l words met w at i j) ≡ 10 * w + 14
+  meeting-long = omega (arith, length-meeting (words l i) (words l j) (words i j) (words j i) (met i l) (met j l) w at)
+
+  pub meetings-long : (ltb j i && ltb i l) ≡ true → length (meetingsBlock l words met w at i j) ≡ 10 * w + 14
+  meetings-long e = ap length (sym (meetings-moved e)) ∙ meeting-long
 
 -- what is kept: a test that holds leaves all as it was
 pub keeps : {A : Type 0} (t : Bool) (a b : A) → t ≡ true → a ≡ cond t a b

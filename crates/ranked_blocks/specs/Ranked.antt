@@ -1,5 +1,5 @@
 -- The public numbers that a ranked tasting's own list is written with, and where its words stand.
-use mathlib.Core.Bool.{Bool, cond}
+use mathlib.Core.Bool.{Bool, cond, _&&_}
 use mathlib.Core.Logic.{_≢_}
 use mathlib.Core.List.{List}
 use Prim.Native.Nat.{ℕ, suc, _+_, _-_, _*_, _≤_, _<_}
@@ -25,10 +25,11 @@ keptOf wires k i j = getD wires (i * k + j) 0
 abbrev pub keep : Bool → List ℕ → ℕ → ℕ → List ℕ
 keep stays wires e x = cond stays wires (set wires e x)
 
--- Once a comparison of i with an earlier j ends before `wire`: its last wire but one tells that i is above, its last
--- that it is below.
-abbrev pub keepLinks : List ℕ → ℕ → ℕ → ℕ → ℕ → List ℕ
-keepLinks wires k i j wire = cond (ltb j i) (set (set wires (i * k + j) (wire - 2)) (j * k + i) (wire - 1)) wires
+-- Once a block of i and an earlier j, in one of these rows, ends before `wire`: its last wire but one tells that i is
+-- above, its last that it is below.
+abbrev pub keepLinks : (ℕ → Bool) → List ℕ → ℕ → ℕ → ℕ → ℕ → List ℕ
+keepLinks rows wires k i j wire =
+    cond (ltb j i && rows i) (set (set wires (i * k + j) (wire - 2)) (j * k + i) (wire - 1)) wires
 
 -- The words kept for each two candidates end before a wire, a word having a digit and w more.
 abbrev pub WordsBelow : List ℕ → ℕ → ℕ → ℕ → Type 0

@@ -5,8 +5,9 @@ use gates::kind;
 ghost use mathlib.Core.List.{_++_};
 ghost use Prim.Native.Nat.{suc, _+_, _*_, _≤_};
 ghost use Rattle.gate_words.specs.Writing.{Room, Wrote};
+ghost use Rattle.gate_words.specs.inner.Ready.{WordsReady};
 ghost use Rattle.gate_words.specs.Choice.{choose};
-ghost use Rattle.ranked_circuit.specs.Blocks.{compare, order, orderEnd, smaller, larger, largerIf};
+ghost use Rattle.ranked_circuit.specs.Blocks.{compare, strictly, order, orderEnd, smaller, larger, largerIf};
 
 // Two words compared both ways.
 pub(crate) fn compare(w: Writer, table: &mut [u32], x: u32, y: u32, digits: u32) -> Writer
@@ -17,6 +18,18 @@ pub(crate) fn compare(w: Writer, table: &mut [u32], x: u32, y: u32, digits: u32)
     let n = w.wire;
     let first = w.first_digit(table, x, y);
     first.compare_words(table, x + 1, y + 1, n + 1, n + 2, digits)
+}
+
+// Whether the word at x is above the word at y.
+pub(crate) fn strictly(w: Writer, table: &mut [u32], x: u32, y: u32, digits: u32) -> Writer
+    requires { ⌜ WordsReady w (2 + 2 * digits) x y (suc digits) ⌝ }
+    ensures { λ r. ⌜ Wrote w (now (table .entry)) (strictly (w .wire) x y digits) (now (table .exit)) r ⌝ }
+{
+    let n = w.wire;
+    let lowest = w.emit(table, kind::XOR, x, y, 0);
+    let first = lowest.emit(table, kind::AND, x, n, 0);
+    let differ = first.differences(table, x + 1, y + 1, digits);
+    differ.above(table, n + 2, x + 1, n + 1, digits)
 }
 
 // The word at x compared one way with the word at y.

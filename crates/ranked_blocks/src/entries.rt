@@ -4,17 +4,20 @@ use crate::blocks::link_or_way;
 use crate::blocks::path_or_way;
 use crate::kept::kept;
 use crate::kept::stays;
+use crate::meeting::meeting;
 use gate_adders::counter::counter;
 use gate_words::writer::Writer;
 ghost use mathlib.Core.Path.{_≡_};
 ghost use mathlib.Core.Bool.{false};
 ghost use Prim.Native.Nat.{suc, _+_, _-_, _*_, _/_, _%_, _≤_, _<_};
-ghost use lib.Dec.{eqb};
+ghost use lib.Dec.{eqb, leb, ltb};
 ghost use lib.ListN.{length};
 ghost use Rattle.gate_words.specs.Writing.{Room, Wrote};
 ghost use Rattle.ranked_circuit.specs.Stages as spec;
 ghost use Rattle.ranked_circuit.specs.Stages.{votesBlock, linksBlock, newWord, pathBlock};
-ghost use Rattle.ranked_blocks.specs.Ranked.{Ranked, keptOf, keep, keepLinks, WordsBelow};
+ghost use Rattle.ranked_circuit.specs.Contests.{meetingOf, meetingsBlock};
+ghost use Rattle.ranked_blocks.specs.Ranked.{Ranked, keptOf, keep, WordsBelow};
+ghost use Rattle.ranked_blocks.specs.inner.Entries.{Entry, Entered, Meets};
 
 // The public numbers that the list is written with: k, n, and the digits of a word beside the lowest.
 pub struct Ranks {
@@ -52,35 +55,33 @@ pub fn votes_entry(w: Writer, table: &mut [u32], words: &mut [u32], p: Ranks, e:
     next
 }
 
-// The words of two candidates compared, once for both: the wires that tell which is larger are kept.
+// The words of two candidates compared, once for both, the later one being no earlier than `first`: the wires that
+// tell which is larger are kept.
 pub fn links_entry(
     w: Writer,
     table: &mut [u32],
     words: &[u32],
     links: &mut [u32],
     p: Ranks,
+    first: u32,
     e: u32,
 ) -> Writer
-    requires { ⌜ Ranked p ⌝ }
     requires { ⌜
-        Room w (length (linksBlock (keptOf (now words) (p .candidates)) (p .digits) (w .wire) (e / p .candidates)
-        (e % p .candidates)))
-        ⌝ }
-    requires { ⌜ (e < p .candidates * p .candidates) × (length (now words) ≡ 64) × (length (now links) ≡ 64) ⌝ }
-    requires { ⌜ WordsBelow (now words) (p .candidates) (p .digits) (w .wire) ⌝ }
-    ensures { λ r. ⌜
-        Wrote w (now (table .entry)) (linksBlock (keptOf (now (words .entry)) (p .candidates)) (p .digits) (w .wire)
-        (e / p .candidates) (e % p .candidates)) (now (table .exit)) r
+        Entry w (now words) (now links) p (linksBlock first (keptOf (now words) (p .candidates)) (p .digits)) e
         ⌝ }
     ensures { λ r. ⌜
-        now (links .exit) ≡ keepLinks (now (links .entry)) (p .candidates) (e / p .candidates) (e % p .candidates)
-        (r .wire)
+        Entered w (now (table .entry)) (linksBlock first (keptOf (now (words .entry)) (p .candidates)) (p .digits)
+        (w .wire) (e / p .candidates) (e % p .candidates)) (now (table .exit)) r (leb first) (now (links .entry))
+        (p .candidates) (e / p .candidates) (e % p .candidates) (now (links .exit))
         ⌝ }
 {
     let k = p.candidates;
     let i = e / k;
     let j = e % k;
     if i <= j {
+        return w;
+    }
+    if i < first {
         return w;
     }
     let next = compare(
@@ -92,6 +93,72 @@ pub fn links_entry(
     );
     links[(i * k + j) as usize] = next.wire - 2;
     links[(j * k + i) as usize] = next.wire - 1;
+    next
+}
+
+// Candidate i meets an earlier one, both before the last.
+fn meet(
+    w: Writer,
+    table: &mut [u32],
+    words: &[u32],
+    met: &[u32],
+    p: Ranks,
+    i: u32,
+    j: u32,
+) -> Writer
+    requires { ⌜ Meets w (now words) (now met) p i j ⌝ }
+    ensures { λ r. ⌜
+        Wrote w (now (table .entry)) (meetingOf (p .candidates - 1) (keptOf (now (words .entry)) (p .candidates))
+        (keptOf (now (met .entry)) (p .candidates)) (p .digits) (w .wire) i j) (now (table .exit)) r
+        ⌝ }
+{
+    let k = p.candidates;
+    let l = k - 1;
+    meeting(
+        w,
+        table,
+        kept(words, k, l, i),
+        kept(words, k, l, j),
+        kept(words, k, i, j),
+        kept(words, k, j, i),
+        kept(met, k, i, l),
+        kept(met, k, j, l),
+        p.digits,
+    )
+}
+
+// The same for number e, if there is such a meeting: the wires that tell who beats whom are kept.
+pub fn meetings_entry(
+    w: Writer,
+    table: &mut [u32],
+    words: &[u32],
+    met: &mut [u32],
+    p: Ranks,
+    e: u32,
+) -> Writer
+    requires { ⌜
+        Entry w (now words) (now met) p (meetingsBlock (p .candidates - 1) (keptOf (now words) (p .candidates))
+        (keptOf (now met) (p .candidates)) (p .digits)) e
+        ⌝ }
+    ensures { λ r. ⌜
+        Entered w (now (table .entry)) (meetingsBlock (p .candidates - 1) (keptOf (now (words .entry)) (p .candidates))
+        (keptOf (now (met .entry)) (p .candidates)) (p .digits) (w .wire) (e / p .candidates) (e % p .candidates))
+        (now (table .exit)) r (λ i. ltb i (p .candidates - 1)) (now (met .entry)) (p .candidates) (e / p .candidates)
+        (e % p .candidates) (now (met .exit))
+        ⌝ }
+{
+    let k = p.candidates;
+    let i = e / k;
+    let j = e % k;
+    if i <= j {
+        return w;
+    }
+    if k - 1 <= i {
+        return w;
+    }
+    let next = meet(w, table, words, met, p, i, j);
+    met[(i * k + j) as usize] = next.wire - 2;
+    met[(j * k + i) as usize] = next.wire - 1;
     next
 }
 

@@ -5,3 +5,4 @@
 mod blocks;
 pub mod entries;
 pub mod kept;
+mod meeting;

@@ -2,11 +2,11 @@
 -- Assumes nothing.
 use mathlib.Core.Path.{_≡_, _∙_, refl, sym, ap, subst}
 use mathlib.Core.Bool.{Bool, true, cond, _||_}
-use mathlib.Core.Logic.{⊎-elim, _≢_}
+use mathlib.Core.Logic.{⊎-elim, _≢_, _↔_}
 use mathlib.Core.List.{List, [], _∷_, _++_}
-use Prim.Native.Nat.{ℕ, zero, suc, _+_, _-_, _*_, _≤_, _<_}
+use Prim.Native.Nat.{ℕ, zero, suc, max, _+_, _-_, _*_, _≤_, _<_}
 use lib.Dec.{eqb}
-use borrow.Author.Tests.{eq-eqb}
+use borrow.Author.Tests.{eq-eqb, lt-ltb, le-ltb}
 use native.Mathlib.Omega.{arith}
 use lib.ListN.{length, length-append}
 use Rattle.gates.specs.Gate.{Gate}
@@ -23,14 +23,17 @@ use Rattle.rule_schulze.specs.Schulze.{link, strongest, wins}
 use Rattle.rule_schulze.proofs.Winning.{wins-unbeaten, unbeaten-wins, link-won, link-lost}
 use Rattle.rule_schulze.specs.Closure.{detour, closure}
 use Rattle.rule_schulze.proofs.Paths.{closure-strongest}
+use Rattle.rule_schulze.proofs.LastDetour.{BeatsBySix, before, last-to, last-from, beats-by-six}
 use Rattle.rule_schulze.proofs.Tables.{detour-stays}
 use Rattle.ranked_circuit.specs.Table.{blocks}
 use Rattle.ranked_circuit.specs.Paths.{linkWire, pathsTo}
-use Rattle.ranked_circuit.specs.RankedList.{other, joined, loserRow, loserRows, outputGates, contestsFrom, contests, beatsAt, losersFrom, pairFrom, rankedList}
+use Rattle.ranked_circuit.specs.Contests.{duelsFrom, duels, duelAt, meetingsFrom, meetings, meetingAt, beatsAt}
+use Rattle.ranked_circuit.specs.RankedList.{other, joined, loserRow, loserRows, outputGates, losersFrom, pairFrom, rankedList}
 use Rattle.ranked_circuit.proofs.TableLaws.{startOf, length-same, block-holds, blocks-good}
 use Rattle.ranked_circuit.proofs.StageLaws.{link-told}
-use Rattle.ranked_circuit.proofs.PathLaws.{links-told, paths-spelled, all-strongest}
-use Rattle.ranked_circuit.proofs.GoodLaws.{WiresBelow, links-good, links-below, link-below, words-below, paths-good}
+use Rattle.ranked_circuit.proofs.PathLaws.{links-told, paths-spelled, after-detours}
+use Rattle.ranked_circuit.proofs.GoodLaws.{WordsBelow, WiresBelow, links-good, links-below, link-below, words-below, paths-good}
+use Rattle.ranked_circuit.proofs.ContestLaws.{Above, TellsSix, same-six, meetings-good, meetings-below, meeting-told}
 use Rattle.ranked_circuit.proofs.LoserLaws.{other-apart, other-low, other-found, row-length, item-before, row-good, lost-zero, lost-one}
 
 -- Rows and output gates from wire n on, for r + 2 candidates.
@@ -120,10 +123,13 @@ module _ (r n w : ℕ) where
   k₂ = suc (suc (suc r))
 
   unfoldable pub pathGates : List Gate
-  pathGates = pathsTo k₂ n w (suc k₂) .gates
+  pathGates = pathsTo k₂ n w k₂ .gates
 
-  unfoldable pub contestGates : List Gate
-  contestGates = contests k₂ n w
+  unfoldable pub duelGates : List Gate
+  duelGates = duels k₂ n w
+
+  unfoldable pub meetingGates : List Gate
+  meetingGates = meetings k₂ n w
 
   unfoldable pub rowGates : List Gate
   rowGates = loserRows (beatsAt k₂ n w) (suc r) (losersFrom k₂ n w) k₂
@@ -131,46 +137,82 @@ module _ (r n w : ℕ) where
   unfoldable pub lastGates : List Gate
   lastGates = outputGates (beatsAt k₂ n w) (suc r) (losersFrom k₂ n w) k₂
 
-  pub list-is : rankedList (suc (suc (suc r))) n w ≡ pathGates ++ contestGates ++ rowGates ++ lastGates
-  unfolding rankedList pathGates contestGates rowGates lastGates
+  pub list-is : rankedList (suc (suc (suc r))) n w ≡ pathGates ++ duelGates ++ meetingGates ++ rowGates ++ lastGates
+  unfolding rankedList pathGates duelGates meetingGates rowGates lastGates
   list-is = refl
 
-  paths-end : n * k₂ * k₂ + length pathGates ≡ contestsFrom k₂ n w
-  unfolding pathGates contestsFrom
+  paths-end : n * k₂ * k₂ + length pathGates ≡ duelsFrom k₂ n w
+  unfolding pathGates duelsFrom
   paths-end = refl
 
-  contests-end : n * k₂ * k₂ + length (pathGates ++ contestGates) ≡ losersFrom k₂ n w
-  unfolding losersFrom contestGates
-  contests-end = omega (arith, length-append pathGates contestGates, paths-end)
+  duels-end : n * k₂ * k₂ + length (pathGates ++ duelGates) ≡ meetingsFrom k₂ n w
+  unfolding meetingsFrom duelGates
+  duels-end = omega (arith, length-append pathGates duelGates, paths-end)
 
-  rows-end : n * k₂ * k₂ + length (pathGates ++ contestGates ++ rowGates) ≡ losersFrom k₂ n w + k₂ * suc r
+  meetings-end : n * k₂ * k₂ + length (pathGates ++ duelGates ++ meetingGates) ≡ losersFrom k₂ n w
+  unfolding losersFrom meetingGates
+  meetings-end = omega (arith, length-append (pathGates ++ duelGates) meetingGates, duels-end)
+
+  rows-end : n * k₂ * k₂ + length (pathGates ++ duelGates ++ meetingGates ++ rowGates) ≡ losersFrom k₂ n w + k₂ * suc r
   unfolding rowGates
-  rows-end = omega (arith, length-append (pathGates ++ contestGates) rowGates, contests-end, rows-length (beatsAt k₂ n w) (suc r) (losersFrom k₂ n w))
+  rows-end = omega (arith, length-append (pathGates ++ duelGates ++ meetingGates) rowGates, meetings-end, rows-length (beatsAt k₂ n w) (suc r) (losersFrom k₂ n w))
 
   -- the output gates are the last k
   several-end : n * k₂ * k₂ + length (rankedList (suc (suc (suc r))) n w) ≡ losersFrom k₂ n w + k₂ * suc r + k₂
   unfolding lastGates
-  several-end = omega (arith, ap length list-is, length-append (pathGates ++ contestGates ++ rowGates) lastGates, rows-end, outputs-length (beatsAt k₂ n w) (suc r) (losersFrom k₂ n w))
+  several-end = omega (arith, ap length list-is, length-append (pathGates ++ duelGates ++ meetingGates ++ rowGates) lastGates, rows-end, outputs-length (beatsAt k₂ n w) (suc r) (losersFrom k₂ n w))
+
+  -- the paths' words, and the last candidate
+  abbrev words₂ : ℕ → ℕ → ℕ
+  words₂ = pathsTo k₂ n w k₂ .words
+
+  abbrev l₂ : ℕ
+  l₂ = k₂ - 1
+
+  last-is : l₂ ≡ suc (suc r)
+  last-is = omega arith
+
+  duel-below : (i j : ℕ) → i < k₂ → j < k₂ → i ≢ j → l₂ ≤ max i j → duelAt k₂ n w i j < meetingsFrom k₂ n w
+  unfolding duelAt meetingsFrom duels
+  duel-below i j hi hj ne row = links-below k₂ w (k₂ - 1) words₂ (duelsFrom k₂ n w) i j hi hj ne row
 
   beats-below : WiresBelow k₂ (beatsAt k₂ n w) (losersFrom k₂ n w)
-  unfolding beatsAt losersFrom contests
-  beats-below = links-below k₂ w (pathsTo k₂ n w (suc k₂) .words) (contestsFrom k₂ n w)
-
-  contests-good : AllGood (contestsFrom k₂ n w) contestGates
-  unfolding contestGates contests contestsFrom
-  contests-good = links-good k₂ w (pathsTo k₂ n w (suc k₂) .words) (contestsFrom k₂ n w) (words-below k₂ n w (suc k₂))
+  unfolding beatsAt losersFrom
+  beats-below i j hi hj ne =
+      ⊎-elim
+      (λ (q : max i j < l₂).
+      subst (λ (c : Bool). cond c (meetingAt k₂ n w i j) (duelAt k₂ n w i j) < meetingsFrom k₂ n w + length (meetings k₂ n w)) (sym (lt-ltb (max i j) l₂ q))
+      (unfold meetingAt meetings in (meetings-below l₂ words₂ (duelAt k₂ n w) w (meetingsFrom k₂ n w) k₂ i j hi hj ne q)))
+      (λ (q : l₂ ≤ max i j).
+      subst (λ (c : Bool). cond c (meetingAt k₂ n w i j) (duelAt k₂ n w i j) < meetingsFrom k₂ n w + length (meetings k₂ n w)) (sym (le-ltb (max i j) l₂ q))
+      (omega (arith, duel-below i j hi hj ne q)))
+      (below-or-not (max i j) l₂)
 
   several-good : Countable n 0 w → AllGood (n * k₂ * k₂) (rankedList (suc (suc (suc r))) n w)
   several-good c =
       subst (λ (gs : List Gate). AllGood (n * k₂ * k₂) gs) (sym list-is)
-      (good-append (n * k₂ * k₂) (pathGates ++ contestGates ++ rowGates) lastGates
-      (good-append (n * k₂ * k₂) (pathGates ++ contestGates) rowGates
-      (good-append (n * k₂ * k₂) pathGates contestGates paths (subst (λ (l : ℕ). AllGood l contestGates) (sym paths-end) contests-good))
-      (subst (λ (l : ℕ). AllGood l rowGates) (sym contests-end) rows))
+      (good-append (n * k₂ * k₂) (pathGates ++ duelGates ++ meetingGates ++ rowGates) lastGates
+      (good-append (n * k₂ * k₂) (pathGates ++ duelGates ++ meetingGates) rowGates
+      (good-append (n * k₂ * k₂) (pathGates ++ duelGates) meetingGates
+      (good-append (n * k₂ * k₂) pathGates duelGates paths (subst (λ (l : ℕ). AllGood l duelGates) (sym paths-end) met))
+      (subst (λ (l : ℕ). AllGood l meetingGates) (sym duels-end) others))
+      (subst (λ (l : ℕ). AllGood l rowGates) (sym meetings-end) rows))
       (subst (λ (l : ℕ). AllGood l lastGates) (sym rows-end) outputs))
     where
       paths : AllGood (n * k₂ * k₂) pathGates
-      paths = unfold pathGates in (paths-good k₂ n w c (suc k₂) (omega arith))
+      paths = unfold pathGates in (paths-good k₂ n w c k₂ (omega arith))
+
+      met : AllGood (duelsFrom k₂ n w) duelGates
+      met = unfold duelGates duels duelsFrom in (links-good k₂ w (k₂ - 1) words₂ (duelsFrom k₂ n w) (words-below k₂ n w k₂))
+
+      after : WordsBelow k₂ w words₂ (meetingsFrom k₂ n w)
+      after i j hi hj ne = unfold meetingsFrom duelsFrom in (omega (arith, words-below k₂ n w k₂ i j hi hj ne))
+
+      others : AllGood (meetingsFrom k₂ n w) meetingGates
+      others =
+          unfold meetingGates meetings in
+          (meetings-good l₂ words₂ (duelAt k₂ n w) w (meetingsFrom k₂ n w) k₂ (omega arith) after
+          (λ i q. duel-below i l₂ (omega arith) (omega arith) (λ z. omega arith) (omega arith)))
 
       rows : AllGood (losersFrom k₂ n w) rowGates
       rows = unfold rowGates in (rows-good (beatsAt k₂ n w) (suc r) (losersFrom k₂ n w) beats-below)
@@ -180,48 +222,132 @@ module _ (r n w : ℕ) where
 
   module _ (W : ℕ → ℕ) (b : Binary W) (v : ℕ → ℕ → ℕ) (countable : Countable n 0 w)
       (counted : (i j : ℕ) → i < k₂ → j < k₂ → i ≢ j → ones W (i * k₂ + j) (k₂ * k₂) n ≡ v i j) (h : Holds W (n * k₂ * k₂) (rankedList (suc (suc (suc r))) n w)) where
-    t : ℕ → ℕ → ℕ
-    t = strongest (link v) k₂
-
-    whole : Holds W (n * k₂ * k₂) (pathGates ++ contestGates ++ rowGates ++ lastGates)
+    whole : Holds W (n * k₂ * k₂) (pathGates ++ duelGates ++ meetingGates ++ rowGates ++ lastGates)
     whole = subst (λ (gs : List Gate). Holds W (n * k₂ * k₂) gs) list-is h
 
-    before-outputs : Holds W (n * k₂ * k₂) (pathGates ++ contestGates ++ rowGates) × Holds W (losersFrom k₂ n w + k₂ * suc r) lastGates
+    before-outputs : Holds W (n * k₂ * k₂) (pathGates ++ duelGates ++ meetingGates ++ rowGates) × Holds W (losersFrom k₂ n w + k₂ * suc r) lastGates
     before-outputs =
-        let p = holds-append W (n * k₂ * k₂) (pathGates ++ contestGates ++ rowGates) lastGates whole in
+        let p = holds-append W (n * k₂ * k₂) (pathGates ++ duelGates ++ meetingGates ++ rowGates) lastGates whole in
         (p .0, subst (λ (l : ℕ). Holds W l lastGates) rows-end (p .1))
 
-    before-rows : Holds W (n * k₂ * k₂) (pathGates ++ contestGates) × Holds W (losersFrom k₂ n w) rowGates
+    before-rows : Holds W (n * k₂ * k₂) (pathGates ++ duelGates ++ meetingGates) × Holds W (losersFrom k₂ n w) rowGates
     before-rows =
-        let p = holds-append W (n * k₂ * k₂) (pathGates ++ contestGates) rowGates (before-outputs .0) in
-        (p .0, subst (λ (l : ℕ). Holds W l rowGates) contests-end (p .1))
+        let p = holds-append W (n * k₂ * k₂) (pathGates ++ duelGates ++ meetingGates) rowGates (before-outputs .0) in
+        (p .0, subst (λ (l : ℕ). Holds W l rowGates) meetings-end (p .1))
 
-    before-contests : Holds W (n * k₂ * k₂) pathGates × Holds W (contestsFrom k₂ n w) contestGates
-    before-contests =
-        let p = holds-append W (n * k₂ * k₂) pathGates contestGates (before-rows .0) in
-        (p .0, subst (λ (l : ℕ). Holds W l contestGates) paths-end (p .1))
+    before-meetings : Holds W (n * k₂ * k₂) (pathGates ++ duelGates) × Holds W (meetingsFrom k₂ n w) meetingGates
+    before-meetings =
+        let p = holds-append W (n * k₂ * k₂) (pathGates ++ duelGates) meetingGates (before-rows .0) in
+        (p .0, subst (λ (l : ℕ). Holds W l meetingGates) duels-end (p .1))
 
-    spelled : (i j : ℕ) → i < k₂ → j < k₂ → i ≢ j → number W (pathsTo k₂ n w (suc k₂) .words i j) 1 (suc w) ≡ strongest (link v) k₂ i j
+    before-duels : Holds W (n * k₂ * k₂) pathGates × Holds W (duelsFrom k₂ n w) duelGates
+    before-duels =
+        let p = holds-append W (n * k₂ * k₂) pathGates duelGates (before-meetings .0) in
+        (p .0, subst (λ (l : ℕ). Holds W l duelGates) paths-end (p .1))
+
+    -- the strengths of the strongest paths, and of those that do not pass the last candidate
+    abbrev all : ℕ → ℕ → ℕ
+    all = strongest (link v) k₂
+
+    abbrev part : ℕ → ℕ → ℕ
+    part = before (link v) (suc (suc r))
+
+    abbrev spelt : ℕ → ℕ → ℕ
+    spelt i j = number W (words₂ i j) 1 (suc w)
+
+    spelled : (i j : ℕ) → i < k₂ → j < k₂ → i ≢ j → spelt i j ≡ part i j
     unfolding pathGates
-    spelled i j hi hj ne =
-        paths-spelled k₂ n w W b v countable counted (suc k₂) (omega arith) (before-contests .0) i j hi hj ne ∙ all-strongest v (suc (suc r)) i j ne
+    spelled i j hi hj ne = paths-spelled k₂ n w W b v countable counted k₂ (omega arith) (before-duels .0) i j hi hj ne ∙ after-detours v (suc r) i j
 
-    -- who beats whom
-    told : (i j : ℕ) → i < k₂ → j < k₂ → i ≢ j → (t j i < t i j → W (beatsAt k₂ n w i j) ≡ 1) × (t i j ≤ t j i → W (beatsAt k₂ n w i j) ≡ 0)
-    unfolding contestGates contests beatsAt t
-    told = link-told W b (pathsTo k₂ n w (suc k₂) .words) (strongest (link v) k₂) k₂ w spelled (contestsFrom k₂ n w) (before-contests .1)
+    -- whether one of two beats the other, where one is the last
+    duel-told : (i j : ℕ) → i < k₂ → j < k₂ → i ≢ j → l₂ ≤ max i j → Above (W (duelAt k₂ n w i j)) (spelt i j) (spelt j i)
+    unfolding duelGates duels duelAt
+    duel-told = link-told W b words₂ spelt k₂ w (λ i j hi hj ne. refl) (k₂ - 1) (duelsFrom k₂ n w) (before-duels .1)
+
+    -- to and from the last candidate the strongest paths do not pass it
+    part-all : (i j : ℕ) → i < k₂ → j < k₂ → i ≢ j → l₂ ≤ max i j → part i j ≡ all i j
+    part-all i j hi hj ne row = ⊎-elim to from (below-or-not i (suc (suc r)))
+      where
+        to : i < suc (suc r) → part i j ≡ all i j
+        to q = let e : j ≡ suc (suc r) = omega arith in rw e (last-to (link v) (suc (suc r)) i q)
+
+        from : suc (suc r) ≤ i → part i j ≡ all i j
+        from q = let e : i ≡ suc (suc r) = omega arith in rw e (last-from (link v) (suc (suc r)) j (omega arith))
+
+    last-told : (i j : ℕ) → i < k₂ → j < k₂ → i ≢ j → l₂ ≤ max i j → Above (W (beatsAt k₂ n w i j)) (all i j) (all j i)
+    unfolding beatsAt
+    last-told i j hi hj ne row =
+        let t = duel-told i j hi hj ne row in
+        let ji : j ≢ i = λ e. ne (sym e) in
+        let here = spelled i j hi hj ne ∙ part-all i j hi hj ne row in
+        let back = spelled j i hj hi ji ∙ part-all j i hj hi ji (omega arith) in
+        subst (λ (c : Bool). Above (W (cond c (meetingAt k₂ n w i j) (duelAt k₂ n w i j))) (all i j) (all j i)) (sym (le-ltb (max i j) l₂ row))
+        ((λ q. t .0 (omega arith)), (λ q. t .1 (omega arith)))
+
+    -- whether i beats j, of whom none is the last
+    abbrev L : ℕ
+    L = suc (suc r)
+
+    other-told : (i j : ℕ) → i < L → j < L → i ≢ j → TellsSix (W (beatsAt k₂ n w i j)) (part j i) (part i j) (part L j) (part i L) (part L i)
+    other-told i j hi hj ne =
+        let ji : j ≢ i = λ e. ne (sym e) in
+        let from : (x : ℕ) → x < L → spelt l₂ x ≡ part L x = λ x hx. spelled l₂ x (omega arith) (omega arith) (λ z. omega arith) ∙ ap (λ (y : ℕ). part y x) last-is in
+        let to : spelt i l₂ ≡ part i L = spelled i l₂ (omega arith) (omega arith) (λ z. omega arith) ∙ ap (part i) last-is in
+        same-six (W (beatsAt k₂ n w i j)) (spelt j i) (spelt i j) (spelt l₂ j) (spelt i l₂) (spelt l₂ i) (part j i) (part i j) (part L j) (part i L) (part L i)
+        (spelled j i (omega arith) (omega arith) ji) (spelled i j (omega arith) (omega arith) ne) (from j hj) to (from i hi) tells
+      where
+        met : TellsSix (W (meetingAt k₂ n w i j)) (spelt j i) (spelt i j) (spelt l₂ j) (spelt i l₂) (spelt l₂ i)
+        met =
+            unfold meetingGates meetings meetingAt in
+            (meeting-told l₂ words₂ (duelAt k₂ n w) w (meetingsFrom k₂ n w) k₂ W b (before-meetings .1)
+            (λ x hx. duel-told x l₂ (omega arith) (omega arith) (λ z. omega arith) (omega arith)) i j (omega arith) (omega arith) ne (omega arith))
+
+        tells : TellsSix (W (beatsAt k₂ n w i j)) (spelt j i) (spelt i j) (spelt l₂ j) (spelt i l₂) (spelt l₂ i)
+        tells =
+            unfold beatsAt in
+            (subst (λ (c : Bool). TellsSix (W (cond c (meetingAt k₂ n w i j) (duelAt k₂ n w i j))) (spelt j i) (spelt i j) (spelt l₂ j) (spelt i l₂) (spelt l₂ i)) (sym (lt-ltb (max i j) l₂ (omega arith))) met)
+
+    -- who is not beaten by the last candidate is beaten by another as six strengths tell
+    by-six : (i j : ℕ) → i < L → j < L → i ≢ j → all L i ≤ all i L → (all i j < all j i) ↔ BeatsBySix (part i j) (part j i) (part L i) (part j L) (part L j)
+    by-six i j hi hj ne u = beats-by-six (link v) L i j hi hj ne (omega (arith, last-to (link v) L i hi, last-from (link v) L i hi))
+
+    -- nobody beats a winner
+    winner : (i : ℕ) → i < k₂ → wins v k₂ i ≡ true → (j : ℕ) → j < k₂ → j ≢ i → W (beatsAt k₂ n w j i) ≡ 0
+    winner i hi e j hj ne = ⊎-elim other last (below-or-not (max j i) L)
+      where
+        unbeaten : all j i ≤ all i j
+        unbeaten = wins-unbeaten v k₂ i e j hj ne
+
+        other : max j i < L → W (beatsAt k₂ n w j i) ≡ 0
+        other q =
+            let u = wins-unbeaten v k₂ i e L (omega arith) (λ z. omega arith) in
+            other-told j i (omega arith) (omega arith) ne .1 (λ six. let l = by-six i j (omega arith) (omega arith) (λ z. ne (sym z)) u .1 six in omega (arith, unbeaten))
+
+        last : L ≤ max j i → W (beatsAt k₂ n w j i) ≡ 0
+        last q = last-told j i hj hi ne (omega arith) .1 unbeaten
+
+    -- whom nobody beats wins
+    unbeaten-wins-here : (i : ℕ) → i < k₂ → ((j : ℕ) → j < k₂ → j ≢ i → W (beatsAt k₂ n w j i) ≡ 0) → wins v k₂ i ≡ true
+    unbeaten-wins-here i hi none = unbeaten-wins v k₂ i (λ j hj ne. ⊎-elim (other j hj ne) (last j hj ne) (below-or-not (max j i) L))
+      where
+        last : (j : ℕ) → j < k₂ → j ≢ i → L ≤ max j i → all j i ≤ all i j
+        last j hj ne q =
+            ⊎-elim (λ (l : all i j < all j i). absurd (omega (arith, last-told j i hj hi ne (omega arith) .0 l, none j hj ne))) (λ (l : all j i ≤ all i j). l) (below-or-not (all i j) (all j i))
+
+        other : (j : ℕ) → j < k₂ → j ≢ i → max j i < L → all j i ≤ all i j
+        other j hj ne q =
+            let u = last L (omega arith) (λ z. omega arith) (omega arith) in
+            ⊎-elim
+            (λ (l : all i j < all j i).
+            let six = by-six i j (omega arith) (omega arith) (λ z. ne (sym z)) u .0 l in
+            absurd (omega (arith, other-told j i (omega arith) (omega arith) ne .0 six, none j hj ne)))
+            (λ (l : all j i ≤ all i j). l) (below-or-not (all i j) (all j i))
 
     -- closing byte i says whether i wins
     several-closing : (i : ℕ) → i < k₂ → W (losersFrom k₂ n w + k₂ * suc r + i) ≡ cond (wins v k₂ i) 1 0
-    unfolding rowGates lastGates t
+    unfolding rowGates lastGates
     several-closing i hi =
-        output-law (beatsAt k₂ n w) (suc r) (losersFrom k₂ n w) W b v (before-rows .1) (before-outputs .1) i hi
-        (λ e j hj ne. told j i hj hi ne .1 (wins-unbeaten v k₂ i e j hj ne))
-        (λ none.
-        unbeaten-wins v k₂ i
-        (λ j hj ne.
-        ⊎-elim (λ (l : strongest (link v) k₂ i j < strongest (link v) k₂ j i). absurd (omega (arith, told j i hj hi ne .0 l, none j hj ne)))
-        (λ (l : strongest (link v) k₂ j i ≤ strongest (link v) k₂ i j). l) (below-or-not (strongest (link v) k₂ i j) (strongest (link v) k₂ j i))))
+        output-law (beatsAt k₂ n w) (suc r) (losersFrom k₂ n w) W b v (before-rows .1) (before-outputs .1) i hi (winner i hi) (unbeaten-wins-here i hi)
 
 -- two candidates: of each the strongest path is its link
 one-link : (s : ℕ → ℕ → ℕ) (i j : ℕ) → i < 2 → j < 2 → i ≢ j → strongest s 2 i j ≡ s i j
@@ -307,7 +433,7 @@ list-end zero n w = pair-end n w
 list-end (suc r) n w = several-end r n w
 
 pub inputs-before : (r n w : ℕ) → n * suc (suc r) * suc (suc r) ≤ outputsFrom r n w
-unfolding outputsFrom pairFrom losersFrom contestsFrom
+unfolding outputsFrom pairFrom losersFrom meetingsFrom duelsFrom
 inputs-before zero n w = omega arith
 inputs-before (suc r) n w = omega arith
 

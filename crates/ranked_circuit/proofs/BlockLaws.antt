@@ -1,21 +1,21 @@
 -- What the wires of the blocks spell, for every width; their lengths, and that their operands point back.
 -- Assumes nothing.
-use mathlib.Core.Path.{_≡_, _∙_, subst}
+use mathlib.Core.Path.{_≡_, _∙_, sym, ap, subst}
 use mathlib.Core.Logic.{⊎-elim}
 use mathlib.Core.List.{List, _∷_, _++_}
-use Prim.Native.Nat.{ℕ, suc, min, max, _+_, _-_, _*_, _≤_, _<_}
+use Prim.Native.Nat.{ℕ, zero, suc, min, max, _+_, _-_, _*_, _%_, _≤_, _<_}
 use native.Mathlib.Omega.{arith}
 use lib.ListN.{length, length-append}
 use Rattle.gates.specs.Gate.{Gate}
 use Rattle.gates.proofs.Laws.{AllGood, Holds, holds-append, good-two, operand-counts}
-use Rattle.gate_words.specs.Gates.{andOf}
+use Rattle.gate_words.specs.Gates.{andOf, xorOf}
 use Rattle.gate_words.specs.Word.{number}
-use Rattle.gate_words.specs.Choice.{choose}
+use Rattle.gate_words.specs.Choice.{choose, chainEnd}
 use Rattle.gate_words.specs.Comparison.{firstDigit, compareWords, upEnd, downEnd, differences, above}
-use Rattle.gate_words.proofs.Laws.{Binary, bit-cases, number-more, choose-one, choose-zero, first-up, first-down, words-up, words-down, above-one, above-zero, length-choose, length-first-digit, length-compare, length-differences, length-above, first-digit-good, compare-good, differences-good, above-good, choose-good}
-use Rattle.gate_words.proofs.GateValues.{holds-first, holds-rest, and-is}
+use Rattle.gate_words.proofs.Laws.{Binary, bit-cases, number-more, choose-one, choose-zero, first-up, first-down, words-up, words-down, above-law, above-one, above-zero, length-choose, length-first-digit, length-compare, length-differences, length-above, first-digit-good, compare-good, differences-good, above-good, choose-good}
+use Rattle.gate_words.proofs.GateValues.{holds-first, holds-rest, and-is, xor-is}
 use Rattle.gate_words.proofs.Ends.{chain-below}
-use Rattle.ranked_circuit.specs.Blocks.{compare, order, orderEnd, smaller, larger, largerIf}
+use Rattle.ranked_circuit.specs.Blocks.{compare, strictly, order, orderEnd, smaller, larger, largerIf}
 use Rattle.gate_words.proofs.ComparisonLaws.{not-one}
 use Rattle.gate_words.proofs.ComparisonLaws.{not-zero}
 use Rattle.gate_words.proofs.PointsBack.{behind}
@@ -26,6 +26,16 @@ unfolding compare
 length-whole n x y w =
     length-append (firstDigit n x y) (compareWords (n + 3) (x + 1) (y + 1) (n + 1) (n + 2) w)
     ∙ omega (arith, length-first-digit n x y, length-compare (n + 3) (x + 1) (y + 1) (n + 1) (n + 2) w)
+
+pub length-strictly : (n x y w : ℕ) → length (strictly n x y w) ≡ 2 + 2 * w
+unfolding strictly
+length-strictly n x y w =
+    omega (
+      arith,
+      length-append (differences (x + 1) (y + 1) w) (above (n + 2 + w) (n + 2) (x + 1) (n + 1) w),
+      length-differences (x + 1) (y + 1) w,
+      length-above (n + 2 + w) (n + 2) (x + 1) (n + 1) w,
+    )
 
 pub length-order : (n x y w : ℕ) → length (order n x y w) ≡ 2 * w
 unfolding order
@@ -53,6 +63,20 @@ unfolding compare
 whole-good n x y w hx hy =
     behind n 3 (firstDigit n x y) (compareWords (n + 3) (x + 1) (y + 1) (n + 1) (n + 2) w) (length-first-digit n x y) (first-digit-good n x y (omega arith) (omega arith))
     (compare-good (n + 3) (x + 1) (y + 1) (n + 1) (n + 2) w (omega arith) (omega arith) (omega arith) (omega arith))
+
+pub strictly-good : (n x y w : ℕ) → x + suc w ≤ n → y + suc w ≤ n → AllGood n (strictly n x y w)
+unfolding strictly
+strictly-good n x y w hx hy =
+    let place : n + 2 ≡ suc (suc n) = omega arith in
+    let rest : AllGood (n + 2) (differences (x + 1) (y + 1) w ++ above (n + 2 + w) (n + 2) (x + 1) (n + 1) w) =
+    behind (n + 2) w (differences (x + 1) (y + 1) w) (above (n + 2 + w) (n + 2) (x + 1) (n + 1) w) (length-differences (x + 1) (y + 1) w)
+    (differences-good (n + 2) (x + 1) (y + 1) w (omega arith) (omega arith)) (above-good (n + 2 + w) (n + 2) (x + 1) (n + 1) w (omega arith) (omega arith) (omega arith)) in (
+      good-two n 6 x y (omega arith) (operand-counts .6) (omega arith) (omega arith),
+      (
+        good-two (suc n) 4 x n (omega arith) (operand-counts .4) (omega arith) (omega arith),
+        subst (λ (m : ℕ). AllGood m (differences (x + 1) (y + 1) w ++ above (n + 2 + w) (n + 2) (x + 1) (n + 1) w)) place rest,
+      ),
+    )
 
 pub order-good : (n x y w : ℕ) → x + suc w ≤ n → y + suc w ≤ n → AllGood n (order n x y w)
 unfolding order
@@ -117,6 +141,45 @@ module _ (W : ℕ → ℕ) (b : Binary W) where
           (λ (l : number W y 1 (suc w) ≤ number W x 1 (suc w)).
               r .1 (⊎-elim (λ (z : W (n + 2) ≡ 0). omega (arith, b x)) (λ (z : W (n + 2) ≡ 1). let k : W x < W y = not-zero z (d .1) in omega arith) (bit-cases (W (n + 2)) (b (n + 2))))),
         )
+
+  module _ (n x y w : ℕ) (h : Holds W n (strictly n x y w)) where
+    abbrev highDigits : List Gate
+    highDigits = differences (x + 1) (y + 1) w ++ above (n + 2 + w) (n + 2) (x + 1) (n + 1) w
+
+    opened : Holds W n (xorOf x y ∷ andOf x n ∷ highDigits)
+    opened = unfold strictly in h
+
+    differ-is : W n ≡ (W x + W y) % 2
+    differ-is = holds-first W n (xorOf x y) (andOf x n ∷ highDigits) opened ∙ xor-is W b x y
+
+    lowest-is : W (n + 1) ≡ min (W x) (W n)
+    lowest-is = holds-first W (n + 1) (andOf x n) highDigits (holds-rest W n (xorOf x y) (andOf x n ∷ highDigits) opened) ∙ and-is W b x n
+
+    highs : Holds W (n + 2) (differences (x + 1) (y + 1) w) × Holds W (n + 2 + w) (above (n + 2 + w) (n + 2) (x + 1) (n + 1) w)
+    highs =
+        let place : n + 1 + 1 ≡ n + 2 = omega arith in
+        let rest = above (n + 2 + w) (n + 2) (x + 1) (n + 1) w in
+        let all = subst (λ (m : ℕ). Holds W m highDigits) place (holds-rest W (n + 1) (andOf x n) highDigits (holds-rest W n (xorOf x y) (andOf x n ∷ highDigits) opened)) in
+        let p = holds-append W (n + 2) (differences (x + 1) (y + 1) w) rest all in
+        (p .0, subst (λ (l : ℕ). Holds W (n + 2 + l) rest) (length-differences (x + 1) (y + 1) w) (p .1))
+
+    last-is : chainEnd (n + 2 + w) (n + 1) w ≡ n + 2 * w + 1
+    last-is = ends w
+      where
+        ends : (w : ℕ) → chainEnd (n + 2 + w) (n + 1) w ≡ n + 2 * w + 1
+        ends zero = unfold chainEnd in (omega arith)
+        ends (suc w) = unfold chainEnd in (omega arith)
+
+    -- the last wire tells whether the word at x is above the word at y
+    pub strictly-law : (number W y 1 (suc w) < number W x 1 (suc w) → W (n + 2 * w + 1) ≡ 1) × (number W x 1 (suc w) ≤ number W y 1 (suc w) → W (n + 2 * w + 1) ≡ 0)
+    strictly-law =
+        let r = above-law W b (n + 2 + w) (n + 2) (x + 1) (y + 1) (n + 1) w (highs .0) (highs .1) in
+        let e = ap W last-is in
+        let mx = number-more W x 1 w in
+        let my = number-more W y 1 w in
+        let d = differ-is in
+        let s = lowest-is in
+        ((λ l. sym e ∙ r .0 (omega (arith, b x, b y))), (λ l. sym e ∙ r .1 (omega (arith, b x, b y))))
 
   -- which of two words is not above the other
   order-law : (n x y w : ℕ) → Holds W n (order n x y w)

@@ -2,7 +2,7 @@
 -- Assumes nothing.
 use mathlib.Core.Path.{_≡_, _∙_, ap}
 use mathlib.Core.Bool.{Bool, true, false, cond}
-use mathlib.Core.List.{List, [], _∷_}
+use mathlib.Core.List.{List, [], _∷_, _++_}
 use Prim.Native.Nat.{ℕ, zero, suc, _+_, _-_, _*_, _/_, _≤_}
 use native.Mathlib.Omega.{arith}
 use Rattle.gates.specs.Kind.{conditionalOf}
@@ -14,8 +14,9 @@ use Rattle.gate_words.specs.Gates.{copyOf, notOf, andOf, orOf, xorOf, muxOf}
 use Rattle.gate_words.specs.Choice.{choose, masked}
 use Rattle.gate_words.specs.Comparison.{firstDigit, compareWords, differences, above}
 use Rattle.gate_words.specs.Adder.{fullAdder, halfAdder}
-use Rattle.gate_words.specs.Counter.{level, adders, levelSum, countLevels, countDigits, counter, countSize}
-use Rattle.ranked_circuit.specs.Blocks.{compare, order, orderEnd, smaller, larger, largerIf}
+use Rattle.gate_words.specs.Counter.{level, adders, levelSum, countLevels, countDigitsAs, countDigits, counter, countSize}
+use Rattle.ranked_circuit.specs.Blocks.{compare, strictly, order, orderEnd, smaller, larger, largerIf}
+use Rattle.ranked_circuit.specs.Contests.{meeting}
 use Rattle.ranked_circuit.specs.RankedList.{rankedList}
 use Rattle.ranked_circuit.proofs.Figures.{Each, figure-is}
 
@@ -97,7 +98,7 @@ levels-cost n at d m (suc r) =
     omega (arith, count-append (level n at (at + d) d 0 (m - 1)) (countLevels (n + 3 * t) (n + 2) 3 t 0 r), level-cost n at (at + d) d (m - 1), levels-cost (n + 3 * t) (n + 2) 3 t r)
 
 digits-cost : (n at m r : ℕ) → conditionalCount (countDigits n at m 0 r) ≡ 0
-unfolding countDigits
+unfolding countDigitsAs
 digits-cost n at m zero = free (copyOf at) [] (marks .2) ∙ count-nil
 digits-cost n at m (suc r) =
     free (copyOf (levelSum n at (m - 1) 0)) (countDigits (n + 3 * adders (m - 1) 0) (n + 2) (adders (m - 1) 0) 0 r) (marks .2) ∙ digits-cost (n + 3 * adders (m - 1) 0) (n + 2) (adders (m - 1) 0) r
@@ -111,6 +112,14 @@ whole-cost : (n x y w : ℕ) → conditionalCount (compare n x y w) ≡ 2 * w + 
 unfolding compare
 whole-cost n x y w =
     omega (arith, count-append (firstDigit n x y) (compareWords (n + 3) (x + 1) (y + 1) (n + 1) (n + 2) w), first-digit-cost n x y, compare-words-cost (n + 3) (x + 1) (y + 1) (n + 1) (n + 2) w)
+
+strictly-cost : (n x y w : ℕ) → conditionalCount (strictly n x y w) ≡ suc w
+unfolding strictly
+strictly-cost n x y w =
+    let rest = differences (x + 1) (y + 1) w ++ above (n + 2 + w) (n + 2) (x + 1) (n + 1) w in
+    let a = free (xorOf x y) (andOf x n ∷ rest) (marks .6) in
+    let b = marked (andOf x n) rest (marks .4) in
+    omega (arith, a, b, count-append (differences (x + 1) (y + 1) w) (above (n + 2 + w) (n + 2) (x + 1) (n + 1) w), differences-cost (x + 1) (y + 1) w, above-cost (n + 2 + w) (n + 2) (x + 1) (n + 1) w)
 
 order-cost : (n x y w : ℕ) → conditionalCount (order n x y w) ≡ w
 unfolding order
@@ -135,8 +144,40 @@ larger-if-cost n f x y w =
       choose-cost (n + 2 * w) x y (suc w),
     )
 
+-- two comparisons both ways, two one way, and four gates
+meeting-cost : (li lj ij ji mi mj w at : ℕ) → conditionalCount (meeting li lj ij ji mi mj w at) ≡ 6 * w + 8
+unfolding meeting
+meeting-cost li lj ij ji mi mj w at =
+    let c = 3 + 3 * w in
+    let s = 2 + 2 * w in
+    let e = at + c + c + s + s in
+    let first = compare at li lj w in
+    let second = compare (at + c) ij ji w in
+    let third = strictly (at + c + c) ij lj w in
+    let fourth = strictly (at + c + c + s) ji li w in
+    let down = muxOf (at + c - 2) mj (e + 1) ∷ [] in
+    let up = muxOf (at + c - 1) mi e ∷ down in
+    let back = andOf (at + c + c - 1) (e - 1) ∷ up in
+    let forth = andOf (at + c + c - 2) (at + c + c + s - 1) ∷ back in
+    omega (
+      arith,
+      count-append (first ++ second ++ third ++ fourth) forth,
+      count-append (first ++ second ++ third) fourth,
+      count-append (first ++ second) third,
+      count-append first second,
+      whole-cost at li lj w,
+      whole-cost (at + c) ij ji w,
+      strictly-cost (at + c + c) ij lj w,
+      strictly-cost (at + c + c + s) ji li w,
+      marked (andOf (at + c + c - 2) (at + c + c + s - 1)) back (marks .4),
+      marked (andOf (at + c + c - 1) (e - 1)) up (marks .4),
+      marked (muxOf (at + c - 1) mi e) down (marks .7),
+      marked (muxOf (at + c - 2) mj (e + 1)) [] (marks .7),
+      count-nil,
+    )
+
 -- each block's
-costs : (n w : ℕ) → Each conditionalCount n w (countSize n 0 w / 3) (2 * w + 1) (suc w) (4 * w + 3) (4 * w + 2) 1 0
+costs : (n w : ℕ) → Each conditionalCount n w (countSize n 0 w / 3) (2 * w + 1) (suc w) (4 * w + 3) (4 * w + 2) (6 * w + 8) 1 0
 costs n w =
     record {
       counters = λ at from step. omega (arith, counter-cost at from step n w);
@@ -144,13 +185,15 @@ costs n w =
       strengths = λ l a. masked-cost l a (suc w);
       firsts = λ at a b at′ l a′ b′. omega (arith, count-append (smaller at a b w) (largerIf at′ l a′ b′ w), smaller-cost at a b w, larger-if-cost at′ l a′ b′ w);
       detours = λ at a b at′ a′ b′. omega (arith, count-append (smaller at a b w) (larger at′ a′ b′ w), smaller-cost at a b w, larger-cost at′ a′ b′ w);
+      meets = λ li lj ij ji mi mj at. meeting-cost li lj ij ji mi mj w at;
       joins = λ a b. marked (orOf a b) [] (marks .5) ∙ ap suc count-nil;
       lasts = λ a. free (notOf a) [] (marks .3) ∙ count-nil;
     }
 
--- C: each counter has a third of its adders' gates, each two candidates are compared twice, and so on
+-- C: each counter has a third of its adders' gates, each two candidates are compared both ways, and so on
 pub conditional-are : (r n w : ℕ) → r ≤ 5 → conditionalCount (rankedList (suc (suc (suc r))) n w) ≡
-    suc (suc (suc r)) * suc (suc r) * (countSize n 0 w / 3) + suc (suc (suc r)) * suc (suc r) * (2 * w + 1) + 2 * suc (suc r) * suc w + suc (suc r) * suc r * (4 * w + 3) + suc (suc r) * (suc (suc r) * suc r) * (4 * w + 2) + suc (suc (suc r)) * suc r
+    suc (suc (suc r)) * suc (suc r) * (countSize n 0 w / 3) + suc (suc (suc r)) * suc (suc r) / 2 * (2 * w + 1) + 2 * suc (suc r) * suc w + suc (suc r) * suc r * (4 * w + 3) + suc r * (suc (suc r) * suc r) * (4 * w + 2)
+    + suc (suc r) * (2 * w + 1) + suc (suc r) * suc r / 2 * (6 * w + 8) + suc (suc (suc r)) * suc r
 conditional-are r n w h =
-    let total = figure-is conditionalCount (record { none = count-nil; both = count-append }) n w (countSize n 0 w / 3) (2 * w + 1) (suc w) (4 * w + 3) (4 * w + 2) 1 0 (costs n w) r h in
+    let total = figure-is conditionalCount (record { none = count-nil; both = count-append }) n w (countSize n 0 w / 3) (2 * w + 1) (suc w) (4 * w + 3) (4 * w + 2) (6 * w + 8) 1 0 (costs n w) r h in
     omega arith

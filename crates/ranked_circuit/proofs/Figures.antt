@@ -1,12 +1,12 @@
 -- How many gates a ranked tasting's own list has, and how many of them are conditional: both by the sums of its tables.
 -- Assumes nothing.
 use mathlib.Core.Path.{_≡_, _∙_, refl, sym, ap}
-use mathlib.Core.Bool.{Bool, true, false, cond}
+use mathlib.Core.Bool.{Bool, true, false, cond, _&&_}
 use mathlib.Core.List.{List, [], _∷_, _++_}
 use Prim.Native.Nat.{ℕ, zero, suc, _+_, _-_, _*_, _/_, _%_, _≤_}
 use native.Mathlib.Nat.{suc-mul, zero-mul}
 use native.Mathlib.Omega.{arith}
-use lib.Dec.{eqb, ltb}
+use lib.Dec.{eqb, leb, ltb}
 use lib.ListN.{length}
 use Rattle.gates.specs.Gate.{Gate}
 use Rattle.gate_words.specs.Choice.{masked}
@@ -14,11 +14,12 @@ use Rattle.gate_words.specs.Gates.{notOf, orOf}
 use Rattle.gate_words.specs.Counter.{counter}
 use Rattle.ranked_circuit.specs.Blocks.{compare, smaller, larger, largerIf}
 use Rattle.ranked_circuit.specs.Table.{blocks, entries, table}
-use Rattle.ranked_circuit.specs.Stages.{votesBlock, linksBlock, stays, newWord, pathBlock}
+use Rattle.ranked_circuit.specs.Stages.{votesBlock, laterOf, linksBlock, stays, newWord, pathBlock}
 use Rattle.ranked_circuit.specs.Paths.{votesAt, votesTable, linksFrom, linksTable, linkWire, nextPaths, pathsTo}
-use Rattle.ranked_circuit.specs.RankedList.{joined, loserRow, loserRows, outputGates, contestsFrom, contests, beatsAt, losersFrom, pairFrom, rankedList}
+use Rattle.ranked_circuit.specs.Contests.{duelsFrom, duels, duelAt, meeting, meetingsBlock, meetingsFrom, meetings, beatsAt}
+use Rattle.ranked_circuit.specs.RankedList.{joined, loserRow, loserRows, outputGates, losersFrom, pairFrom, rankedList}
 use Rattle.ranked_circuit.proofs.TableLaws.{startOf}
-use Rattle.ranked_circuit.proofs.Accuracy.{pathGates, contestGates, rowGates, lastGates, list-is, pair-is}
+use Rattle.ranked_circuit.proofs.Accuracy.{pathGates, duelGates, meetingGates, rowGates, lastGates, list-is, pair-is}
 
 -- the sum of m numbers, and of the numbers of a table
 pub sumBelow : (ℕ → ℕ) → ℕ → ℕ
@@ -42,13 +43,14 @@ pub record Figure (f : List Gate → ℕ) : Type 0 where
   pub none : f [] ≡ 0
   pub both : (gs hs : List Gate) → f (gs ++ hs) ≡ f gs + f hs
 
--- what is counted of each block: a counter, two words compared, a link's strength, the first and a further detour; and of each gate that joins and of each last one
-pub record Each (f : List Gate → ℕ) (n w c p s d e o x : ℕ) : Type 0 where
+-- what is counted of each block: a counter, two words compared, a link's strength, the first and a further detour, two who meet; and of each gate that joins and of each last one
+pub record Each (f : List Gate → ℕ) (n w c p s d e q o x : ℕ) : Type 0 where
   pub counters : (at from step : ℕ) → f (counter at from step n 0 w) ≡ c
   pub compares : (at a b : ℕ) → f (compare at a b w) ≡ p
   pub strengths : (l a : ℕ) → f (masked l a (suc w)) ≡ s
   pub firsts : (at a b at′ l a′ b′ : ℕ) → f (smaller at a b w ++ largerIf at′ l a′ b′ w) ≡ d
   pub detours : (at a b at′ a′ b′ : ℕ) → f (smaller at a b w ++ larger at′ a′ b′ w) ≡ e
+  pub meets : (li lj ij ji mi mj at : ℕ) → f (meeting li lj ij ji mi mj w at) ≡ q
   pub joins : (a b : ℕ) → f (orOf a b ∷ []) ≡ o
   pub lasts : (a : ℕ) → f (notOf a ∷ []) ≡ x
 
@@ -56,8 +58,8 @@ pub record Each (f : List Gate → ℕ) (n w c p s d e o x : ℕ) : Type 0 where
 pub apartOf : ℕ → ℕ → ℕ → ℕ
 apartOf c i j = cond (eqb i j) 0 c
 
-pub linkedOf : ℕ → ℕ → ℕ → ℕ
-linkedOf p i j = cond (ltb j i) p 0
+pub laterOnes : (ℕ → Bool) → ℕ → ℕ → ℕ → ℕ
+laterOnes rows p i j = cond (ltb j i && rows i) p 0
 
 pub stageOf : ℕ → ℕ → ℕ → ℕ → ℕ
 stageOf x m i j = cond (stays m i j) 0 x
@@ -82,14 +84,20 @@ module _ (f : List Gate → ℕ) (g : Figure f) where
   unfolding table entries tableSum
   table-figure k block x h n = blocks-figure (λ at e. block at (e / k) (e % k)) (λ e. x (e / k) (e % k)) (λ at e. h at (e / k) (e % k)) n (k * k)
 
-  module _ (n w c p s d e o x : ℕ) (a : Each f n w c p s d e o x) where
+  module _ (n w c p s d e q o x : ℕ) (a : Each f n w c p s d e q o x) where
     votes-figure : (k at i j : ℕ) → f (votesBlock k n w at i j) ≡ apartOf c i j
     unfolding votesBlock apartOf
     votes-figure k at i j = either-figure (eqb i j) [] (counter at (i * k + j) (k * k) n 0 w) 0 c (g .none) (a .counters at (i * k + j) (k * k))
 
-    links-figure : (words : ℕ → ℕ → ℕ) (at i j : ℕ) → f (linksBlock words w at i j) ≡ linkedOf p i j
-    unfolding linksBlock linkedOf
-    links-figure words at i j = either-figure (ltb j i) (compare at (words i j) (words j i) w) [] p 0 (a .compares at (words i j) (words j i)) (g .none)
+    links-figure : (first : ℕ) (words : ℕ → ℕ → ℕ) (at i j : ℕ) → f (linksBlock first words w at i j) ≡ laterOnes (leb first) p i j
+    unfolding linksBlock laterOf laterOnes
+    links-figure first words at i j = either-figure (ltb j i && leb first i) (compare at (words i j) (words j i) w) [] p 0 (a .compares at (words i j) (words j i)) (g .none)
+
+    meetings-figure : (l : ℕ) (words met : ℕ → ℕ → ℕ) (at i j : ℕ) → f (meetingsBlock l words met w at i j) ≡ laterOnes (λ y. ltb y l) q i j
+    unfolding meetingsBlock laterOf laterOnes
+    meetings-figure l words met at i j =
+        either-figure (ltb j i && ltb i l) (meeting (words l i) (words l j) (words i j) (words j i) (met i l) (met j l) w at) [] q 0
+        (a .meets (words l i) (words l j) (words i j) (words j i) (met i l) (met j l) at) (g .none)
 
     new-figure : (links words : ℕ → ℕ → ℕ) (m at i j : ℕ) → f (newWord links words w m at i j) ≡ stageFigure s d e m
     unfolding newWord stageFigure
@@ -101,20 +109,20 @@ module _ (f : List Gate → ℕ) (g : Figure f) where
     unfolding pathBlock stageOf
     stage-figure links words m at i j = either-figure (stays m i j) [] (newWord links words w m at i j) 0 (stageFigure s d e m) (g .none) (new-figure links words m at i j)
 
-    paths-figure : (k m : ℕ) → f (pathsTo k n w m .gates) ≡ tableSum (apartOf c) k + tableSum (linkedOf p) k + sumBelow (λ l. tableSum (stageOf (stageFigure s d e l) l) k) m
+    paths-figure : (k m : ℕ) → f (pathsTo k n w m .gates) ≡ tableSum (apartOf c) k + tableSum (laterOnes (leb 0) p) k + sumBelow (λ l. tableSum (stageOf (stageFigure s d e l) l) k) m
     unfolding pathsTo nextPaths sumBelow votesTable linksTable
     paths-figure k zero =
         omega (
           arith,
           g .both (votesTable k n w) (linksTable k n w),
           table-figure k (votesBlock k n w) (apartOf c) (votes-figure k) (n * k * k),
-          table-figure k (linksBlock (votesAt k n w) w) (linkedOf p) (links-figure (votesAt k n w)) (linksFrom k n w),
+          table-figure k (linksBlock 0 (votesAt k n w) w) (laterOnes (leb 0) p) (links-figure 0 (votesAt k n w)) (linksFrom k n w),
         )
     paths-figure k (suc m) =
-        let q = pathsTo k n w m in
-        let start = n * k * k + length (q .gates) in
-        let block = pathBlock (linkWire k n w) (q .words) w m in
-        omega (arith, g .both (q .gates) (table start k block), paths-figure k m, table-figure k block (stageOf (stageFigure s d e m) m) (stage-figure (linkWire k n w) (q .words) m) start)
+        let t = pathsTo k n w m in
+        let start = n * k * k + length (t .gates) in
+        let block = pathBlock (linkWire k n w) (t .words) w m in
+        omega (arith, g .both (t .gates) (table start k block), paths-figure k m, table-figure k block (stageOf (stageFigure s d e m) m) (stage-figure (linkWire k n w) (t .words) m) start)
 
     rows-figure : (beats : ℕ → ℕ → ℕ) (r from k : ℕ) → f (loserRows beats r from k) ≡ k * (r * o)
     unfolding loserRows
@@ -130,25 +138,28 @@ module _ (f : List Gate → ℕ) (g : Figure f) where
 
     -- all of the list
     pub by-tables : (r : ℕ) → f (rankedList (suc (suc (suc r))) n w) ≡
-        tableSum (apartOf c) (suc (suc (suc r))) + tableSum (linkedOf p) (suc (suc (suc r))) + sumBelow (λ l. tableSum (stageOf (stageFigure s d e l) l) (suc (suc (suc r)))) (suc (suc (suc (suc r))))
-        + tableSum (linkedOf p) (suc (suc (suc r))) + suc (suc (suc r)) * (suc r * o) + suc (suc (suc r)) * x
-    unfolding pathGates contestGates contests rowGates lastGates
+        tableSum (apartOf c) (suc (suc (suc r))) + tableSum (laterOnes (leb 0) p) (suc (suc (suc r))) + sumBelow (λ l. tableSum (stageOf (stageFigure s d e l) l) (suc (suc (suc r)))) (suc (suc (suc r)))
+        + tableSum (laterOnes (leb (suc (suc (suc r)) - 1)) p) (suc (suc (suc r))) + tableSum (laterOnes (λ y. ltb y (suc (suc (suc r)) - 1)) q) (suc (suc (suc r))) + suc (suc (suc r)) * (suc r * o) + suc (suc (suc r)) * x
+    unfolding pathGates duelGates duels meetingGates meetings rowGates lastGates
     by-tables r =
         let k = suc (suc (suc r)) in
+        let words = pathsTo k n w k .words in
         omega (
           arith,
           ap f (list-is r n w),
-          g .both (pathGates r n w ++ contestGates r n w ++ rowGates r n w) (lastGates r n w),
-          g .both (pathGates r n w ++ contestGates r n w) (rowGates r n w),
-          g .both (pathGates r n w) (contestGates r n w),
-          paths-figure k (suc k),
-          table-figure k (linksBlock (pathsTo k n w (suc k) .words) w) (linkedOf p) (links-figure (pathsTo k n w (suc k) .words)) (contestsFrom k n w),
+          g .both (pathGates r n w ++ duelGates r n w ++ meetingGates r n w ++ rowGates r n w) (lastGates r n w),
+          g .both (pathGates r n w ++ duelGates r n w ++ meetingGates r n w) (rowGates r n w),
+          g .both (pathGates r n w ++ duelGates r n w) (meetingGates r n w),
+          g .both (pathGates r n w) (duelGates r n w),
+          paths-figure k k,
+          table-figure k (linksBlock (k - 1) words w) (laterOnes (leb (k - 1)) p) (links-figure (k - 1) words) (duelsFrom k n w),
+          table-figure k (meetingsBlock (k - 1) words (duelAt k n w) w) (laterOnes (λ y. ltb y (k - 1)) q) (meetings-figure (k - 1) words (duelAt k n w)) (meetingsFrom k n w),
           rows-figure (beatsAt k n w) (suc r) (losersFrom k n w) k,
           outputs-figure (beatsAt k n w) (suc r) (losersFrom k n w) k,
         )
 
     -- of the list of two candidates
-    pub pair-figure : f (rankedList 2 n w) ≡ tableSum (apartOf c) 2 + tableSum (linkedOf p) 2 + 2 * x
+    pub pair-figure : f (rankedList 2 n w) ≡ tableSum (apartOf c) 2 + tableSum (laterOnes (leb 0) p) 2 + 2 * x
     pair-figure =
         omega (
           arith,
@@ -160,50 +171,51 @@ module _ (f : List Gate → ℕ) (g : Figure f) where
         )
 
 -- the sums of the tables of r + 3 candidates
-abbrev Sums : ℕ → ℕ → ℕ → ℕ → ℕ → ℕ → Type 0
-Sums r c p s d e =
-    tableSum (apartOf c) (suc (suc (suc r))) + tableSum (linkedOf p) (suc (suc (suc r))) + sumBelow (λ l. tableSum (stageOf (stageFigure s d e l) l) (suc (suc (suc r)))) (suc (suc (suc (suc r))))
-    + tableSum (linkedOf p) (suc (suc (suc r)))
-    ≡ suc (suc (suc r)) * suc (suc r) * c + suc (suc (suc r)) * suc (suc r) * p + 2 * suc (suc r) * s + suc (suc r) * suc r * d + suc (suc r) * (suc (suc r) * suc r) * e
+abbrev Sums : ℕ → ℕ → ℕ → ℕ → ℕ → ℕ → ℕ → Type 0
+Sums r c p s d e q =
+    tableSum (apartOf c) (suc (suc (suc r))) + tableSum (laterOnes (leb 0) p) (suc (suc (suc r))) + sumBelow (λ l. tableSum (stageOf (stageFigure s d e l) l) (suc (suc (suc r)))) (suc (suc (suc r)))
+    + tableSum (laterOnes (leb (suc (suc (suc r)) - 1)) p) (suc (suc (suc r))) + tableSum (laterOnes (λ y. ltb y (suc (suc (suc r)) - 1)) q) (suc (suc (suc r)))
+    ≡ suc (suc (suc r)) * suc (suc r) * c + suc (suc (suc r)) * suc (suc r) / 2 * p + 2 * suc (suc r) * s + suc (suc r) * suc r * d + suc r * (suc (suc r) * suc r) * e + suc (suc r) * p + suc (suc r) * suc r / 2 * q
 
-sums-three : (c p s d e : ℕ) → Sums 0 c p s d e
-unfolding tableSum sumBelow apartOf linkedOf stageOf stageFigure stays
-sums-three c p s d e = omega arith
+sums-three : (c p s d e q : ℕ) → Sums 0 c p s d e q
+unfolding tableSum sumBelow apartOf laterOnes stageOf stageFigure stays
+sums-three c p s d e q = omega arith
 
-sums-four : (c p s d e : ℕ) → Sums 1 c p s d e
-unfolding tableSum sumBelow apartOf linkedOf stageOf stageFigure stays
-sums-four c p s d e = omega arith
+sums-four : (c p s d e q : ℕ) → Sums 1 c p s d e q
+unfolding tableSum sumBelow apartOf laterOnes stageOf stageFigure stays
+sums-four c p s d e q = omega arith
 
-sums-five : (c p s d e : ℕ) → Sums 2 c p s d e
-unfolding tableSum sumBelow apartOf linkedOf stageOf stageFigure stays
-sums-five c p s d e = omega arith
+sums-five : (c p s d e q : ℕ) → Sums 2 c p s d e q
+unfolding tableSum sumBelow apartOf laterOnes stageOf stageFigure stays
+sums-five c p s d e q = omega arith
 
-sums-six : (c p s d e : ℕ) → Sums 3 c p s d e
-unfolding tableSum sumBelow apartOf linkedOf stageOf stageFigure stays
-sums-six c p s d e = omega arith
+sums-six : (c p s d e q : ℕ) → Sums 3 c p s d e q
+unfolding tableSum sumBelow apartOf laterOnes stageOf stageFigure stays
+sums-six c p s d e q = omega arith
 
-sums-seven : (c p s d e : ℕ) → Sums 4 c p s d e
-unfolding tableSum sumBelow apartOf linkedOf stageOf stageFigure stays
-sums-seven c p s d e = omega arith
+sums-seven : (c p s d e q : ℕ) → Sums 4 c p s d e q
+unfolding tableSum sumBelow apartOf laterOnes stageOf stageFigure stays
+sums-seven c p s d e q = omega arith
 
-sums-eight : (c p s d e : ℕ) → Sums 5 c p s d e
-unfolding tableSum sumBelow apartOf linkedOf stageOf stageFigure stays
-sums-eight c p s d e = omega arith
+sums-eight : (c p s d e q : ℕ) → Sums 5 c p s d e q
+unfolding tableSum sumBelow apartOf laterOnes stageOf stageFigure stays
+sums-eight c p s d e q = omega arith
 
-sums : (r c p s d e : ℕ) → r ≤ 5 → Sums r c p s d e
-sums zero c p s d e h = sums-three c p s d e
-sums (suc zero) c p s d e h = sums-four c p s d e
-sums (suc (suc zero)) c p s d e h = sums-five c p s d e
-sums (suc (suc (suc zero))) c p s d e h = sums-six c p s d e
-sums (suc (suc (suc (suc zero)))) c p s d e h = sums-seven c p s d e
-sums (suc (suc (suc (suc (suc zero))))) c p s d e h = sums-eight c p s d e
-sums (suc (suc (suc (suc (suc (suc r)))))) c p s d e h = absurd (omega arith)
+sums : (r c p s d e q : ℕ) → r ≤ 5 → Sums r c p s d e q
+sums zero c p s d e q h = sums-three c p s d e q
+sums (suc zero) c p s d e q h = sums-four c p s d e q
+sums (suc (suc zero)) c p s d e q h = sums-five c p s d e q
+sums (suc (suc (suc zero))) c p s d e q h = sums-six c p s d e q
+sums (suc (suc (suc (suc zero)))) c p s d e q h = sums-seven c p s d e q
+sums (suc (suc (suc (suc (suc zero))))) c p s d e q h = sums-eight c p s d e q
+sums (suc (suc (suc (suc (suc (suc r)))))) c p s d e q h = absurd (omega arith)
 
 -- what is counted of the list of r + 3 candidates, and of two
-pub figure-is : (f : List Gate → ℕ) → Figure f → (n w c p s d e o x : ℕ) → Each f n w c p s d e o x → (r : ℕ) → r ≤ 5 → f (rankedList (suc (suc (suc r))) n w) ≡
-    suc (suc (suc r)) * suc (suc r) * c + suc (suc (suc r)) * suc (suc r) * p + 2 * suc (suc r) * s + suc (suc r) * suc r * d + suc (suc r) * (suc (suc r) * suc r) * e + suc (suc (suc r)) * (suc r * o) + suc (suc (suc r)) * x
-figure-is f g n w c p s d e o x a r h = omega (arith, by-tables f g n w c p s d e o x a r, sums r c p s d e h)
+pub figure-is : (f : List Gate → ℕ) → Figure f → (n w c p s d e q o x : ℕ) → Each f n w c p s d e q o x → (r : ℕ) → r ≤ 5 → f (rankedList (suc (suc (suc r))) n w) ≡
+    suc (suc (suc r)) * suc (suc r) * c + suc (suc (suc r)) * suc (suc r) / 2 * p + 2 * suc (suc r) * s + suc (suc r) * suc r * d + suc r * (suc (suc r) * suc r) * e + suc (suc r) * p + suc (suc r) * suc r / 2 * q
+    + suc (suc (suc r)) * (suc r * o) + suc (suc (suc r)) * x
+figure-is f g n w c p s d e q o x a r h = omega (arith, by-tables f g n w c p s d e q o x a r, sums r c p s d e q h)
 
-pub pair-figure-is : (f : List Gate → ℕ) → Figure f → (n w c p s d e o x : ℕ) → Each f n w c p s d e o x → f (rankedList 2 n w) ≡ 2 * c + p + 2 * x
-unfolding tableSum sumBelow apartOf linkedOf
-pair-figure-is f g n w c p s d e o x a = pair-figure f g n w c p s d e o x a ∙ omega arith
+pub pair-figure-is : (f : List Gate → ℕ) → Figure f → (n w c p s d e q o x : ℕ) → Each f n w c p s d e q o x → f (rankedList 2 n w) ≡ 2 * c + p + 2 * x
+unfolding tableSum sumBelow apartOf laterOnes
+pair-figure-is f g n w c p s d e q o x a = pair-figure f g n w c p s d e q o x a ∙ omega arith

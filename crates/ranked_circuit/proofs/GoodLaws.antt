@@ -2,28 +2,28 @@
 -- Assumes nothing.
 use mathlib.Core.Path.{_≡_, _∙_, refl, sym, ap, subst}
 use mathlib.Core.Bool.{Bool, true, false, cond}
-use mathlib.Core.Logic.{⊎-elim, _≢_}
+use mathlib.Core.Logic.{_≢_}
 use mathlib.Core.List.{List, []}
-use Prim.Native.Nat.{ℕ, zero, suc, _+_, _-_, _*_, _≤_, _<_}
+use Prim.Native.Nat.{ℕ, zero, suc, max, _+_, _-_, _*_, _≤_, _<_}
 use native.Mathlib.Nat.{suc-mul}
 use native.Mathlib.Omega.{arith}
-use lib.Dec.{eqb, ltb}
+use lib.Dec.{eqb, leb}
 use lib.ListN.{length, length-append}
-use borrow.Author.Tests.{lt-ltb, le-ltb}
+use borrow.Author.Tests.{le-leb}
 use Rattle.gates.specs.Gate.{Gate}
 use Rattle.gates.proofs.Laws.{AllGood, good-append}
 use Rattle.gate_words.specs.Word.{Below}
 use Rattle.gate_words.specs.Counter.{counter, Countable}
 use Rattle.gate_words.proofs.Laws.{masked-good, counter-good}
 use Rattle.basics.proofs.Arithmetic.{row-within}
-use Rattle.basics.proofs.Cases.{below-or-not}
-use Rattle.ranked_circuit.specs.Blocks.{compare, smaller, larger, largerIf}
+use Rattle.ranked_circuit.specs.Blocks.{smaller, larger, largerIf}
 use Rattle.ranked_circuit.specs.Table.{table, entryEnd}
-use Rattle.ranked_circuit.specs.Stages.{votesBlock, linksBlock, linkAt, stays, newWord, pathBlock}
+use Rattle.ranked_circuit.specs.Stages.{votesBlock, laterOf, linksBlock, linkAt, stays, newWord, pathBlock}
 use Rattle.ranked_circuit.specs.Paths.{votesAt, votesTable, linksFrom, linksTable, linkWire, nextPaths, pathsTo}
-use Rattle.ranked_circuit.proofs.BlockLaws.{length-smaller, whole-good, smaller-good, larger-good, larger-if-good}
+use Rattle.ranked_circuit.proofs.BlockLaws.{length-whole, length-smaller, whole-good, smaller-good, larger-good, larger-if-good}
 use Rattle.ranked_circuit.proofs.TableLaws.{entryStart, entry-end, table-good, end-within}
-use Rattle.ranked_circuit.proofs.StageLaws.{apart-zero, apart-all, stage-moves, stage-stays, stage-length, votes-length, links-moves, links-length}
+use Rattle.ranked_circuit.proofs.LinkLaws.{later-good, later-below}
+use Rattle.ranked_circuit.proofs.StageLaws.{apart-zero, apart-all, stage-moves, stage-stays, stage-length, votes-length, comparing, links-are}
 use Rattle.ranked_circuit.proofs.PathLaws.{bool-cases}
 use Rattle.gate_words.proofs.PointsBack.{behind}
 
@@ -56,34 +56,19 @@ abbrev pub WiresBelow : ℕ → (ℕ → ℕ → ℕ) → ℕ → Type 0
 WiresBelow k wires wire = (i j : ℕ) → i < k → j < k → i ≢ j → wires i j < wire
 
 module _ (k w : ℕ) where
-  pub links-good : (words : ℕ → ℕ → ℕ) (n : ℕ) → WordsBelow k w words n → AllGood n (table n k (linksBlock words w))
-  links-good words n below =
-      table-good n k (linksBlock words w)
-      (λ i j hi hj.
-      let at = entryStart n k (linksBlock words w) i j in
-      ⊎-elim (λ (l : j < i). subst (λ (gs : List Gate). AllGood at gs) (sym (links-moves words w at i j l)) (whole-good at (words i j) (words j i) w (omega (arith, below i j hi hj (λ e. omega arith))) (omega (arith, below j i hj hi (λ e. omega arith)))))
-      (λ (l : i ≤ j). subst (λ (gs : List Gate). AllGood at gs) (sym (none at i j l)) tt) (below-or-not j i))
-    where
-      none : (at i j : ℕ) → i ≤ j → linksBlock words w at i j ≡ []
-      none at i j l = unfold linksBlock in (ap (λ (c : Bool). cond c (compare at (words i j) (words j i) w) []) (le-ltb j i l))
+  pub links-good : (first : ℕ) (words : ℕ → ℕ → ℕ) (n : ℕ) → WordsBelow k w words n → AllGood n (table n k (linksBlock first words w))
+  links-good first words n below =
+      rw (links-are first words w)
+      (later-good (leb first) (comparing words w) n k
+      (λ i j hi hj l row.
+      whole-good (entryStart n k (laterOf (leb first) (comparing words w)) i j) (words i j) (words j i) w (omega (arith, below i j hi hj (λ e. omega arith))) (omega (arith, below j i hj hi (λ e. omega arith)))))
 
   -- the wires that tell of links are wires of their table
-  pub links-below : (words : ℕ → ℕ → ℕ) (n : ℕ) → WiresBelow k (linkAt n k (linksBlock words w)) (n + length (table n k (linksBlock words w)))
-  unfolding linkAt
-  links-below words n i j hi hj ne = ⊎-elim later earlier (below-or-not j i)
-    where
-      block : ℕ → ℕ → ℕ → List Gate
-      block = linksBlock words w
-
-      later : j < i → cond (ltb j i) (entryEnd n k block i j - 2) (entryEnd n k block j i - 1) < n + length (table n k block)
-      later l =
-          subst (λ (c : Bool). cond c (entryEnd n k block i j - 2) (entryEnd n k block j i - 1) < n + length (table n k block)) (sym (lt-ltb j i l))
-          (omega (arith, entry-end n k block i j hj, links-length words w (entryStart n k block i j) i j l, end-within n k block i j hj hi))
-
-      earlier : i ≤ j → cond (ltb j i) (entryEnd n k block i j - 2) (entryEnd n k block j i - 1) < n + length (table n k block)
-      earlier l =
-          subst (λ (c : Bool). cond c (entryEnd n k block i j - 2) (entryEnd n k block j i - 1) < n + length (table n k block)) (sym (le-ltb j i l))
-          (omega (arith, entry-end n k block j i hi, links-length words w (entryStart n k block j i) j i (omega arith), end-within n k block j i hi hj))
+  pub links-below : (first : ℕ) (words : ℕ → ℕ → ℕ) (n i j : ℕ) → i < k → j < k → i ≢ j → first ≤ max i j
+      → linkAt n k (linksBlock first words w) i j < n + length (table n k (linksBlock first words w))
+  links-below first words n i j hi hj ne f =
+      rw (links-are first words w)
+      (later-below (leb first) (comparing words w) n k (λ at i j l. omega (arith, length-whole at (words i j) (words j i) w)) i j hi hj ne (le-leb first (max i j) f))
 
   new-good : (links words : ℕ → ℕ → ℕ) (m at i j : ℕ) → m ≤ k → i < k → j < k → WordsBelow k w words at → WiresBelow k links at → stays m i j ≡ false → AllGood at (newWord links words w m at i j)
   unfolding newWord
@@ -132,7 +117,7 @@ module _ (k n w : ℕ) where
 
   pub link-below : (m : ℕ) → WiresBelow k (linkWire k n w) (endOf m)
   unfolding linkWire linksTable
-  link-below zero i j hi hj ne = omega (arith, links-below k w (votesAt k n w) (linksFrom k n w) i j hi hj ne, first-end)
+  link-below zero i j hi hj ne = omega (arith, links-below k w 0 (votesAt k n w) (linksFrom k n w) i j hi hj ne (omega arith), first-end)
   link-below (suc m) i j hi hj ne = omega (arith, link-below m i j hi hj ne, next-end m)
 
   pub words-below : (m : ℕ) → WordsBelow k w (pathsTo k n w m .words) (endOf m)
@@ -170,7 +155,7 @@ module _ (k n w : ℕ) where
   paths-good c zero hm =
       good-append (n * k * k) (votesTable k n w) (linksTable k n w)
       (table-good (n * k * k) k (votesBlock k n w) (λ i j hi hj. votes-good k n w (entryStart (n * k * k) k (votesBlock k n w) i j) i j hi hj (omega arith) c))
-      (unfold linksFrom in (links-good k w (votesAt k n w) (linksFrom k n w) votes-below))
+      (unfold linksFrom in (links-good k w 0 (votesAt k n w) (linksFrom k n w) votes-below))
   paths-good c (suc m) hm =
       let block = pathBlock (linkWire k n w) (pathsTo k n w m .words) w m in
       good-append (n * k * k) (pathsTo k n w m .gates) (table (endOf m) k block) (paths-good c m (omega arith))

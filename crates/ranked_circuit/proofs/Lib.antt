@@ -1,9 +1,11 @@
 pub mod BlockLaws
 pub mod TableLaws
+pub mod LinkLaws
 pub mod Columns
 pub mod StageLaws
 pub mod PathLaws
 pub mod GoodLaws
+pub mod ContestLaws
 pub mod LoserLaws
 pub mod Accuracy
 pub mod Figures

@@ -16,9 +16,9 @@ use Rattle.gates.proofs.Laws.{Holds, holds-append}
 use Rattle.gate_words.specs.Word.{ones, number}
 use Rattle.gate_words.specs.Counter.{countSize, Countable}
 use Rattle.gate_words.proofs.Laws.{Binary}
-use Rattle.rule_schulze.specs.Schulze.{link, strongest}
+use Rattle.rule_schulze.specs.Schulze.{link}
 use Rattle.rule_schulze.specs.Closure.{closure}
-use Rattle.rule_schulze.proofs.Paths.{detour-over, closure-strongest}
+use Rattle.rule_schulze.proofs.Paths.{detour-over}
 use Rattle.rule_schulze.proofs.Tables.{detour-stays}
 use Rattle.rule_schulze.proofs.Winning.{link-won, link-lost}
 use Rattle.ranked_circuit.specs.Table.{table, entryEnd}
@@ -80,7 +80,7 @@ module _ (k n w : ℕ) (W : ℕ → ℕ) (b : Binary W) (v : ℕ → ℕ → ℕ
 
   pub links-told : (m : ℕ) → Holds W (n * k * k) (pathsTo k n w m .gates) → (i j : ℕ) → i < k → j < k → i ≢ j → (v j i < v i j → W (linkWire k n w i j) ≡ 1) × (v i j ≤ v j i → W (linkWire k n w i j) ≡ 0)
   unfolding linksTable linkWire
-  links-told m h = let p = first-holds m h in link-told W b (votesAt k n w) v k w (votes-spelled (p .0)) (linksFrom k n w) (p .1)
+  links-told m h = let p = first-holds m h in (λ i j hi hj ne. link-told W b (votesAt k n w) v k w (votes-spelled (p .0)) 0 (linksFrom k n w) (p .1) i j hi hj ne (omega arith))
 
   module _ (p : Paths) (m : ℕ) (few : m ≤ k)
       (told : (i j : ℕ) → i < k → j < k → i ≢ j → (v j i < v i j → W (linkWire k n w i j) ≡ 1) × (v i j ≤ v j i → W (linkWire k n w i j) ≡ 0))
@@ -161,7 +161,7 @@ module _ (k n w : ℕ) (W : ℕ → ℕ) (b : Binary W) (v : ℕ → ℕ → ℕ
       let q = stages-hold m h in
       next-spelled p m (omega arith) (links-told m (q .0)) (paths-spelled m (omega arith) (q .0)) (q .1)
 
--- over all candidates, the strengths of the strongest paths
-pub all-strongest : (v : ℕ → ℕ → ℕ) (l i j : ℕ) → i ≢ j → strengthAfter v (suc (suc l)) i j ≡ strongest (link v) (suc l) i j
+-- after the first detours, those over the candidates below l + 1
+pub after-detours : (v : ℕ → ℕ → ℕ) (l i j : ℕ) → strengthAfter v (suc (suc l)) i j ≡ closure (suc l) (link v) i j
 unfolding strengthAfter
-all-strongest v l i j ne = closure-strongest (link v) (suc l) i j ne
+after-detours v l i j = refl

@@ -1,7 +1,7 @@
 -- The number of gates of a ranked tasting's own list, and its bound.
 -- Assumes nothing.
 use mathlib.Core.Path.{_≡_, _∙_, refl}
-use Prim.Native.Nat.{ℕ, zero, suc, _+_, _-_, _*_, _≤_, _<_}
+use Prim.Native.Nat.{ℕ, zero, suc, _+_, _-_, _*_, _/_, _≤_, _<_}
 use native.Mathlib.Nat.{suc-mul, mul-add, mul-comm, mul-assoc, mul-le-mul}
 use native.Mathlib.Omega.{arith}
 use lib.ListN.{length, length-append}
@@ -12,6 +12,7 @@ use Rattle.ranked_circuit.specs.Blocks.{smaller, larger, largerIf}
 use Rattle.ranked_circuit.specs.RankedList.{rankedList}
 use Rattle.ranked_circuit.specs.OwnRanking.{rankingBound}
 use Rattle.ranked_circuit.proofs.BlockLaws.{length-whole, length-smaller, length-larger, length-larger-if}
+use Rattle.ranked_circuit.proofs.ContestLaws.{length-meeting}
 use Rattle.ranked_circuit.proofs.Figures.{Each, figure-is, pair-figure-is}
 
 -- the levels' bound by products of two numbers
@@ -25,7 +26,7 @@ counter-most : (n w : ℕ) → 0 < n → countSize n 0 w + suc w ≤ 2 * (n * su
 counter-most n w h = omega (arith, count-size-most n 0 w n (omega arith) h, levels-product w n)
 
 -- each block's
-sizes : (n w : ℕ) → Each length n w (countSize n 0 w + suc w) (3 + 3 * w) (suc w) (6 * w + 3) (6 * w + 2) 1 1
+sizes : (n w : ℕ) → Each length n w (countSize n 0 w + suc w) (3 + 3 * w) (suc w) (6 * w + 3) (6 * w + 2) (10 * w + 14) 1 1
 sizes n w =
     record {
       counters = λ at from step. omega (arith, length-counter at from step n 0 w);
@@ -33,20 +34,22 @@ sizes n w =
       strengths = λ l a. length-masked l a (suc w);
       firsts = λ at a b at′ l a′ b′. omega (arith, length-append (smaller at a b w) (largerIf at′ l a′ b′ w), length-smaller at a b w, length-larger-if at′ l a′ b′ w);
       detours = λ at a b at′ a′ b′. omega (arith, length-append (smaller at a b w) (larger at′ a′ b′ w), length-smaller at a b w, length-larger at′ a′ b′ w);
+      meets = λ li lj ij ji mi mj at. omega (arith, length-meeting li lj ij ji mi mj w at);
       joins = λ a b. refl;
       lasts = λ a. refl;
     }
 
--- G: a counter for each two candidates either way, two comparisons for both, a word for each link to or from the first, and so on
+-- G: a counter for each two candidates either way, a comparison for both, a word for each link to or from the first, and so on
 pub gates-are : (r n w : ℕ) → r ≤ 5 → length (rankedList (suc (suc (suc r))) n w) ≡
-    suc (suc (suc r)) * suc (suc r) * (countSize n 0 w + suc w) + suc (suc (suc r)) * suc (suc r) * (3 + 3 * w) + 2 * suc (suc r) * suc w + suc (suc r) * suc r * (6 * w + 3) + suc (suc r) * (suc (suc r) * suc r) * (6 * w + 2) + suc (suc (suc r)) * suc (suc r)
+    suc (suc (suc r)) * suc (suc r) * (countSize n 0 w + suc w) + suc (suc (suc r)) * suc (suc r) / 2 * (3 + 3 * w) + 2 * suc (suc r) * suc w + suc (suc r) * suc r * (6 * w + 3) + suc r * (suc (suc r) * suc r) * (6 * w + 2)
+    + suc (suc r) * (3 + 3 * w) + suc (suc r) * suc r / 2 * (10 * w + 14) + suc (suc (suc r)) * suc (suc r)
 gates-are r n w h =
-    let total = figure-is length (record { none = refl; both = length-append }) n w (countSize n 0 w + suc w) (3 + 3 * w) (suc w) (6 * w + 3) (6 * w + 2) 1 1 (sizes n w) r h in
+    let total = figure-is length (record { none = refl; both = length-append }) n w (countSize n 0 w + suc w) (3 + 3 * w) (suc w) (6 * w + 3) (6 * w + 2) (10 * w + 14) 1 1 (sizes n w) r h in
     omega arith
 
 pub pair-gates-are : (n w : ℕ) → length (rankedList 2 n w) ≡ 2 * (countSize n 0 w + suc w) + (3 + 3 * w) + 2
 pair-gates-are n w =
-    let total = pair-figure-is length (record { none = refl; both = length-append }) n w (countSize n 0 w + suc w) (3 + 3 * w) (suc w) (6 * w + 3) (6 * w + 2) 1 1 (sizes n w) in
+    let total = pair-figure-is length (record { none = refl; both = length-append }) n w (countSize n 0 w + suc w) (3 + 3 * w) (suc w) (6 * w + 3) (6 * w + 2) (10 * w + 14) 1 1 (sizes n w) in
     omega arith
 
 module _ (n w : ℕ) (h : 0 < n) where

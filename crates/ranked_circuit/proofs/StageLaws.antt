@@ -7,9 +7,9 @@ use mathlib.Core.List.{List, [], _++_}
 use Prim.Native.Nat.{ℕ, zero, suc, min, max, _+_, _-_, _*_, _≤_, _<_}
 use native.Mathlib.Nat.{add-zero}
 use native.Mathlib.Omega.{arith}
-use lib.Dec.{eqb}
+use lib.Dec.{eqb, leb}
 use lib.ListN.{length, length-append}
-use borrow.Author.Tests.{eqb-false, ne-eqb, lt-ltb, le-ltb}
+use borrow.Author.Tests.{eqb-false, ne-eqb, le-leb}
 use Rattle.basics.proofs.Cases.{below-or-not}
 use Rattle.gates.specs.Gate.{Gate}
 use Rattle.gates.proofs.Laws.{Holds, holds-append}
@@ -21,10 +21,10 @@ use Rattle.gate_words.proofs.Laws.{Binary, masked-one, masked-zero, counter-law
 use Rattle.rule_schulze.specs.Schulze.{link}
 use Rattle.rule_schulze.proofs.Winning.{link-won, link-lost}
 use Rattle.ranked_circuit.specs.Blocks.{compare, smaller, larger, largerIf}
-use Rattle.ranked_circuit.specs.Table.{table, entryEnd}
-use Rattle.ranked_circuit.specs.Stages.{votesBlock, linksBlock, linkAt, stays, newWord, pathBlock}
+use Rattle.ranked_circuit.specs.Table.{table}
+use Rattle.ranked_circuit.specs.Stages.{votesBlock, laterOf, linksBlock, linkAt, stays, newWord, pathBlock}
 use Rattle.ranked_circuit.proofs.BlockLaws.{compare-up, compare-down, smaller-law, larger-law, larger-if, larger-if-not, length-whole, length-smaller, length-larger, length-larger-if}
-use Rattle.ranked_circuit.proofs.TableLaws.{entryStart, entry-end, entry-holds}
+use Rattle.ranked_circuit.proofs.LinkLaws.{laterStart, later-holds, up-at, down-at}
 
 -- none of some tests holds
 pub neither : (a b : Bool) → (a || b) ≡ false → (a ≡ false) × (b ≡ false)
@@ -77,21 +77,21 @@ votes-moves k n w at i j ne = ap (λ (c : Bool). cond c [] (counter at (i * k + 
 pub votes-length : (k n w at i j : ℕ) → i ≢ j → length (votesBlock k n w at i j) ≡ countSize n 0 w + suc w
 votes-length k n w at i j ne = ap length (votes-moves k n w at i j ne) ∙ omega (arith, length-counter at (i * k + j) (k * k) n 0 w)
 
--- a block of comparisons, i being the later candidate
-pub links-moves : (words : ℕ → ℕ → ℕ) (w at i j : ℕ) → j < i → linksBlock words w at i j ≡ compare at (words i j) (words j i) w
-unfolding linksBlock
-links-moves words w at i j l = ap (λ (c : Bool). cond c (compare at (words i j) (words j i) w) []) (lt-ltb j i l)
+-- words compared, from a first row on
+abbrev pub comparing : (ℕ → ℕ → ℕ) → ℕ → ℕ → ℕ → ℕ → List Gate
+comparing words w at i j = compare at (words i j) (words j i) w
 
-pub links-length : (words : ℕ → ℕ → ℕ) (w at i j : ℕ) → j < i → length (linksBlock words w at i j) ≡ 3 + 3 * w
-links-length words w at i j l = ap length (links-moves words w at i j l) ∙ length-whole at (words i j) (words j i) w
+pub links-are : (first : ℕ) (words : ℕ → ℕ → ℕ) (w : ℕ) → linksBlock first words w ≡ laterOf (leb first) (comparing words w)
+unfolding linksBlock
+links-are first words w = refl
 
 -- the two wires that tell of links are the last of their block
-up-last : (at w : ℕ) → upEnd (at + 3) (at + 1) w ≡ at + (3 + 3 * w) - 2
+pub up-last : (at w : ℕ) → upEnd (at + 3) (at + 1) w ≡ at + (3 + 3 * w) - 2
 unfolding upEnd
 up-last at zero = omega arith
 up-last at (suc w) = omega arith
 
-down-last : (at w : ℕ) → downEnd (at + 3) (at + 2) w ≡ at + (3 + 3 * w) - 1
+pub down-last : (at w : ℕ) → downEnd (at + 3) (at + 2) w ≡ at + (3 + 3 * w) - 1
 unfolding downEnd
 down-last at zero = omega arith
 down-last at (suc w) = omega arith
@@ -113,37 +113,35 @@ module _ (W : ℕ → ℕ) (b : Binary W) where
     abbrev pub Tells : (ℕ → ℕ → ℕ) → ℕ → ℕ → Type 0
     Tells wires i j = (t j i < t i j → W (wires i j) ≡ 1) × (t i j ≤ t j i → W (wires i j) ≡ 0)
 
-    module _ (n : ℕ) (h : Holds W n (table n k (linksBlock words w))) (i j : ℕ) (hi : i < k) (hj : j < k) (l : j < i) where
-      block : ℕ → ℕ → ℕ → List Gate
-      block = linksBlock words w
-
+    module _ (first n : ℕ) (h : Holds W n (table n k (laterOf (leb first) (comparing words w)))) (i j : ℕ) (hi : i < k) (hj : j < k) (l : j < i) (row : leb first i ≡ true) where
       at : ℕ
-      at = entryStart n k block i j
-
-      ends : entryEnd n k block i j ≡ at + (3 + 3 * w)
-      unfolding at block
-      ends = entry-end n k block i j hj ∙ ap (λ (x : ℕ). at + x) (links-length words w at i j l)
+      at = laterStart (leb first) (comparing words w) n k i j hi hj l row
 
       held : Holds W at (compare at (words i j) (words j i) w)
-      unfolding at block
-      held = subst (λ (gs : List Gate). Holds W at gs) (links-moves words w at i j l) (entry-holds n k block i j hj W hi h)
+      unfolding at
+      held = later-holds (leb first) (comparing words w) n k i j hi hj l row W h
 
-      later : Tells (linkAt n k (linksBlock words w)) i j
-      unfolding linkAt block
+      later : Tells (linkAt n k (laterOf (leb first) (comparing words w))) i j
+      unfolding at
       later =
           let r = compare-up W b at (words i j) (words j i) w held in
-          let e : linkAt n k (linksBlock words w) i j ≡ upEnd (at + 3) (at + 1) w = ap (λ (c : Bool). cond {A = ℕ} c (entryEnd n k block i j - 2) (entryEnd n k block j i - 1)) (lt-ltb j i l) ∙ omega (arith, ends, up-last at w) in
+          let e : linkAt n k (laterOf (leb first) (comparing words w)) i j ≡ upEnd (at + 3) (at + 1) w = up-at (leb first) (comparing words w) n k i j hi hj l row ∙ omega (arith, length-whole at (words i j) (words j i) w, up-last at w) in
           rw e ((λ q. r .0 (omega (arith, spelled i j hi hj (λ e. omega arith), spelled j i hj hi (λ e. omega arith)))), (λ q. r .1 (omega (arith, spelled i j hi hj (λ e. omega arith), spelled j i hj hi (λ e. omega arith)))))
 
-      earlier : Tells (linkAt n k (linksBlock words w)) j i
-      unfolding linkAt block
+      earlier : Tells (linkAt n k (laterOf (leb first) (comparing words w))) j i
+      unfolding at
       earlier =
           let r = compare-down W b at (words i j) (words j i) w held in
-          let e : linkAt n k (linksBlock words w) j i ≡ downEnd (at + 3) (at + 2) w = ap (λ (c : Bool). cond {A = ℕ} c (entryEnd n k block j i - 2) (entryEnd n k block i j - 1)) (le-ltb i j (omega arith)) ∙ omega (arith, ends, down-last at w) in
+          let e : linkAt n k (laterOf (leb first) (comparing words w)) j i ≡ downEnd (at + 3) (at + 2) w = down-at (leb first) (comparing words w) n k i j hi hj l row ∙ omega (arith, length-whole at (words i j) (words j i) w, down-last at w) in
           rw e ((λ q. r .0 (omega (arith, spelled i j hi hj (λ e. omega arith), spelled j i hj hi (λ e. omega arith)))), (λ q. r .1 (omega (arith, spelled i j hi hj (λ e. omega arith), spelled j i hj hi (λ e. omega arith)))))
 
-    pub link-told : (n : ℕ) → Holds W n (table n k (linksBlock words w)) → (i j : ℕ) → i < k → j < k → i ≢ j → Tells (linkAt n k (linksBlock words w)) i j
-    link-told n h i j hi hj ne = ⊎-elim (λ (l : j < i). later n h i j hi hj l) (λ (l : i ≤ j). earlier n h j i hj hi (omega arith)) (below-or-not j i)
+    pub link-told : (first n : ℕ) → Holds W n (table n k (linksBlock first words w)) → (i j : ℕ) → i < k → j < k → i ≢ j → first ≤ max i j → Tells (linkAt n k (linksBlock first words w)) i j
+    link-told first n h i j hi hj ne f =
+        rw (links-are first words w)
+        (⊎-elim (λ (l : j < i). later first n held i j hi hj l (le-leb first i (omega arith))) (λ (l : i ≤ j). earlier first n held j i hj hi (omega arith) (le-leb first j (omega arith))) (below-or-not j i))
+      where
+        held : Holds W n (table n k (laterOf (leb first) (comparing words w)))
+        held = rw (links-are first words w) at h
 
   -- a link's strength: the number of ballots where the link is there
   pub strength-law : (f x w at v v′ : ℕ) → number W x 1 (suc w) ≡ v → (v′ < v → W f ≡ 1) × (v ≤ v′ → W f ≡ 0) → Holds W at (masked f x (suc w))

@@ -3,13 +3,18 @@
 use mathlib.Core.List.{List, _∷_, _++_}
 use Prim.Native.Nat.{ℕ, suc, _+_, _*_}
 use Rattle.gates.specs.Gate.{Gate}
-use Rattle.gate_words.specs.Gates.{andOf}
+use Rattle.gate_words.specs.Gates.{andOf, xorOf}
 use Rattle.gate_words.specs.Choice.{choose, chainEnd}
 use Rattle.gate_words.specs.Comparison.{firstDigit, compareWords, differences, above}
 
 -- Two words compared both ways.
 unfoldable pub compare : ℕ → ℕ → ℕ → ℕ → List Gate
 compare n x y w = firstDigit n x y ++ compareWords (n + 3) (x + 1) (y + 1) (n + 1) (n + 2) w
+
+-- Whether the word at x is above the word at y: the last of 2 w + 2 wires says it.
+unfoldable pub strictly : ℕ → ℕ → ℕ → ℕ → List Gate
+strictly n x y w =
+    xorOf x y ∷ andOf x n ∷ (differences (x + 1) (y + 1) w ++ above (n + 2 + w) (n + 2) (x + 1) (n + 1) w)
 
 -- The word at x compared one way with the word at y. The lowest digit of x starts the chain at no cost: where the
 -- words are equal, either answer will do.

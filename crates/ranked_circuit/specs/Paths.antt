@@ -19,10 +19,10 @@ unfoldable pub linksFrom : ℕ → ℕ → ℕ → ℕ
 linksFrom k n w = n * k * k + length (votesTable k n w)
 
 unfoldable pub linksTable : ℕ → ℕ → ℕ → List Gate
-linksTable k n w = table (linksFrom k n w) k (linksBlock (votesAt k n w) w)
+linksTable k n w = table (linksFrom k n w) k (linksBlock 0 (votesAt k n w) w)
 
 unfoldable pub linkWire : ℕ → ℕ → ℕ → ℕ → ℕ → ℕ
-linkWire k n w = linkAt (linksFrom k n w) k (linksBlock (votesAt k n w) w)
+linkWire k n w = linkAt (linksFrom k n w) k (linksBlock 0 (votesAt k n w) w)
 
 -- A list from the first ballots' wire on, and where the words of each two candidates stand.
 pub record Paths : Type 0 where

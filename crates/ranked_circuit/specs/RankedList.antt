@@ -1,6 +1,5 @@
 -- The own list of a ranked tasting: the paths, the contests of each two candidates, and for each candidate whether
--- one of
--- the others beats it. The last k gates say who is not beaten.
+-- one of the others beats it. The last k gates say who is not beaten.
 use mathlib.Core.Bool.{cond}
 use mathlib.Core.List.{List, [], _∷_, _++_}
 use Prim.Native.Nat.{ℕ, zero, suc, _+_, _-_, _*_}
@@ -8,9 +7,9 @@ use lib.Dec.{ltb}
 use lib.ListN.{length}
 use Rattle.gates.specs.Gate.{Gate}
 use Rattle.gate_words.specs.Gates.{constant, notOf, orOf}
-use Rattle.ranked_circuit.specs.Table.{blocks, table}
-use Rattle.ranked_circuit.specs.Stages.{linksBlock, linkAt}
+use Rattle.ranked_circuit.specs.Table.{blocks}
 use Rattle.ranked_circuit.specs.Paths.{linkWire, pathsTo}
+use Rattle.ranked_circuit.specs.Contests.{duels, meetingsFrom, meetings, beatsAt}
 
 -- The candidates but i, in order: number s of them.
 unfoldable pub other : ℕ → ℕ → ℕ
@@ -34,18 +33,8 @@ loserRows beats r n k = blocks n (loserRow beats r) k
 unfoldable pub outputGates : (ℕ → ℕ → ℕ) → ℕ → ℕ → ℕ → List Gate
 outputGates beats r n k = blocks (n + k * r) (λ wire i. notOf (joined beats (suc r) (n + i * r) i (2 * r)) ∷ []) k
 
--- The contests of k candidates: from which wire on, and the wire that tells whether i beats j.
-unfoldable pub contestsFrom : ℕ → ℕ → ℕ → ℕ
-contestsFrom k n w = n * k * k + length (pathsTo k n w (suc k) .gates)
-
-unfoldable pub contests : ℕ → ℕ → ℕ → List Gate
-contests k n w = table (contestsFrom k n w) k (linksBlock (pathsTo k n w (suc k) .words) w)
-
-unfoldable pub beatsAt : ℕ → ℕ → ℕ → ℕ → ℕ → ℕ
-beatsAt k n w = linkAt (contestsFrom k n w) k (linksBlock (pathsTo k n w (suc k) .words) w)
-
 unfoldable pub losersFrom : ℕ → ℕ → ℕ → ℕ
-losersFrom k n w = contestsFrom k n w + length (contests k n w)
+losersFrom k n w = meetingsFrom k n w + length (meetings k n w)
 
 -- Where the output gates of two candidates start: behind their links, which tell at once who is beaten.
 unfoldable pub pairFrom : ℕ → ℕ → ℕ
@@ -58,7 +47,8 @@ rankedList (suc zero) n w = constant 1 ∷ []
 rankedList (suc (suc zero)) n w = pathsTo 2 n w 0 .gates ++ outputGates (linkWire 2 n w) 0 (pairFrom n w) 2
 rankedList (suc (suc (suc r))) n w =
     let k = suc (suc (suc r)) in
-    pathsTo k n w (suc k) .gates
-    ++ contests k n w
+    pathsTo k n w k .gates
+    ++ duels k n w
+    ++ meetings k n w
     ++ loserRows (beatsAt k n w) (suc r) (losersFrom k n w) k
     ++ outputGates (beatsAt k n w) (suc r) (losersFrom k n w) k

@@ -1,9 +1,9 @@
 -- The blocks of the tables, one for each two candidates i and j: the numbers of ballots, the links, the paths.
 -- A word of the circuit has a digit and w more; a block's word is the last of it. `words` says where words stand.
-use mathlib.Core.Bool.{Bool, cond, _||_, not}
+use mathlib.Core.Bool.{Bool, cond, _&&_, _||_, not}
 use mathlib.Core.List.{List, [], _++_}
 use Prim.Native.Nat.{ℕ, zero, suc, _+_, _-_, _*_}
-use lib.Dec.{eqb, ltb}
+use lib.Dec.{eqb, leb, ltb}
 use Rattle.gates.specs.Gate.{Gate}
 use Rattle.gate_words.specs.Choice.{masked}
 use Rattle.gate_words.specs.Counter.{counter}
@@ -14,9 +14,13 @@ use Rattle.ranked_circuit.specs.Table.{entryEnd}
 unfoldable pub votesBlock : ℕ → ℕ → ℕ → ℕ → ℕ → ℕ → List Gate
 votesBlock k n w at i j = cond (eqb i j) [] (counter at (i * k + j) (k * k) n 0 w)
 
--- The words of i and j compared, once for both, i being the later candidate.
-unfoldable pub linksBlock : (ℕ → ℕ → ℕ) → ℕ → ℕ → ℕ → ℕ → List Gate
-linksBlock words w at i j = cond (ltb j i) (compare at (words i j) (words j i) w) []
+-- A block once for i and j, i being the later candidate, one of those whose rows have blocks.
+unfoldable pub laterOf : (ℕ → Bool) → (ℕ → ℕ → ℕ → List Gate) → ℕ → ℕ → ℕ → List Gate
+laterOf rows block at i j = cond (ltb j i && rows i) (block at i j) []
+
+-- The words of i and j compared, i being no earlier than `first`.
+unfoldable pub linksBlock : ℕ → (ℕ → ℕ → ℕ) → ℕ → ℕ → ℕ → ℕ → List Gate
+linksBlock first words w = laterOf (leb first) (λ at i j. compare at (words i j) (words j i) w)
 
 -- The wire that tells of a link from i to j, in a table of such blocks from wire n on: the last but one of the later
 -- candidate's block, or the last.

@@ -1,23 +1,25 @@
 -- What the loops over the tables keep of each two candidates.
 -- Assumes nothing.
 use mathlib.Core.Path.{_≡_, _∙_, refl, sym, ap}
-use mathlib.Core.Bool.{Bool, true, false, cond, _||_, true≢false}
+use mathlib.Core.Bool.{Bool, true, false, cond, _&&_, _||_, true≢false}
 use mathlib.Core.Logic.{⊎-elim, _≢_}
-use mathlib.Core.List.{List, _++_}
-use Prim.Native.Nat.{ℕ, zero, suc, _+_, _-_, _*_, _/_, _%_, _≤_, _<_}
+use mathlib.Core.List.{List, [], _++_}
+use Prim.Native.Nat.{ℕ, zero, suc, max, _+_, _-_, _*_, _/_, _%_, _≤_, _<_}
 use native.Mathlib.Omega.{arith}
 use lib.Dec.{eqb, ltb}
 use lib.ListN.{length, getD, set, length-set}
 use lib.Seq.{getD-set-same, getD-set-other}
-use borrow.Author.Tests.{eq-eqb, lt-ltb, le-ltb}
+use borrow.Author.Tests.{eq-eqb, ltb-true, lt-ltb, le-ltb}
 use Rattle.gates.specs.Gate.{Gate}
 use Rattle.basics.proofs.Cases.{below-or-not, same-or-not}
 use Rattle.ranked_circuit.specs.Table.{blocks, entries, table, entryEnd}
-use Rattle.ranked_circuit.specs.Stages.{linksBlock, stays, newWord, pathBlock}
+use Rattle.ranked_circuit.specs.Stages.{laterOf, linksBlock, linkAt, stays, newWord, pathBlock}
+use Rattle.ranked_circuit.specs.Contests.{meetingOf, meetingsBlock}
+use Rattle.ranked_circuit.proofs.LinkLaws.{later-is, later-is′}
 use Rattle.ranked_circuit.proofs.TableLaws.{entryStart, entry-end, row-of, column-of, row-low, column-low, number-of, number-low}
 use Rattle.ranked_circuit.proofs.StageLaws.{apart-all, stage-moves, stage-stays, stage-length}
 use Rattle.ranked_circuit.proofs.PathLaws.{bool-cases}
-use Rattle.basics.proofs.Flags.{or-first, or-second}
+use Rattle.basics.proofs.Flags.{and-first, and-second, and-both, or-first, or-second}
 use Rattle.gate_words.specs.declared.writer.Writer.{Writer}
 use Rattle.ranked_blocks.specs.Ranked.{keptOf, keep, keepLinks, WordsBelow}
 use Rattle.ranked_writer.proofs.Filling.{TableTo, table-from, end-before}
@@ -104,67 +106,86 @@ module _ (k : ℕ) (stay : ℕ → ℕ → Bool) (new : ℕ → ℕ → ℕ) (ws
             (λ s. t .moved i j hi hj (omega (arith, number-low k i j hi hj)) s ∙ sym (ap (λ (c : Bool). cond c (keptOf ws₀ k i j) (new i j)) s));
       }
 
--- Links: for j < i the comparison of number i k + j ends before `ends i j`.
-module _ (k : ℕ) (ends : ℕ → ℕ → ℕ) where
+-- Wires that tell of two candidates: for j < i, in one of these rows, the block of number i k + j ends before `ends i j`.
+module _ (k : ℕ) (rows : ℕ → Bool) (ends : ℕ → ℕ → ℕ) (ls₀ : List ℕ) where
   pub record LinksTo (e : ℕ) (ls : List ℕ) : Type 0 where
     pub long : length ls ≡ 64
-    pub up : (i j : ℕ) → i < k → j < k → j < i → i * k + j < e → keptOf ls k i j ≡ ends i j - 2
-    pub down : (i j : ℕ) → i < k → j < k → j < i → i * k + j < e → keptOf ls k j i ≡ ends i j - 1
+    pub up : (i j : ℕ) → i < k → j < k → j < i → rows i ≡ true → i * k + j < e → keptOf ls k i j ≡ ends i j - 2
+    pub down : (i j : ℕ) → i < k → j < k → j < i → rows i ≡ true → i * k + j < e → keptOf ls k j i ≡ ends i j - 1
+    pub rest : (i j : ℕ) → i < k → j < k → rows (max i j) ≡ false → keptOf ls k i j ≡ keptOf ls₀ k i j
 
-  pub links-start : (ls : List ℕ) → length ls ≡ 64 → LinksTo 0 ls
-  links-start ls l = record { long = l; up = λ i j hi hj h e. absurd (omega arith); down = λ i j hi hj h e. absurd (omega arith) }
+  pub links-start : length ls₀ ≡ 64 → LinksTo 0 ls₀
+  links-start l =
+      record { long = l; up = λ i j hi hj h q e. absurd (omega arith); down = λ i j hi hj h q e. absurd (omega arith); rest = λ i j hi hj q. refl }
 
-  pub links-next : k ≤ 8 → (e : ℕ) (ls ls′ : List ℕ) (wire : ℕ) → e < k * k → e / k < k → e % k < k → LinksTo e ls → ls′ ≡ keepLinks ls k (e / k) (e % k) wire → (e % k < e / k → wire ≡ ends (e / k) (e % k)) → LinksTo (e + 1) ls′
-  links-next few e ls ls′ wire low row column t q ew = ⊎-elim went stayed (below-or-not (e % k) (e / k))
+  pub links-next : k ≤ 8 → (e : ℕ) (ls ls′ : List ℕ) (wire : ℕ) → e / k < k → e % k < k → LinksTo e ls → ls′ ≡ keepLinks rows ls k (e / k) (e % k) wire → wire ≡ ends (e / k) (e % k) → LinksTo (e + 1) ls′
+  links-next few e ls ls′ wire row column t q ew = bool-cases (ltb (e % k) (e / k) && rows (e / k)) went stayed
     where
       number : e / k * k + e % k ≡ e
       number = number-of k e
 
-      stayed : e / k ≤ e % k → LinksTo (e + 1) ls′
+      stayed : (ltb (e % k) (e / k) && rows (e / k)) ≡ false → LinksTo (e + 1) ls′
       stayed s =
-          let r : ls′ ≡ ls = q ∙ ap (λ (c : Bool). cond c (set (set ls (e / k * k + e % k) (wire - 2)) (e % k * k + e / k) (wire - 1)) ls) (le-ltb (e % k) (e / k) s) in
+          let r : ls′ ≡ ls = q ∙ ap (λ (c : Bool). cond c (set (set ls (e / k * k + e % k) (wire - 2)) (e % k * k + e / k) (wire - 1)) ls) s in
           rw r (
           record {
             long = t .long;
-            up = λ i j hi hj h l. t .up i j hi hj h (before i j hj h l);
-            down = λ i j hi hj h l. t .down i j hi hj h (before i j hj h l);
+            up = λ i j hi hj h y l. t .up i j hi hj h y (before i j hj h y l);
+            down = λ i j hi hj h y l. t .down i j hi hj h y (before i j hj h y l);
+            rest = t .rest;
           }
           )
         where
-          before : (i j : ℕ) → j < k → j < i → i * k + j < e + 1 → i * k + j < e
-          before i j hj h l =
-              ⊎-elim (λ (b : i * k + j ≡ e). let p = same-place k i j e hj b in absurd (omega arith)) (λ (b : i * k + j ≢ e). omega arith) (same-or-not (i * k + j) e)
+          before : (i j : ℕ) → j < k → j < i → rows i ≡ true → i * k + j < e + 1 → i * k + j < e
+          before i j hj h y l =
+              ⊎-elim
+              (λ (b : i * k + j ≡ e).
+              let p = same-place k i j e hj b in
+              let here = and-both (ltb j i) (rows i) (lt-ltb j i h) y in
+              absurd (true≢false (sym here ∙ ap (λ (z : ℕ). ltb j z && rows z) (p .0) ∙ ap (λ (z : ℕ). ltb z (e / k) && rows (e / k)) (p .1) ∙ s)))
+              (λ (b : i * k + j ≢ e). omega arith) (same-or-not (i * k + j) e)
 
-      went : e % k < e / k → LinksTo (e + 1) ls′
-      went s =
-          let r : ls′ ≡ set (set ls (e / k * k + e % k) (wire - 2)) (e % k * k + e / k) (wire - 1) = q ∙ ap (λ (c : Bool). cond c (set (set ls (e / k * k + e % k) (wire - 2)) (e % k * k + e / k) (wire - 1)) ls) (lt-ltb (e % k) (e / k) s) in
+      went : (ltb (e % k) (e / k) && rows (e / k)) ≡ true → LinksTo (e + 1) ls′
+      went both =
+          let r : ls′ ≡ set (set ls (e / k * k + e % k) (wire - 2)) (e % k * k + e / k) (wire - 1) = q ∙ ap (λ (c : Bool). cond c (set (set ls (e / k * k + e % k) (wire - 2)) (e % k * k + e / k) (wire - 1)) ls) both in
           rw r (
           record {
             long = length-set (set ls (e / k * k + e % k) (wire - 2)) (e % k * k + e / k) (wire - 1) ∙ length-set ls (e / k * k + e % k) (wire - 2) ∙ t .long;
             up =
-                λ i j hi hj h l.
+                λ i j hi hj h y l.
                 ⊎-elim (λ (b : i * k + j ≡ e).
                 let p = same-place k i j e hj b in
                 let m : i * k + j ≡ e / k * k + e % k = b ∙ sym number in
                 other (i * k + j) (wire - 1) (λ z. let w = one-place k i j (e % k) (e / k) hj row z in omega (arith, p, w, s))
-                ∙ ap (λ (z : ℕ). getD (set ls (e / k * k + e % k) (wire - 2)) z 0) m ∙ getD-set-same ls (e / k * k + e % k) (wire - 2) 0 (small₁) ∙ ap (λ (z : ℕ). z - 2) (ew s)
+                ∙ ap (λ (z : ℕ). getD (set ls (e / k * k + e % k) (wire - 2)) z 0) m ∙ getD-set-same ls (e / k * k + e % k) (wire - 2) 0 (small₁) ∙ ap (λ (z : ℕ). z - 2) ew
                 ∙ ap (λ (z : ℕ). ends z (e % k) - 2) (sym (p .0)) ∙ ap (λ (z : ℕ). ends i z - 2) (sym (p .1)))
                 (λ (b : i * k + j ≢ e).
-                other (i * k + j) (wire - 1) (λ z. let w = one-place k i j (e % k) (e / k) hj row z in omega (arith, w, s, h)) ∙ inner (i * k + j) (λ z. b (z ∙ number)) ∙ t .up i j hi hj h (omega arith)) (same-or-not (i * k + j) e);
+                other (i * k + j) (wire - 1) (λ z. let w = one-place k i j (e % k) (e / k) hj row z in omega (arith, w, s, h)) ∙ inner (i * k + j) (λ z. b (z ∙ number)) ∙ t .up i j hi hj h y (omega arith)) (same-or-not (i * k + j) e);
             down =
-                λ i j hi hj h l.
+                λ i j hi hj h y l.
                 ⊎-elim (λ (b : i * k + j ≡ e).
                 let p = same-place k i j e hj b in
                 let m : j * k + i ≡ e % k * k + e / k = ap (λ (z : ℕ). z * k + i) (p .1) ∙ ap (λ (z : ℕ). e % k * k + z) (p .0) in
                 ap (λ (z : ℕ). getD (set (set ls (e / k * k + e % k) (wire - 2)) (e % k * k + e / k) (wire - 1)) z 0) m
-                ∙ getD-set-same (set ls (e / k * k + e % k) (wire - 2)) (e % k * k + e / k) (wire - 1) 0 small₂ ∙ ap (λ (z : ℕ). z - 1) (ew s)
+                ∙ getD-set-same (set ls (e / k * k + e % k) (wire - 2)) (e % k * k + e / k) (wire - 1) 0 small₂ ∙ ap (λ (z : ℕ). z - 1) ew
                 ∙ ap (λ (z : ℕ). ends z (e % k) - 1) (sym (p .0)) ∙ ap (λ (z : ℕ). ends i z - 1) (sym (p .1)))
                 (λ (b : i * k + j ≢ e).
                 other (j * k + i) (wire - 1) (λ z. let w = one-place k j i (e % k) (e / k) hi row z in b (ap (λ (y : ℕ). y * k + j) (w .1) ∙ ap (λ (y : ℕ). e / k * k + y) (w .0) ∙ number))
-                ∙ inner (j * k + i) (λ z. let w = one-place k j i (e / k) (e % k) hi column z in omega (arith, w, s, h)) ∙ t .down i j hi hj h (omega arith)) (same-or-not (i * k + j) e);
+                ∙ inner (j * k + i) (λ z. let w = one-place k j i (e / k) (e % k) hi column z in omega (arith, w, s, h)) ∙ t .down i j hi hj h y (omega arith)) (same-or-not (i * k + j) e);
+            rest =
+                λ i j hi hj y.
+                other (i * k + j) (wire - 1) (λ z. let w = one-place k i j (e % k) (e / k) hj row z in no (max i j) y (omega (arith, w, s)))
+                ∙ inner (i * k + j) (λ z. let w = one-place k i j (e / k) (e % k) hj column z in no (max i j) y (omega (arith, w, s))) ∙ t .rest i j hi hj y;
           }
           )
         where
+          s : e % k < e / k
+          s = ltb-true (e % k) (e / k) (and-first (ltb (e % k) (e / k)) (rows (e / k)) both)
+
+          -- the row of e has blocks
+          no : (x : ℕ) → rows x ≡ false → x ≡ e / k → ⊥
+          no x y z = true≢false (sym (and-second (ltb (e % k) (e / k)) (rows (e / k)) both) ∙ ap rows (sym z) ∙ y)
+
           other : (at x : ℕ) → at ≢ e % k * k + e / k → getD (set (set ls (e / k * k + e % k) (wire - 2)) (e % k * k + e / k) x) at 0 ≡ getD (set ls (e / k * k + e % k) (wire - 2)) at 0
           other at x n = getD-set-other (set ls (e / k * k + e % k) (wire - 2)) (e % k * k + e / k) at x 0 n
 
@@ -177,16 +198,22 @@ module _ (k : ℕ) (ends : ℕ → ℕ → ℕ) where
           small₂ : e % k * k + e / k < length (set ls (e / k * k + e % k) (wire - 2))
           small₂ = omega (arith, index-small k (e % k) (e / k) few column row, t .long, length-set ls (e / k * k + e % k) (wire - 2))
 
-  pub links-end : (e : ℕ) (ls : List ℕ) → k * k ≤ e → LinksTo e ls → Keeps k ls (λ i j. cond (ltb j i) (ends i j - 2) (ends j i - 1))
-  links-end e ls h t =
-      record {
-        long = t .long;
-        each =
-            λ i j hi hj ne.
-            ⊎-elim (λ (l : j < i). t .up i j hi hj l (omega (arith, number-low k i j hi hj)) ∙ sym (ap (λ (c : Bool). cond c (ends i j - 2) (ends j i - 1)) (lt-ltb j i l)))
-            (λ (l : i ≤ j). t .down j i hj hi (omega arith) (omega (arith, number-low k j i hj hi)) ∙ sym (ap (λ (c : Bool). cond c (ends i j - 2) (ends j i - 1)) (le-ltb j i l)))
-            (below-or-not j i);
-      }
+  pub links-end : (e : ℕ) (ls : List ℕ) → k * k ≤ e → LinksTo e ls → Keeps k ls (λ i j. cond (rows (max i j)) (cond (ltb j i) (ends i j - 2) (ends j i - 1)) (keptOf ls₀ k i j))
+  links-end e ls h t = record { long = t .long; each = λ i j hi hj ne. bool-cases (rows (max i j)) (told i j hi hj ne) (same i j hi hj) }
+    where
+      same : (i j : ℕ) → i < k → j < k → rows (max i j) ≡ false → keptOf ls k i j ≡ cond (rows (max i j)) (cond (ltb j i) (ends i j - 2) (ends j i - 1)) (keptOf ls₀ k i j)
+      same i j hi hj y = t .rest i j hi hj y ∙ sym (ap (λ (c : Bool). cond c (cond (ltb j i) (ends i j - 2) (ends j i - 1)) (keptOf ls₀ k i j)) y)
+
+      told : (i j : ℕ) → i < k → j < k → i ≢ j → rows (max i j) ≡ true → keptOf ls k i j ≡ cond (rows (max i j)) (cond (ltb j i) (ends i j - 2) (ends j i - 1)) (keptOf ls₀ k i j)
+      told i j hi hj ne y =
+          ⊎-elim
+          (λ (l : j < i).
+          t .up i j hi hj l (sym (ap rows (later-is i j l)) ∙ y) (omega (arith, number-low k i j hi hj)) ∙ sym (ap (λ (c : Bool). cond c (ends i j - 2) (ends j i - 1)) (lt-ltb j i l)))
+          (λ (l : i ≤ j).
+          let o : i < j = omega arith in
+          t .down j i hj hi o (sym (ap rows (later-is′ j i o)) ∙ y) (omega (arith, number-low k j i hj hi)) ∙ sym (ap (λ (c : Bool). cond c (ends i j - 2) (ends j i - 1)) (le-ltb j i l)))
+          (below-or-not j i)
+          ∙ sym (ap (λ (c : Bool). cond c (cond (ltb j i) (ends i j - 2) (ends j i - 1)) (keptOf ls₀ k i j)) y)
 
 -- a block reads a link and three words, which may be kept elsewhere under the same values
 new-agree : (links links′ words words′ : ℕ → ℕ → ℕ) (w m at i j : ℕ) → stays m i j ≡ false → links i j ≡ links′ i j → words i j ≡ words′ i j →
@@ -206,10 +233,25 @@ path-agree links links′ words words′ w m at i j here to from =
     bool-cases (stays m i j) (λ e. stage-stays links words w m at i j e ∙ sym (stage-stays links′ words′ w m at i j e))
     (λ e. stage-moves links words w m at i j e ∙ new-agree links links′ words words′ w m at i j e (here e .0) (here e .1) to from ∙ sym (stage-moves links′ words′ w m at i j e))
 
-pub links-agree : (words words′ : ℕ → ℕ → ℕ) (w at i j : ℕ) → (j < i → (words i j ≡ words′ i j) × (words j i ≡ words′ j i)) → linksBlock words w at i j ≡ linksBlock words′ w at i j
-unfolding linksBlock
-links-agree words words′ w at i j h =
-    ⊎-elim (λ (l : j < i). rw (lt-ltb j i l, h l .0, h l .1)) (λ (l : i ≤ j). rw (le-ltb j i l)) (below-or-not j i)
+pub links-agree : (first : ℕ) (words words′ : ℕ → ℕ → ℕ) (w at i j : ℕ) → (j < i → (words i j ≡ words′ i j) × (words j i ≡ words′ j i)) → linksBlock first words w at i j ≡ linksBlock first words′ w at i j
+unfolding linksBlock laterOf
+links-agree first words words′ w at i j h =
+    ⊎-elim (λ (l : j < i). rw (h l .0, h l .1)) (λ (l : i ≤ j). rw (le-ltb j i l)) (below-or-not j i)
+
+-- a meeting reads the words of three candidates, and what the duels of two of them tell
+pub meetings-agree : (l : ℕ) (words words′ met met′ : ℕ → ℕ → ℕ) (w at i j : ℕ)
+    → (j < i → i < l → (words l i ≡ words′ l i) × (words l j ≡ words′ l j) × (words i j ≡ words′ i j) × (words j i ≡ words′ j i) × (met i l ≡ met′ i l) × (met j l ≡ met′ j l))
+    → meetingsBlock l words met w at i j ≡ meetingsBlock l words′ met′ w at i j
+unfolding meetingsBlock laterOf
+meetings-agree l words words′ met met′ w at i j h =
+    ⊎-elim
+    (λ (q : j < i).
+    ⊎-elim (λ (r : i < l). let e = h q r in rw (e .0, e .1, e .2, e .3, e .4, e .5)) (λ (r : l ≤ i). rw (le-ltb i l r) (none (ltb j i) (meetingOf l words met w at i j) (meetingOf l words′ met′ w at i j))) (below-or-not i l))
+    (λ (q : i ≤ j). rw (le-ltb j i q)) (below-or-not j i)
+  where
+    none : (c : Bool) (gs hs : List Gate) → cond (c && false) gs [] ≡ cond (c && false) hs []
+    none true gs hs = refl
+    none false gs hs = refl
 
 -- tables of blocks that are the same
 module _ (n k : ℕ) (block block′ : ℕ → ℕ → ℕ → List Gate) (same : (at i j : ℕ) → i < k → j < k → block at i j ≡ block′ at i j) where
@@ -228,6 +270,12 @@ module _ (n k : ℕ) (block block′ : ℕ → ℕ → ℕ → List Gate) (same 
   pub end-agree : (i j : ℕ) → i < k → j < k → entryEnd n k block i j ≡ entryEnd n k block′ i j
   unfolding entryEnd
   end-agree i j hi hj = ap (λ (gs : List Gate). n + length gs) (entries-agree (suc (i * k + j)) (number-low k i j hi hj))
+
+  pub at-agree : (i j : ℕ) → i < k → j < k → linkAt n k block i j ≡ linkAt n k block′ i j
+  unfolding linkAt
+  at-agree i j hi hj =
+      ap (λ (x : ℕ). cond (ltb j i) (x - 2) (entryEnd n k block j i - 1)) (end-agree i j hi hj)
+      ∙ ap (λ (x : ℕ). cond (ltb j i) (entryEnd n k block′ i j - 2) (x - 1)) (end-agree j i hj hi)
 
 -- who is left by the stage of a detour over l
 row-true : (l i : ℕ) → stays (suc l) i l ≡ true
@@ -273,3 +321,13 @@ module _ (w₀ : Writer) (t₀ : List ℕ) (k w m : ℕ) (links ws₀ : List ℕ
           stage-length (keptOf links k) (keptOf ws₀ k) w m at i j,
         ))
         (λ (l : e ≤ i * k + j). omega (arith, t .later i j hi hj l, below i j hi hj ne)) (below-or-not (i * k + j) e))
+
+-- The meetings, as they are being written: what they read of the duels stays.
+module _ (k w : ℕ) (words met₀ : List ℕ) (ends : ℕ → ℕ → ℕ) (e : ℕ) (met : List ℕ) (t : LinksTo k (λ i. ltb i (k - 1)) ends met₀ e met) where
+  pub met-agree : (at : ℕ) → e < k * k → meetingsBlock (k - 1) (keptOf words k) (keptOf met k) w at (e / k) (e % k) ≡ meetingsBlock (k - 1) (keptOf words k) (keptOf met₀ k) w at (e / k) (e % k)
+  met-agree at low =
+      meetings-agree (k - 1) (keptOf words k) (keptOf words k) (keptOf met k) (keptOf met₀ k) w at (e / k) (e % k)
+      (λ l r. (refl, refl, refl, refl, stays-met (e / k) (omega arith), stays-met (e % k) (omega arith)))
+    where
+      stays-met : (i : ℕ) → i < k - 1 → keptOf met k i (k - 1) ≡ keptOf met₀ k i (k - 1)
+      stays-met i h = t .rest i (k - 1) (omega arith) (omega arith) (le-ltb (max i (k - 1)) (k - 1) (omega arith))

@@ -4,25 +4,26 @@ use mathlib.Core.Path.{_≡_, _∙_, refl, sym, ap, subst}
 use mathlib.Core.Bool.{Bool, false, cond}
 use mathlib.Core.Logic.{⊎-elim, _≢_}
 use mathlib.Core.List.{List, [], _∷_, _++_, append-nil, append-assoc}
-use Prim.Native.Nat.{ℕ, zero, suc, _+_, _-_, _*_, _≤_, _<_}
+use Prim.Native.Nat.{ℕ, zero, suc, max, _+_, _-_, _*_, _≤_, _<_}
 use native.Mathlib.Omega.{arith}
-use lib.Dec.{ltb}
+use lib.Dec.{leb, ltb}
 use lib.ListN.{length, length-append}
-use borrow.Author.Tests.{lt-ltb, le-ltb}
+use borrow.Author.Tests.{lt-ltb, le-ltb, le-leb}
 use Rattle.gates.specs.Gate.{Gate}
 use Rattle.gate_words.specs.Gates.{orOf, notOf}
 use Rattle.basics.proofs.Cases.{below-or-not}
 use Rattle.ranked_circuit.specs.Table.{blocks, table, entryEnd}
 use Rattle.ranked_circuit.specs.Stages.{votesBlock, linksBlock, linkAt, stays, pathBlock}
 use Rattle.ranked_circuit.specs.Paths.{votesAt, votesTable, linksFrom, linksTable, linkWire, nextPaths, pathsTo}
-use Rattle.ranked_circuit.specs.RankedList.{other, joined, loserRow, loserRows, outputGates, contestsFrom, contests, beatsAt, losersFrom, pairFrom, rankedList}
+use Rattle.ranked_circuit.specs.Contests.{duelsFrom, duels, duelAt, meetingsBlock, meetingsFrom, meetings, meetingAt, beatsAt}
+use Rattle.ranked_circuit.specs.RankedList.{other, joined, loserRow, loserRows, outputGates, losersFrom, pairFrom, rankedList}
 use Rattle.ranked_circuit.proofs.StageLaws.{apart-all, apart-zero}
 use Rattle.ranked_circuit.proofs.GoodLaws.{endOf, words-below, votes-below}
 use Rattle.ranked_circuit.proofs.LoserLaws.{other-low, other-apart}
 use Rattle.ranked_circuit.proofs.Accuracy.{rows-length, outputs-length}
 use Rattle.ranked_blocks.specs.Ranked.{keptOf, WordsBelow}
 use Rattle.ranked_writer.specs.Tables.{Keeps}
-use Rattle.ranked_writer.proofs.Keeping.{path-agree, links-agree, table-agree, end-agree}
+use Rattle.ranked_writer.proofs.Keeping.{path-agree, links-agree, meetings-agree, table-agree, end-agree, at-agree}
 
 -- a stage that moves a word moves that of two candidates
 pub apart : (m i j : ℕ) → stays m i j ≡ false → i ≢ j
@@ -35,7 +36,7 @@ module _ (k n w : ℕ) where
   kept-below m ws wire t q i j hi hj ne = omega (arith, t .each i j hi hj ne, words-below k n w m i j hi hj ne)
 
   -- the first two tables
-  pub first-parts : pathsTo k n w 0 .gates ≡ table (n * k * k) k (votesBlock k n w) ++ table (linksFrom k n w) k (linksBlock (votesAt k n w) w)
+  pub first-parts : pathsTo k n w 0 .gates ≡ table (n * k * k) k (votesBlock k n w) ++ table (linksFrom k n w) k (linksBlock 0 (votesAt k n w) w)
   unfolding pathsTo votesTable linksTable
   first-parts = refl
 
@@ -51,33 +52,36 @@ module _ (k n w : ℕ) where
   unfolding pathsTo
   votes-kept-below wire ws q t i j hi hj ne = omega (arith, t .each i j hi hj ne, votes-below k n w i j hi hj ne)
 
-  pub link-wire-is : linkAt (linksFrom k n w) k (linksBlock (pathsTo k n w 0 .words) w) ≡ linkWire k n w
+  pub link-wire-is : linkAt (linksFrom k n w) k (linksBlock 0 (pathsTo k n w 0 .words) w) ≡ linkWire k n w
   unfolding pathsTo linkWire
   link-wire-is = refl
 
-  pub first-links-is : table (linksFrom k n w) k (linksBlock (pathsTo k n w 0 .words) w) ≡ table (linksFrom k n w) k (linksBlock (votesAt k n w) w)
+  pub first-links-is : table (linksFrom k n w) k (linksBlock 0 (pathsTo k n w 0 .words) w) ≡ table (linksFrom k n w) k (linksBlock 0 (votesAt k n w) w)
   unfolding pathsTo
   first-links-is = refl
 
-  module _ (words : ℕ → ℕ → ℕ) (ws : List ℕ) (t : Keeps k ws words) where
-    links-same : (at i j : ℕ) → i < k → j < k → linksBlock (keptOf ws k) w at i j ≡ linksBlock words w at i j
-    links-same at i j hi hj = links-agree (keptOf ws k) words w at i j (λ l. (t .each i j hi hj (λ z. omega arith), t .each j i hj hi (λ z. omega arith)))
+  module _ (first : ℕ) (words : ℕ → ℕ → ℕ) (ws : List ℕ) (t : Keeps k ws words) where
+    links-same : (at i j : ℕ) → i < k → j < k → linksBlock first (keptOf ws k) w at i j ≡ linksBlock first words w at i j
+    links-same at i j hi hj = links-agree first (keptOf ws k) words w at i j (λ l. (t .each i j hi hj (λ z. omega arith), t .each j i hj hi (λ z. omega arith)))
 
-    pub links-table-is : (wire from : ℕ) → wire ≡ from → table wire k (linksBlock (keptOf ws k) w) ≡ table from k (linksBlock words w)
-    links-table-is wire from q = ap (λ (x : ℕ). table x k (linksBlock (keptOf ws k) w)) q ∙ table-agree from k (linksBlock (keptOf ws k) w) (linksBlock words w) links-same
+    pub links-table-is : (wire from : ℕ) → wire ≡ from → table wire k (linksBlock first (keptOf ws k) w) ≡ table from k (linksBlock first words w)
+    links-table-is wire from q = ap (λ (x : ℕ). table x k (linksBlock first (keptOf ws k) w)) q ∙ table-agree from k (linksBlock first (keptOf ws k) w) (linksBlock first words w) links-same
 
-    pub links-kept-is : (wire from : ℕ) (ls : List ℕ) → wire ≡ from → Keeps k ls (linkAt wire k (linksBlock (keptOf ws k) w)) → Keeps k ls (linkAt from k (linksBlock words w))
-    unfolding linkAt
-    links-kept-is wire from ls q l =
-        record {
-          long = l .long;
-          each =
-              λ i j hi hj ne.
-              l .each i j hi hj ne
-              ∙ ap (λ (x : ℕ). cond (ltb j i) (entryEnd x k (linksBlock (keptOf ws k) w) i j - 2) (entryEnd x k (linksBlock (keptOf ws k) w) j i - 1)) q
-              ∙ ap (λ (x : ℕ). cond (ltb j i) (x - 2) (entryEnd from k (linksBlock (keptOf ws k) w) j i - 1)) (end-agree from k (linksBlock (keptOf ws k) w) (linksBlock words w) links-same i j hi hj)
-              ∙ ap (λ (x : ℕ). cond (ltb j i) (entryEnd from k (linksBlock words w) i j - 2) (x - 1)) (end-agree from k (linksBlock (keptOf ws k) w) (linksBlock words w) links-same j i hj hi);
-        }
+    pub links-at-is : (wire from i j : ℕ) → i < k → j < k → wire ≡ from → linkAt wire k (linksBlock first (keptOf ws k) w) i j ≡ linkAt from k (linksBlock first words w) i j
+    links-at-is wire from i j hi hj q =
+        ap (λ (x : ℕ). linkAt x k (linksBlock first (keptOf ws k) w) i j) q ∙ at-agree from k (linksBlock first (keptOf ws k) w) (linksBlock first words w) links-same i j hi hj
+
+  -- the links of all rows
+  pub links-kept-is : (words : ℕ → ℕ → ℕ) (ws : List ℕ) → Keeps k ws words → (wire from : ℕ) (ls : List ℕ) (old : ℕ → ℕ → ℕ) → wire ≡ from
+      → Keeps k ls (λ i j. cond (leb 0 (max i j)) (linkAt wire k (linksBlock 0 (keptOf ws k) w) i j) (old i j)) → Keeps k ls (linkAt from k (linksBlock 0 words w))
+  links-kept-is words ws t wire from ls old q l =
+      record {
+        long = l .long;
+        each =
+            λ i j hi hj ne.
+            l .each i j hi hj ne ∙ ap (λ (c : Bool). cond c (linkAt wire k (linksBlock 0 (keptOf ws k) w) i j) (old i j)) (le-leb 0 (max i j) (omega arith))
+            ∙ links-at-is 0 words ws t wire from i j hi hj q;
+      }
 
   -- stages 0 to m - 1
   unfoldable pub stagesTo : ℕ → List Gate
@@ -138,7 +142,7 @@ module _ (k n w : ℕ) where
 
   -- the whole list for three or more candidates, and for two
   pub list-parts : (r : ℕ) → 1 ≤ r → k ≡ suc (suc r) → rankedList k n w ≡
-      pathsTo k n w (suc k) .gates ++ contests k n w ++ loserRows (beatsAt k n w) r (losersFrom k n w) k ++ outputGates (beatsAt k n w) r (losersFrom k n w) k
+      pathsTo k n w k .gates ++ duels k n w ++ meetings k n w ++ loserRows (beatsAt k n w) r (losersFrom k n w) k ++ outputGates (beatsAt k n w) r (losersFrom k n w) k
   list-parts zero l e = absurd (omega arith)
   list-parts (suc r) l e = rw e (unfold rankedList in refl)
 
@@ -151,23 +155,86 @@ module _ (k n w : ℕ) where
   pub outputs-long : (beats : ℕ → ℕ → ℕ) (r from : ℕ) → k ≡ suc (suc r) → length (outputGates beats r from k) ≡ k
   outputs-long beats r from e = subst (λ (x : ℕ). length (outputGates beats r from x) ≡ x) (sym e) (outputs-length beats r from)
 
-  pub list-long : (r : ℕ) → 1 ≤ r → k ≡ suc (suc r) → length (rankedList k n w) ≡ length (pathsTo k n w (suc k) .gates) + length (contests k n w) + k * r + k
+  pub list-long : (r : ℕ) → 1 ≤ r → k ≡ suc (suc r) → length (rankedList k n w) ≡ length (pathsTo k n w k .gates) + (length (duels k n w) + length (meetings k n w)) + k * r + k
   list-long r l e =
-      let a = pathsTo k n w (suc k) .gates in
-      let b = contests k n w in
+      let a = pathsTo k n w k .gates in
+      let b = duels k n w in
+      let m = meetings k n w in
       let c = loserRows (beatsAt k n w) r (losersFrom k n w) k in
       let d = outputGates (beatsAt k n w) r (losersFrom k n w) k in
       ap length (list-parts r l e)
-      ∙ omega (arith, length-append (a ++ b ++ c) d, length-append (a ++ b) c, length-append a b, rows-long (beatsAt k n w) r (losersFrom k n w) e, outputs-long (beatsAt k n w) r (losersFrom k n w) e)
+      ∙ omega (
+        arith,
+        length-append (a ++ b ++ m ++ c) d,
+        length-append (a ++ b ++ m) c,
+        length-append (a ++ b) m,
+        length-append a b,
+        rows-long (beatsAt k n w) r (losersFrom k n w) e,
+        outputs-long (beatsAt k n w) r (losersFrom k n w) e,
+      )
 
-  pub contests-are : contests k n w ≡ table (endOf k n w (suc k)) k (linksBlock (pathsTo k n w (suc k) .words) w)
-  contests-are = unfold contests contestsFrom in refl
+  -- the contests
+  pub duels-from : duelsFrom k n w ≡ endOf k n w k
+  duels-from = unfold duelsFrom in refl
 
-  pub beats-are : beatsAt k n w ≡ linkAt (endOf k n w (suc k)) k (linksBlock (pathsTo k n w (suc k) .words) w)
-  beats-are = unfold beatsAt contestsFrom in refl
+  pub meetings-from : meetingsFrom k n w ≡ duelsFrom k n w + length (duels k n w)
+  meetings-from = unfold meetingsFrom in refl
 
-  pub losers-from : losersFrom k n w ≡ endOf k n w (suc k) + length (contests k n w)
-  losers-from = unfold losersFrom contestsFrom in refl
+  pub losers-from : losersFrom k n w ≡ duelsFrom k n w + length (duels k n w) + length (meetings k n w)
+  losers-from = unfold losersFrom meetingsFrom in refl
+
+  module _ (ws : List ℕ) (t : Keeps k ws (pathsTo k n w k .words)) where
+    pub duels-table-is : (wire : ℕ) → wire ≡ duelsFrom k n w → table wire k (linksBlock (k - 1) (keptOf ws k) w) ≡ duels k n w
+    unfolding duels
+    duels-table-is wire q = links-table-is (k - 1) (pathsTo k n w k .words) ws t wire (duelsFrom k n w) q
+
+    -- the wires kept after the duels
+    abbrev pub Duelled : ℕ → List ℕ → List ℕ → Type 0
+    Duelled wire ls ls₀ = Keeps k ls (λ i j. cond (leb (k - 1) (max i j)) (linkAt wire k (linksBlock (k - 1) (keptOf ws k) w) i j) (keptOf ls₀ k i j))
+
+    module _ (wire : ℕ) (q : wire ≡ duelsFrom k n w) (ls ls₀ : List ℕ) (d : Duelled wire ls ls₀) where
+      duel-kept : (i j : ℕ) → i < k → j < k → i ≢ j → k - 1 ≤ max i j → keptOf ls k i j ≡ duelAt k n w i j
+      unfolding duelAt
+      duel-kept i j hi hj ne h =
+          d .each i j hi hj ne ∙ ap (λ (c : Bool). cond c (linkAt wire k (linksBlock (k - 1) (keptOf ws k) w) i j) (keptOf ls₀ k i j)) (le-leb (k - 1) (max i j) h)
+          ∙ links-at-is (k - 1) (pathsTo k n w k .words) ws t wire (duelsFrom k n w) i j hi hj q
+
+      met-same : (at i j : ℕ) → i < k → j < k → meetingsBlock (k - 1) (keptOf ws k) (keptOf ls k) w at i j ≡ meetingsBlock (k - 1) (pathsTo k n w k .words) (duelAt k n w) w at i j
+      met-same at i j hi hj =
+          meetings-agree (k - 1) (keptOf ws k) (pathsTo k n w k .words) (keptOf ls k) (duelAt k n w) w at i j
+          (λ l r. (
+            t .each (k - 1) i (omega arith) hi (λ z. omega arith),
+            t .each (k - 1) j (omega arith) hj (λ z. omega arith),
+            t .each i j hi hj (λ z. omega arith),
+            t .each j i hj hi (λ z. omega arith),
+            duel-kept i (k - 1) hi (omega arith) (λ z. omega arith) (omega arith),
+            duel-kept j (k - 1) hj (omega arith) (λ z. omega arith) (omega arith),
+          ))
+
+      pub meetings-table-is : (next : ℕ) → next ≡ meetingsFrom k n w → table next k (meetingsBlock (k - 1) (keptOf ws k) (keptOf ls k) w) ≡ meetings k n w
+      unfolding meetings
+      meetings-table-is next e =
+          ap (λ (x : ℕ). table x k (meetingsBlock (k - 1) (keptOf ws k) (keptOf ls k) w)) e
+          ∙ table-agree (meetingsFrom k n w) k (meetingsBlock (k - 1) (keptOf ws k) (keptOf ls k) w) (meetingsBlock (k - 1) (pathsTo k n w k .words) (duelAt k n w) w) met-same
+
+      -- and after the meetings
+      pub beats-kept : (next : ℕ) (bs : List ℕ) → next ≡ meetingsFrom k n w
+          → Keeps k bs (λ i j. cond (ltb (max i j) (k - 1)) (linkAt next k (meetingsBlock (k - 1) (keptOf ws k) (keptOf ls k) w) i j) (keptOf ls k i j)) → Keeps k bs (beatsAt k n w)
+      beats-kept next bs e b = record { long = b .long; each = λ i j hi hj ne. b .each i j hi hj ne ∙ ⊎-elim (other i j hi hj) (last i j hi hj ne) (below-or-not (max i j) (k - 1)) }
+        where
+          other : (i j : ℕ) → i < k → j < k → max i j < k - 1 → cond (ltb (max i j) (k - 1)) (linkAt next k (meetingsBlock (k - 1) (keptOf ws k) (keptOf ls k) w) i j) (keptOf ls k i j) ≡ beatsAt k n w i j
+          other i j hi hj h =
+              unfold beatsAt meetingAt in
+              (ap (λ (c : Bool). cond c (linkAt next k (meetingsBlock (k - 1) (keptOf ws k) (keptOf ls k) w) i j) (keptOf ls k i j)) (lt-ltb (max i j) (k - 1) h)
+              ∙ ap (λ (x : ℕ). linkAt x k (meetingsBlock (k - 1) (keptOf ws k) (keptOf ls k) w) i j) e
+              ∙ at-agree (meetingsFrom k n w) k (meetingsBlock (k - 1) (keptOf ws k) (keptOf ls k) w) (meetingsBlock (k - 1) (pathsTo k n w k .words) (duelAt k n w) w) met-same i j hi hj
+              ∙ sym (ap (λ (c : Bool). cond c (meetingAt k n w i j) (duelAt k n w i j)) (lt-ltb (max i j) (k - 1) h)))
+
+          last : (i j : ℕ) → i < k → j < k → i ≢ j → k - 1 ≤ max i j → cond (ltb (max i j) (k - 1)) (linkAt next k (meetingsBlock (k - 1) (keptOf ws k) (keptOf ls k) w) i j) (keptOf ls k i j) ≡ beatsAt k n w i j
+          last i j hi hj ne h =
+              unfold beatsAt in
+              (ap (λ (c : Bool). cond c (linkAt next k (meetingsBlock (k - 1) (keptOf ws k) (keptOf ls k) w) i j) (keptOf ls k i j)) (le-ltb (max i j) (k - 1) h)
+              ∙ duel-kept i j hi hj ne h ∙ sym (ap (λ (c : Bool). cond c (meetingAt k n w i j) (duelAt k n w i j)) (le-ltb (max i j) (k - 1) h)))
 
 -- blocks that are the same
 blocks-agree : (n : ℕ) (block block′ : ℕ → ℕ → List Gate) (m : ℕ) → ((at e : ℕ) → e < m → block at e ≡ block′ at e) → blocks n block m ≡ blocks n block′ m

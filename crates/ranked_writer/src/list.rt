@@ -2,6 +2,7 @@
 use crate::losers::loser_rows;
 use crate::losers::output_gates;
 use crate::tables::links_table;
+use crate::tables::meetings_table;
 use crate::tables::path_table;
 use crate::tables::votes_table;
 use gate_words::writer::Writer;
@@ -9,7 +10,7 @@ use gates::kind;
 use jury::width::width;
 use ranked_blocks::entries::Ranks;
 ghost use mathlib.Core.Path.{_≡_};
-ghost use Prim.Native.Nat.{suc, _+_, _-_, _*_, _≤_, _<_};
+ghost use Prim.Native.Nat.{_+_, _-_, _*_, _≤_, _<_};
 ghost use lib.ListN.{length};
 ghost use Rattle.gate_words.specs.Writing.{Room, Wrote};
 ghost use Rattle.ranked_circuit.specs.Paths.{pathsTo, linkWire};
@@ -17,6 +18,7 @@ ghost use Rattle.ranked_circuit.specs.RankedList.{rankedList};
 ghost use Rattle.ranked_circuit.specs.OwnRanking.{ownRanking};
 ghost use Rattle.ranked_blocks.specs.Ranked.{Ranked};
 ghost use Rattle.ranked_writer.specs.Tables.{Keeps};
+ghost use Rattle.ranked_writer.specs.inner.Contests.{ContestsReady, ContestsDone, CircuitReady};
 
 // The numbers of ballots, and the links.
 fn first_tables(
@@ -40,31 +42,40 @@ fn first_tables(
     ensures { λ r. ⌜ Keeps (p .candidates) (now (links .exit)) (linkWire (p .candidates) (p .ballots) (p .digits)) ⌝ }
 {
     let counted = votes_table(w, table, words, p);
-    links_table(counted, table, words, links, p)
+    links_table(counted, table, words, links, p, 0)
 }
 
-// All stages of the paths.
+// The stages of the paths but the last: no path passes the last candidate.
 fn path_tables(w: Writer, table: &mut [u32], words: &mut [u32], p: Ranks) -> Writer
     requires { ⌜ Ranked p ⌝ }
-    requires { ⌜ Room w (length (pathsTo (p .candidates) (p .ballots) (p .digits) (suc (p .candidates)) .gates)) ⌝ }
+    requires { ⌜ Room w (length (pathsTo (p .candidates) (p .ballots) (p .digits) (p .candidates) .gates)) ⌝ }
     requires { ⌜ (w .wire ≡ p .ballots * p .candidates * p .candidates) × (length (now words) ≡ 64) ⌝ }
     ensures { λ r. ⌜
-        Wrote w (now (table .entry)) (pathsTo (p .candidates) (p .ballots) (p .digits) (suc (p .candidates)) .gates)
+        Wrote w (now (table .entry)) (pathsTo (p .candidates) (p .ballots) (p .digits) (p .candidates) .gates)
         (now (table .exit)) r
         ⌝ }
     ensures { λ r. ⌜
         Keeps (p .candidates) (now (words .exit))
-        (pathsTo (p .candidates) (p .ballots) (p .digits) (suc (p .candidates)) .words)
+        (pathsTo (p .candidates) (p .ballots) (p .digits) (p .candidates) .words)
         ⌝ }
 {
     let mut links = [0u32; 64];
     let mut next = first_tables(w, table, &mut links, words, p);
     let mut m: u32 = 0;
-    while m <= p.candidates {
+    while m < p.candidates {
         next = path_table(next, table, &links, words, p, m);
         m += 1;
     }
     next
+}
+
+// Who beats whom: the last candidate and each of the others, then the others.
+fn contests(w: Writer, table: &mut [u32], words: &[u32], beats: &mut [u32], p: Ranks) -> Writer
+    requires { ⌜ ContestsReady w (now words) (now beats) p ⌝ }
+    ensures { λ r. ⌜ ContestsDone w (now (table .entry)) (now (table .exit)) r p (now (beats .exit)) ⌝ }
+{
+    let met = links_table(w, table, words, beats, p, p.candidates - 1);
+    meetings_table(met, table, words, beats, p)
 }
 
 // The list for two candidates: their links tell who is beaten.
@@ -84,9 +95,7 @@ fn pair_circuit(w: Writer, table: &mut [u32], p: Ranks) -> Writer
 
 // The list for three or more candidates.
 fn circuit(w: Writer, table: &mut [u32], p: Ranks) -> Writer
-    requires { ⌜ Ranked p ⌝ }
-    requires { ⌜ Room w (length (rankedList (p .candidates) (p .ballots) (p .digits))) ⌝ }
-    requires { ⌜ (3 ≤ p .candidates) × (w .wire ≡ p .ballots * p .candidates * p .candidates) ⌝ }
+    requires { ⌜ CircuitReady w p ⌝ }
     ensures { λ r. ⌜
         Wrote w (now (table .entry)) (rankedList (p .candidates) (p .ballots) (p .digits)) (now (table .exit)) r
         ⌝ }
@@ -94,7 +103,7 @@ fn circuit(w: Writer, table: &mut [u32], p: Ranks) -> Writer
     let mut words = [0u32; 64];
     let mut beats = [0u32; 64];
     let paths = path_tables(w, table, &mut words, p);
-    let met = links_table(paths, table, &words, &mut beats, p);
+    let met = contests(paths, table, &words, &mut beats, p);
     let lost = loser_rows(met, table, &beats, p.candidates);
     output_gates(lost, table, &beats, p.candidates, met.wire)
 }

@@ -2,18 +2,22 @@
 use gate_words::writer::Writer;
 use ranked_blocks::entries::Ranks;
 use ranked_blocks::entries::links_entry;
+use ranked_blocks::entries::meetings_entry;
 use ranked_blocks::entries::path_entry;
 use ranked_blocks::entries::votes_entry;
 ghost use mathlib.Core.Path.{_≡_};
 ghost use mathlib.Core.Bool.{cond};
 ghost use Prim.Native.Nat.{suc, _+_, _-_, _*_, _≤_, _<_};
+ghost use lib.Dec.{leb, ltb};
 ghost use lib.ListN.{length};
 ghost use Rattle.gate_words.specs.Writing.{Room, Wrote};
 ghost use Rattle.ranked_circuit.specs.Table as spec;
 ghost use Rattle.ranked_circuit.specs.Table.{entryEnd};
-ghost use Rattle.ranked_circuit.specs.Stages.{votesBlock, linksBlock, linkAt, stays, pathBlock};
+ghost use Rattle.ranked_circuit.specs.Stages.{votesBlock, linksBlock, stays, pathBlock};
+ghost use Rattle.ranked_circuit.specs.Contests.{meetingsBlock};
 ghost use Rattle.ranked_blocks.specs.Ranked.{Ranked, keptOf, WordsBelow};
 ghost use Rattle.ranked_writer.specs.Tables.{Keeps};
+ghost use Rattle.ranked_writer.specs.inner.Contests.{TableReady, TableDone};
 
 // The numbers of ballots.
 pub(crate) fn votes_table(w: Writer, table: &mut [u32], words: &mut [u32], p: Ranks) -> Writer
@@ -42,35 +46,58 @@ pub(crate) fn votes_table(w: Writer, table: &mut [u32], words: &mut [u32], p: Ra
     next
 }
 
-// Words compared.
+// Words compared, the later candidate being no earlier than `first`.
 pub(crate) fn links_table(
     w: Writer,
     table: &mut [u32],
     words: &[u32],
     links: &mut [u32],
     p: Ranks,
+    first: u32,
 ) -> Writer
-    requires { ⌜ Ranked p ⌝ }
     requires { ⌜
-        Room w (length (spec.table (w .wire) (p .candidates)
-        (linksBlock (keptOf (now words) (p .candidates)) (p .digits))))
-        ⌝ }
-    requires { ⌜ (length (now words) ≡ 64) × (length (now links) ≡ 64) ⌝ }
-    requires { ⌜ WordsBelow (now words) (p .candidates) (p .digits) (w .wire) ⌝ }
-    ensures { λ r. ⌜
-        Wrote w (now (table .entry)) (spec.table (w .wire) (p .candidates)
-        (linksBlock (keptOf (now (words .entry)) (p .candidates)) (p .digits))) (now (table .exit)) r
+        TableReady w (now words) (now links) p (linksBlock first (keptOf (now words) (p .candidates)) (p .digits))
         ⌝ }
     ensures { λ r. ⌜
-        Keeps (p .candidates) (now (links .exit))
-        (linkAt (w .wire) (p .candidates) (linksBlock (keptOf (now (words .entry)) (p .candidates)) (p .digits)))
+        TableDone w (now (table .entry)) (now (table .exit)) r (p .candidates)
+        (linksBlock first (keptOf (now (words .entry)) (p .candidates)) (p .digits)) (leb first) (now (links .entry))
+        (now (links .exit))
         ⌝ }
 {
     let k = p.candidates;
     let mut next = w;
     let mut e: u32 = 0;
     while e < k * k {
-        next = links_entry(next, table, words, links, p, e);
+        next = links_entry(next, table, words, links, p, first, e);
+        e += 1;
+    }
+    next
+}
+
+// The meetings of the candidates before the last one, who met it already.
+pub(crate) fn meetings_table(
+    w: Writer,
+    table: &mut [u32],
+    words: &[u32],
+    met: &mut [u32],
+    p: Ranks,
+) -> Writer
+    requires { ⌜
+        TableReady w (now words) (now met) p (meetingsBlock (p .candidates - 1) (keptOf (now words) (p .candidates))
+        (keptOf (now met) (p .candidates)) (p .digits))
+        ⌝ }
+    ensures { λ r. ⌜
+        TableDone w (now (table .entry)) (now (table .exit)) r (p .candidates)
+        (meetingsBlock (p .candidates - 1) (keptOf (now (words .entry)) (p .candidates))
+        (keptOf (now (met .entry)) (p .candidates)) (p .digits)) (λ i. ltb i (p .candidates - 1)) (now (met .entry))
+        (now (met .exit))
+        ⌝ }
+{
+    let k = p.candidates;
+    let mut next = w;
+    let mut e: u32 = 0;
+    while e < k * k {
+        next = meetings_entry(next, table, words, met, p, e);
         e += 1;
     }
     next

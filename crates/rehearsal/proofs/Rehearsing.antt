@@ -1,4 +1,4 @@
--- The lent buffers are long enough for every list that fits the table, and what the run answers is what the rehearsal answers.
+-- The buffers are long enough for every list that fits the table, and the run's answer is the rehearsal's.
 -- Assumes nothing.
 use mathlib.Core.Path.{_≡_, _∙_, refl, sym, ap}
 use mathlib.Core.Bool.{false}
@@ -99,7 +99,7 @@ module _ (s : Shape) (list : List ℕ) (gates conditional : ℕ) (tape wires boa
         let o = firstOf (ballotReasons s ballots) in
         sym (ap (λ (o : Option Reason). outcome o (printedOf s ballots)) (outcome-refused o (sizeOf (ownList s)) (reasonOf reason) (sym (e ∙ answers))))
 
-    -- the closing bytes on the board, whatever stands behind
+    -- the closing bytes on the board, whatever follows
     placed : (b rest : List ℕ) → b ≡ runResult s list ballots tape′ wires′ board′ .board → firstOf (ballotReasons s ballots) ≡ none
         → take (s .candidates) (drop (conditionalCount (ownList s)) (b ++ rest)) ≡ closingFor s ballots
     placed b rest e none-applies =
@@ -139,7 +139,7 @@ module _ (s : Shape) (list : List ℕ) (gates conditional : ℕ) (tape wires boa
         let long : length b ≡ conditionalCount (ownList s) + s .candidates = ap length (f ∙ ap (λ (l : List ℕ). runResult s l ballots tape′ wires′ board′ .board) (u .list-is)) ∙ p .0 in
         omega (arith, length-append b rest)
 
--- after an accepted write, the list's numbers and the buffers are what the run asks
+-- after an accepted write, the list and the buffers are what the run asks for
 module _ (s : Shape) (table tape wires board : List ℕ) (l : Buffers table tape wires board) (g c : ℕ) (e : outcomeOf (answer.Accepted g c) ≡ writeOutcome s table) where
   passed : WritePassed s table (record { gates = g; conditional = c })
   passed = unfold outcomeOf in (write-passed s table (record { gates = g; conditional = c }) (sym e))
@@ -192,7 +192,7 @@ pub by-the-limits : (input table : List ℕ) → withinLimits (shapeIn input) �
 unfolding outcomeOf reasonOf
 by-the-limits input table w = by-the-write input table (shapeIn input) refusal.Shape refl (sym (write-refused (shapeIn input) table (reasonAt 1 0) (outside (shapeIn input) table w) .0))
 
--- the ballots behind the first three bytes
+-- the ballots after the first three bytes
 pub no-ballots : (input : List ℕ) → length input < 3 → ballotsIn input ≡ []
 unfolding ballotsIn
 no-ballots input h = drop-of-length-le input {i = 3} (omega arith)

@@ -12,24 +12,24 @@ use Rattle.tally.specs.Write.{writeReasons}
 use Rattle.rehearsal.specs.declared.rehearse.Rehearsed.{Rehearsed}
 use Rattle.rehearsal.specs.declared.rehearse.Rehearsed.the-variants.{Winners, Refused}
 
--- The first three bytes are the shape, those behind them the ballots. A byte that is missing is 0.
+-- The first three bytes are the shape, the others the ballots. A missing byte is 0.
 unfoldable pub shapeIn : List ℕ → Shape
 shapeIn input = record { candidates = getD input 0 0; grades = getD input 1 0; ballots = getD input 2 0 }
 
 unfoldable pub ballotsIn : List ℕ → List ℕ
 ballotsIn input = drop 3 input
 
--- The list is written, then run: the reasons that concern writing come first. The list that was written passes its
--- test, and wire table, tape and board are cut to their lengths, so that only the ballots can turn the run away.
+-- The list is written, then run, so the reasons of writing come first. The own list passes its test, and tape, wire
+-- table and board are cut to their lengths, so only the ballots can have the run refused.
 unfoldable pub rehearsalReasons : List ℕ → List ℕ → List (Option Reason)
 rehearsalReasons input table = writeReasons (shapeIn input) table ++ ballotReasons (shapeIn input) (ballotsIn input)
 
--- What the program prints of an accepted jury: its shape and its closing bytes.
+-- What the program prints for an accepted jury: its shape and its closing bytes.
 pub record Printed : Type 0 where
   pub jury : Shape
   pub winners : List ℕ
 
--- The winners are the closing bytes, and these are what the rule of the shape's kind gives.
+-- The closing bytes, which are those of the rule of the shape's kind.
 unfoldable pub printedOf : Shape → List ℕ → Printed
 printedOf s ballots = record { jury = s; winners = closingFor s ballots }
 
@@ -37,8 +37,7 @@ unfoldable pub rehearsalOutcome : List ℕ → List ℕ → Outcome Printed
 rehearsalOutcome input table =
     outcome (firstOf (rehearsalReasons input table)) (printedOf (shapeIn input) (ballotsIn input))
 
--- What each case of the program's enum means, as a number with values: the k closing bytes stand on the board from a
--- place on.
+-- What each case of the program's enum means: the k closing bytes are on the board, from a place on.
 unfoldable pub outcomeOn : List ℕ → Rehearsed → Outcome Printed
 outcomeOn board (Winners s first) = accepted (record { jury = s; winners = take (s .candidates) (drop first board) })
 outcomeOn board (Refused r) = refused (reasonOf r)

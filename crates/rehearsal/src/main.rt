@@ -4,9 +4,7 @@ mod rehearse;
 use crate::rehearse::Rehearsed;
 use jury::shape::Shape;
 use libc::STDIN_FILENO;
-ghost use mathlib.Core.Path.{_≡_};
-ghost use lib.ListN.{length, replicate};
-ghost use Rattle.gates.specs.Board.{Bits};
+ghost use Rattle.rehearsal.specs.inner.Buffers.{Zeros, ZeroTape};
 
 fn print_jury(shape: Shape) {
     printing::print_text(b"jury");
@@ -17,32 +15,27 @@ fn print_jury(shape: Shape) {
 }
 
 fn table() -> [u32; 16000]
-    ensures { λ r. ⌜ 16000 ≡ length r ⌝ }
-    ensures { λ r. ⌜ r ≡ replicate 16000 0 ⌝ }
+    ensures { λ r. ⌜ Zeros 16000 r ⌝ }
 {
     [0u32; 16000]
 }
 
-// The table holds 4,000 gates, and each may be conditional.
+// One tape byte for each gate: the table holds 4,000, and each may be conditional.
 fn tape() -> [u8; 4000]
-    ensures { λ r. ⌜ 4000 ≡ length r ⌝ }
-    ensures { λ r. ⌜ r ≡ replicate 4000 0 ⌝ }
-    ensures { λ r. ⌜ Bits r ⌝ }
+    ensures { λ r. ⌜ ZeroTape 4000 r ⌝ }
 {
     [0u8; 4000]
 }
 
-// With the 16,320 ballot bytes of eight ranked candidates and 255 ballots they make 20,320 wires.
+// 4,000 gates, and the 16,320 ballot bytes of eight ranked candidates and 255 ballots.
 fn wires() -> [u8; 20320]
-    ensures { λ r. ⌜ 20320 ≡ length r ⌝ }
-    ensures { λ r. ⌜ r ≡ replicate 20320 0 ⌝ }
+    ensures { λ r. ⌜ Zeros 20320 r ⌝ }
 {
     [0u8; 20320]
 }
 
 fn board() -> [u8; 4008]
-    ensures { λ r. ⌜ 4008 ≡ length r ⌝ }
-    ensures { λ r. ⌜ r ≡ replicate 4008 0 ⌝ }
+    ensures { λ r. ⌜ Zeros 4008 r ⌝ }
 {
     [0u8; 4008]
 }

@@ -1,4 +1,4 @@
-// The rehearsal of a jury: its list is written and run on lent buffers.
+// The rehearsal of a jury: its own list is written, then run on lent buffers.
 use jury::reason::Refusal;
 use jury::shape::Shape;
 use jury::shape::ShapeResult;
@@ -17,7 +17,7 @@ pub enum Rehearsed {
     Refused(Refusal),
 }
 
-// A byte of the input, 0 where it is missing.
+// A byte of the input, 0 if it is missing.
 fn byte(input: &[u8], i: usize) -> usize
     ensures { λ r. ⌜ r ≡ getD (now (input .entry)) i 0 ⌝ }
 {
@@ -28,7 +28,7 @@ fn byte(input: &[u8], i: usize) -> usize
     }
 }
 
-// The shape that the first three bytes give, or that there is none within the limits.
+// The shape in the first three bytes, or that it is outside the limits.
 fn shape(input: &[u8]) -> ShapeResult
     ensures { λ r.
         ⌜ r ≡ cond (withinLimits (shapeIn (now (input .entry))))
@@ -37,7 +37,7 @@ fn shape(input: &[u8]) -> ShapeResult
     Shape::new(byte(input, 0), byte(input, 1), byte(input, 2))
 }
 
-// Runs the list that was written, on just its numbers, with tape, wire table and board cut to their lengths.
+// Runs the list that was written, with list, tape, wire table and board cut to their lengths.
 fn run_list(
     shape: Shape,
     list: &[u32],

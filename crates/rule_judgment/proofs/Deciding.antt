@@ -1,4 +1,4 @@
--- The tests by which two candidates are compared: each way through them, and what their answer says of the sequences.
+-- The tests that compare two candidates: each path through them, and what the answer says about the sequences.
 -- Assumes nothing.
 use mathlib.Core.Path.{_≡_, _∙_, sym}
 use mathlib.Core.Bool.{Bool, false}

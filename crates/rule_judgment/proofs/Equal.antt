@@ -1,4 +1,4 @@
--- Two rows of counts have equal sequences exactly where they are equal.
+-- Two rows of counts have equal sequences exactly if they are equal.
 -- Assumes nothing.
 use mathlib.Core.Path.{_≡_, _∙_, refl, sym, ap, subst}
 use mathlib.Core.Logic.{⊎-elim}
@@ -17,7 +17,7 @@ use Rattle.rule_judgment.proofs.Positions.{gradeAt, grade-below, grade-
 use Rattle.rule_judgment.proofs.Outward.{down, turn, turn-within, position-turn}
 use Rattle.rule_judgment.proofs.SumRule.{struckGrade, outward-of}
 
--- equal lists of values are of functions that agree
+-- equal lists of values come from functions that agree
 down-each : (n : ℕ) (f g : ℕ → ℕ) → down n f ≡ down n g → (m : ℕ) → 0 < m → m ≤ n → f m ≡ g m
 unfolding down
 down-each zero f g e m z l = absurd (omega arith)
@@ -26,7 +26,7 @@ down-each (suc n) f g e m z l =
     let rest : down n f ≡ down n g = cc in
     ⊎-elim (λ h. down-each n f g rest m z (omega arith)) (λ h. subst (λ (x : ℕ). f x ≡ g x) {x = suc n} {y = m} (omega arith) here) (below-or-not m (suc n))
 
--- equal grades at all positions are of equal running sums
+-- equal grades at all positions give equal running sums
 not-more : (n : ℕ) (a b : List ℕ) → sum a ≡ n → sum b ≡ n → ((p : ℕ) → 0 < p → p ≤ n → gradeAt a p ≡ gradeAt b p) → (t : ℕ) → running b t ≤ running a t
 not-more n a b ea eb same t = ⊎-elim more (λ l. l) (below-or-not (running a t) (running b t))
   where

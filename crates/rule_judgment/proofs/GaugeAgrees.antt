@@ -1,4 +1,4 @@
--- A candidate that beats another by the gauge has the earlier sequence, so the gauge's winner wins, alone.
+-- A candidate that beats another by the gauge has the earlier sequence, so the gauge's winner wins alone.
 -- Assumes nothing.
 use mathlib.Core.Path.{_≡_, _∙_}
 use mathlib.Core.Bool.{true, false}
@@ -42,7 +42,7 @@ module _ (n : ℕ) (a b : List ℕ) (al : Alike n a b) (some : 0 < n) where
         q-is-rest = q-is row (omega (arith, med .inside)) ∙ e;
       }
 
-  -- a larger p decides where a has p above q
+  -- a larger p decides if a has p above q
   by-p : (m : ℕ) → Halves a m → Halves b m → qOf a < pOf a → pOf b < pOf a → Precedes a b
   by-p m ha hb above larger = sum-rule n a b al m (record {
     larger = omega (arith, ha .p-is-running, hb .p-is-running);
@@ -50,7 +50,7 @@ module _ (n : ℕ) (a b : List ℕ) (al : Alike n a b) (some : 0 < n) where
     below = λ j l differs. omega (arith, hb .passed, running-grows b j m (omega arith));
   })
 
-  -- a smaller q decides where b has p below q
+  -- a smaller q decides if b has p below q
   by-q : (m : ℕ) → Halves a m → Halves b m → pOf b < qOf b → qOf a < qOf b → Precedes a b
   by-q m ha hb below smaller = sum-rule n a b al (suc m) (record {
     larger = omega (arith, ha .q-is-rest, hb .q-is-rest);

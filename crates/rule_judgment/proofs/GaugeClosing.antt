@@ -1,4 +1,4 @@
--- The closing bytes, place by place: a byte is 1 where its row beats every other row, and 0 where it does not.
+-- The closing bytes, place by place: 1 if the row beats every other row, else 0.
 -- Assumes nothing.
 use mathlib.Core.Path.{_≡_, _∙_, refl, sym, ap}
 use mathlib.Core.Bool.{Bool, true, false, cond, _&&_, and-false, true≢false}
@@ -15,11 +15,11 @@ use Rattle.basics.proofs.Cases.{same-or-not, below-or-not}
 use Rattle.basics.proofs.Flags.{and-both}
 use Rattle.rule_judgment.proofs.GaugeConditions.{beats-one-way}
 
--- Whether row i beats each other of these rows.
+-- Whether row i beats all other rows.
 unfoldable pub winsIn : List (List ℕ) → ℕ → Bool
 winsIn rows i = beatsAll (getD rows i []) (take i rows ++ drop (suc i) rows)
 
--- a beats all of these rows where it beats each
+-- a beats all of these rows if it beats each
 all-beaten : (a : List ℕ) (rows : List (List ℕ)) → ((m : ℕ) → m < length rows → beats a (getD rows m []) ≡ true) → beatsAll a rows ≡ true
 unfolding beatsAll
 all-beaten a [] h = refl
@@ -52,7 +52,7 @@ module _ (rows : List (List ℕ)) (i : ℕ) (h : i < length rows) where
       ∙ getD-drop (suc i) rows (m - i) []
       ∙ ap (λ (j : ℕ). getD rows j []) {x = suc i + (m - i)} {y = suc m} (omega arith)
 
-  -- row i wins where it beats every other row
+  -- row i wins if it beats every other row
   pub wins : ((j : ℕ) → j < length rows → j ≢ i → beats (getD rows i []) (getD rows j []) ≡ true) → winsIn rows i ≡ true
   unfolding winsIn
   wins beaten =
@@ -60,7 +60,7 @@ module _ (rows : List (List ℕ)) (i : ℕ) (h : i < length rows) where
       (λ m l. ⊎-elim (λ b. ap (beats (getD rows i [])) (other-before m b) ∙ beaten m (omega arith) (omega arith))
       (λ b. ap (beats (getD rows i [])) (other-after m b) ∙ beaten (suc m) (omega (arith, others-length)) (omega arith)) (below-or-not m i))
 
-  -- and does not win where one row is not beaten
+  -- and does not win if it fails to beat one
   pub wins-not : (j : ℕ) → j < length rows → j ≢ i → beats (getD rows i []) (getD rows j []) ≡ false → winsIn rows i ≡ false
   unfolding winsIn
   wins-not j l ne e = ⊎-elim earlier later (below-or-not j i)
@@ -108,7 +108,7 @@ closing-from-at earlier (a ∷ rows) (suc i) h =
     ∙ ap (λ (l : List (List ℕ)). cond {A = ℕ} (winsIn l (length (earlier ++ (a ∷ [])) + i)) 1 0) (append-snoc earlier a rows)
     ∙ ap (λ (n : ℕ). cond {A = ℕ} (winsIn (earlier ++ a ∷ rows) n) 1 0) {x = length (earlier ++ (a ∷ [])) + i} {y = length earlier + suc i} (omega (arith, length-append earlier (a ∷ [])))
 
--- closing byte i is 1 where row i wins, and 0 where it does not
+-- closing byte i is 1 if row i wins, else 0
 pub closing-at : (rows : List (List ℕ)) (i : ℕ) → i < length rows → getD (closingOf rows) i 0 ≡ cond (winsIn rows i) 1 0
 unfolding closingOf
 closing-at rows i h = closing-from-at [] rows i h ∙ ap (λ (n : ℕ). cond {A = ℕ} (winsIn rows n) 1 0) {x = 0 + i} {y = i} (omega arith)
@@ -128,12 +128,12 @@ module _ (rows : List (List ℕ)) (i : ℕ) (h : i < length rows) where
       go true f = f
       go false f = let z : _≡_ {A = ℕ} 0 1 = sym (closing-at rows i h ∙ ap (λ (t : Bool). cond {A = ℕ} t 1 0) f) ∙ e in absurd (omega arith)
 
-  -- a closing byte is 1 exactly where its row beats every other row
+  -- a closing byte is 1 exactly if its row beats every other row
   pub closing-one : (getD (closingOf rows) i 0 ≡ 1) ↔ BeatsOthers rows i
   closing-one =
       (λ e. winner-beats (one-wins e), λ beaten. closing-at rows i h ∙ ap (λ (t : Bool). cond {A = ℕ} t 1 0) (wins rows i h beaten))
 
--- a byte that is 1 stands at a row
+-- a byte that is 1 belongs to a row
 one-at-row : (rows : List (List ℕ)) (i : ℕ) → getD (closingOf rows) i 0 ≡ 1 → i < length rows
 one-at-row rows i e =
     ⊎-elim (λ l. l)
@@ -152,7 +152,7 @@ one-winner rows i j ei ej = ⊎-elim (λ e. e) (λ ne. absurd (both ne)) (same-o
         let back = closing-one rows j hj .0 ej i hi ne in
         true≢false (sym back ∙ beats-one-way (getD rows i []) (getD rows j []) forth)
 
--- a candidate without others wins
+-- a single candidate wins
 pub single-wins : (a : List ℕ) → closingOf (a ∷ []) ≡ 1 ∷ []
 unfolding closingOf closingFrom beatsAll
 single-wins a = refl

@@ -1,4 +1,5 @@
--- The four conditions of beating as facts about median grades, p and q: they exclude each other, and no two rows beat each other.
+-- The four conditions of beating as facts about medians, p and q: they exclude each other, and no two rows beat each
+-- other.
 -- Assumes nothing.
 use mathlib.Core.Path.{_≡_}
 use mathlib.Core.Bool.{true, false, _&&_, _||_}
@@ -59,7 +60,7 @@ module _ (a b : List ℕ) where
         ltb-true (qOf a) (qOf b) (and-second (equalMedians a b && ltb (pOf a) (qOf a) && ltb (pOf b) (qOf b)) (ltb (qOf a) (qOf b)) e),
       )
 
-  -- the test says one of the facts
+  -- if the test passes, one of the facts holds
   beats-holds : beats a b ≡ true → Beats a b
   unfolding beats
   beats-holds e =
@@ -75,7 +76,7 @@ module _ (a b : List ℕ) where
       (λ e₃. let f = smaller-fact e₃ in smaller-q (f .0) (f .1) (f .2) (f .3))
       (or-either (betterMedian a b || strongerMedian a b || largerP a b) (smallerQ a b) e)
 
-  -- and each of them passes the test
+  -- and back
   beats-passes : Beats a b → beats a b ≡ true
   unfolding beats betterMedian equalMedians strongerMedian largerP smallerQ
   beats-passes (better-median l) = simp (lt-ltb (medianOf a) (medianOf b) l)

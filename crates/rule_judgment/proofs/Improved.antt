@@ -1,4 +1,5 @@
--- A row whose running sums grow: its sequence stays or comes earlier, so that a winner still wins, and a sole winner wins alone.
+-- A row whose running sums grow has the same sequence or an earlier one; so a winner still wins, and a sole winner
+-- wins alone.
 -- Assumes nothing.
 use mathlib.Core.Path.{_≡_, _∙_, refl, sym, subst, subst₂}
 use mathlib.Core.Bool.{true, false, true≢false}
@@ -19,7 +20,7 @@ use Rattle.rule_judgment.proofs.Order.Compared.{first, equal, second}
 use Rattle.rule_judgment.proofs.SumRule.{struckGrade, outward-of}
 use Rattle.rule_judgment.proofs.Winners.{Unpreceded, byte-one, byte-zero, one-byte}
 
--- the same number of grades, and nowhere fewer among the t best
+-- as many grades, and for each t at least as many among the t best
 pub record Improved (row better : List ℕ) : Type 0 where
   pub sums : sum better ≡ sum row
   pub more : (t : ℕ) → running row t ≤ running better t
@@ -39,19 +40,19 @@ module _ (row better : List ℕ) (up : Improved row better) where
       (never-worse (sum row) (struckGrade (sum row) better) (struckGrade (sum row) row)
       (λ m z l. let w = position-within (sum row) m z l in grade-no-worse (position (sum row) m) (w .0) (w .1)))
 
-  -- what preceded the better one preceded the old one
+  -- what precedes the better row preceded the old one
   still-precedes : (xs : List ℕ) → precedes xs (sequenceOf better) ≡ true → precedes xs (sequenceOf row) ≡ true
   still-precedes xs p =
       ⊎-elim (λ q. precedes-trans xs (sequenceOf better) (sequenceOf row) p q)
       (λ e. subst (λ (ys : List ℕ). precedes xs ys ≡ true) e p) sequence-no-later
 
-  -- and what the old one preceded the better one precedes
+  -- and what the old row precedes, the better one does
   precedes-still : (xs : List ℕ) → precedes (sequenceOf row) xs ≡ true → precedes (sequenceOf better) xs ≡ true
   precedes-still xs p =
       ⊎-elim (λ q. precedes-trans (sequenceOf better) (sequenceOf row) xs q p)
       (λ e. subst (λ (ys : List ℕ). precedes ys xs ≡ true) (sym e) p) sequence-no-later
 
--- two matrices of counts that differ in row i alone, which is better in the second
+-- two matrices of counts that differ only in row i, which is better in the second
 pub record OneImproved (old new : List (List ℕ)) (i : ℕ) : Type 0 where
   pub size : length new ≡ length old
   pub candidate : i < length old
@@ -62,7 +63,7 @@ module _ (old new : List (List ℕ)) (i : ℕ) (up : OneImproved old new i) (win
   abbrev sequenceIn : List (List ℕ) → ℕ → List ℕ
   sequenceIn rows j = sequenceOf (getD rows j [])
 
-  -- a row that precedes the winner's now did so before
+  -- a row that now precedes the winner's did so before
   preceded-before : (j : ℕ) → j < length old → j ≢ i → precedes (sequenceIn new j) (sequenceIn new i) ≡ true → ⊥
   preceded-before j l ne p =
       true≢false
@@ -90,7 +91,7 @@ module _ (old new : List (List ℕ)) (i : ℕ) (up : OneImproved old new i) (win
           absurd (omega arith)
       go (second p) = absurd (true≢false (sym p ∙ unpreceded j l))
 
-  -- who lost to the winner still loses
+  -- whoever lost to the winner still loses
   pub still-loses : (j : ℕ) → j < length old → j ≢ i → getD (judgmentOf old) j 0 ≡ 0 → getD (judgmentOf new) j 0 ≡ 0
   still-loses j l ne loses =
       byte-zero new j (omega (arith, up .size)) i (omega (arith, up .size, up .candidate))

@@ -1,4 +1,5 @@
--- The first of the candidates seen so far that none of them precedes, and the closing bytes by comparing counts with a winner's.
+-- The first candidate that none of those seen so far precedes, and the closing bytes by comparing counts with a
+-- winner's.
 -- Assumes nothing.
 use mathlib.Core.Path.{_≡_, _∙_, sym, subst}
 use mathlib.Core.Bool.{true, false, true≢false}
@@ -38,7 +39,7 @@ module _ (rows : List (List ℕ)) where
   pub leads-start : Leads rows 0 1
   leads-start = below-more _ 0 (λ j l. absurd (omega arith)) (itself 0)
 
-  -- row c precedes the one that led
+  -- row c precedes the row that led
   pub leads-next : (i c : ℕ) → Leads rows i c → precedes (sequenceIn rows c) (sequenceIn rows i) ≡ true → Leads rows c (c + 1)
   leads-next i c leads p =
       below-more _ c (λ j l. never-true (precedes (sequenceIn rows j) (sequenceIn rows c)) (λ q. true≢false (sym (precedes-trans (sequenceIn rows j) (sequenceIn rows c) (sequenceIn rows i) q p) ∙ leads j l)))
@@ -48,7 +49,7 @@ module _ (rows : List (List ℕ)) where
   pub leads-still : (i c : ℕ) → Leads rows i c → precedes (sequenceIn rows c) (sequenceIn rows i) ≡ false → Leads rows i (c + 1)
   leads-still i c leads p = below-more _ c leads p
 
--- rows of n grades each, and a winner among them: who has its counts wins, and no one else
+-- rows of n grades each, and a winner among them: exactly those with the winner's counts win
 module _ (n : ℕ) (rows : List (List ℕ)) (each : EachGets n rows) (w : ℕ) (inside : w < length rows) (wins : getD (judgmentOf rows) w 0 ≡ 1) where
   pub same-wins : (c : ℕ) → c < length rows → sameCounts (getD rows c []) (getD rows w []) ≡ true → getD (judgmentOf rows) c 0 ≡ 1
   same-wins c l e =
@@ -65,7 +66,7 @@ module _ (n : ℕ) (rows : List (List ℕ)) (each : EachGets n rows) (w : ℕ) (
           absurd (true≢false (sym (same-passes (getD rows c []) (getD rows w []) (sym r)) ∙ e))
       go (second p) = absurd (true≢false (sym p ∙ one-byte rows w inside wins c l))
 
--- the eight bytes, of which those below k are closing bytes and the others 0
+-- the eight bytes: below k the closing bytes, then 0
 pub eight-judged : (rows : List (List ℕ)) → tabulate 8 (upTo (length rows) (λ j. getD (judgmentOf rows) j 0) (λ j. 0)) ≡ eightBytes (judgmentOf rows)
 eight-judged rows =
     ext-getD 0 (tabulate 8 closing) (eightBytes (judgmentOf rows)) (length-tabulate 8 closing ∙ sym (eight-length (judgmentOf rows)))

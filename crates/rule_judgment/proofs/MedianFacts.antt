@@ -1,4 +1,4 @@
--- The median grade in words [gauge]: the first one up to which, itself counted, there are half of all grades or more.
+-- The median grade in words [gauge]: the first grade such that at least half of all grades are as good or better.
 -- Assumes nothing.
 use mathlib.Core.Path.{_≡_, refl}
 use mathlib.Core.Bool.{Bool, true, false, cond}
@@ -57,7 +57,7 @@ median-reached row h =
     let r = reached-from row (sum row) 0 h (omega arith) in
     (r .0, omega (arith, r .1))
 
--- p, the count of the median grade and q are all the counts
+-- p, the count of the median grade, and q add up to all the counts
 sum-split : (row : List ℕ) (m : ℕ) → m < length row → sum (take m row) + getD row m 0 + sum (drop (suc m) row) ≡ sum row
 unfolding sum
 sum-split [] m h = absurd (omega arith)

@@ -1,4 +1,4 @@
--- Dictionary order: strict, total, and decided by the first difference.
+-- Lexicographic order: strict, total, and decided by the first difference.
 -- Assumes nothing.
 use mathlib.Core.Path.{_≡_, _∙_, refl, sym, subst}
 use mathlib.Core.Bool.{true, false, _&&_}
@@ -79,7 +79,7 @@ compared (x ∷ xs) (y ∷ ys) = ⊎-elim (λ l. first (precedes-here x y xs ys 
     go e (equal h) = equal (cc)
     go e (second h) = second (precedes-later y x ys xs (sym e) h)
 
--- f is better than g at some turn after m, turns being counted down from n
+-- f is better than g at some strike after m; strikes are counted down from n
 pub record Ahead (f g : ℕ → ℕ) (m n : ℕ) : Type 0 where
   pub at : ℕ
   pub past : m < at
@@ -92,7 +92,7 @@ ahead-sooner f g m n e a = record { at = a .at; past = a .past; within = ⊎-eli
     same : a .at ≡ suc n → a .at ≤ n
     same s = let l : f (suc n) < g (suc n) = subst (λ (i : ℕ). f i < g i) s (a .better) in absurd (omega arith)
 
--- f comes first where it is better at some turn, and at some earlier turn whenever it is worse
+-- f comes first if it is better at some strike, and wherever it is worse, it was better at an earlier one
 pub first-better : (n : ℕ) (f g : ℕ → ℕ) → Ahead f g 0 n → ((m : ℕ) → 0 < m → m ≤ n → g m < f m → Ahead f g m n) → precedes (down n f) (down n g) ≡ true
 unfolding down
 first-better zero f g a h = absurd (omega (arith, a .past, a .within))
@@ -103,7 +103,7 @@ first-better (suc n) f g a h =
     precedes-later (f (suc n)) (g (suc n)) (down n f) (down n g) e (first-better n f g (ahead-sooner f g 0 n e a) (λ i p q r. ahead-sooner f g i n e (h i p (omega arith) r))))
     (below-or-not (g (suc n)) (f (suc n)))) (below-or-not (f (suc n)) (g (suc n)))
 
--- the same at every turn
+-- the same at every strike
 pub down-same : (n : ℕ) (f g : ℕ → ℕ) → ((m : ℕ) → 0 < m → m ≤ n → f m ≡ g m) → down n f ≡ down n g
 unfolding down
 down-same zero f g h = refl
@@ -118,7 +118,7 @@ never-worse (suc n) f g h =
     (λ l. let e : f (suc n) ≡ g (suc n) = omega (arith, h (suc n) (omega arith) (omega arith)) in
     ⊎-elim (λ p. inl (precedes-later (f (suc n)) (g (suc n)) (down n f) (down n g) e p)) (λ p. inr (cc)) (never-worse n f g (λ m z p. h m z (omega arith)))) (below-or-not (f (suc n)) (g (suc n)))
 
--- the first turn at which f and g differ, f being better there
+-- the first strike at which f and g differ, where f is better
 pub record FirstBetter (f g : ℕ → ℕ) (n : ℕ) : Type 0 where
   pub at : ℕ
   pub some : 0 < at

@@ -1,4 +1,4 @@
--- Strikes go outward from the middle: the sequence of a row lists its grades at positions that depend on their number alone.
+-- Strikes go outward from the middle: the sequence of a row lists its grades at positions that depend only on n.
 -- Assumes nothing.
 use mathlib.Core.Path.{_≡_, _∙_, refl, sym, ap, subst, subst₂}
 use mathlib.Core.Bool.{Bool, true, false, cond}
@@ -18,7 +18,8 @@ use Rattle.rule_judgment.specs.Judgment.{strike, strikes, sequenceOf}
 use Rattle.rule_judgment.proofs.Statements.{running}
 use Rattle.rule_judgment.proofs.Positions.{gradeAt, Grade, grade-at, grade-one, Median, median-at}
 
--- the position that is struck when so many of n grades are left: the lower half's last where both halves are equal, else the upper half's first
+-- the position that is struck when `left` of n grades are left: the lower half's last if the halves are equal, else
+-- the upper half's first
 unfoldable pub position : ℕ → ℕ → ℕ
 position n left = cond (eqb (left % 2) 0) (left / 2) (n - left / 2)
 
@@ -27,7 +28,7 @@ unfoldable pub down : ℕ → (ℕ → ℕ) → List ℕ
 down zero f = []
 down (suc n) f = f (suc n) ∷ down n f
 
--- a strike takes one from the running sums that include its grade, and nothing from the others
+-- a strike takes 1 from the running sums that include its grade, and nothing from the others
 strike-before : (row : List ℕ) (g t : ℕ) → t ≤ g → running (strike g row) t ≡ running row t
 unfolding strike
 strike-before row g t l = ap sum (take-set-le t row g (getD row g 0 - 1) l)
@@ -43,26 +44,26 @@ strike-length : (row : List ℕ) (g : ℕ) → length (strike g row) ≡ length 
 unfolding strike
 strike-length row g = length-set row g (getD row g 0 - 1)
 
--- of a row, the grades at the positions up to `low` and past `high` are left in `rest`
+-- `rest` has the grades of a row at the positions up to `low` and above `high`
 record Remains (row : List ℕ) (low high : ℕ) (rest : List ℕ) : Type 0 where
   ordered : low ≤ high
   within : high ≤ sum row
   size : length rest ≡ length row
   sums : (t : ℕ) → running rest t ≡ min (running row t) low + (running row t - high)
 
--- so many are left
+-- how many are left
 remains-sum : (row : List ℕ) (low high : ℕ) (rest : List ℕ) → Remains row low high rest → sum rest ≡ low + (sum row - high)
 remains-sum row low high rest r =
     sym (running-whole rest (length row) (omega (arith, r .size)))
     ∙ r .sums (length row)
     ∙ omega (arith, running-whole row (length row) (omega arith), r .ordered, r .within)
 
--- what the median of the rest is, and what its strike leaves
+-- the median of the rest, and what is left after its strike
 record Struck (row : List ℕ) (p low high : ℕ) (rest : List ℕ) : Type 0 where
   median : medianOf rest ≡ gradeAt row p
   left : Remains row low high (strike (medianOf rest) rest)
 
--- a strike at position p leaves what the numbers say, where they change only for running sums that reach p
+-- a strike at position p changes only the running sums that reach p
 struck : (row : List ℕ) (p low high low′ high′ : ℕ) (rest : List ℕ) → Remains row low high rest → 0 < sum rest → 0 < p → p ≤ sum row
     → Grade row p (medianOf rest) → low′ ≤ high′ → high′ ≤ sum row
     → ((s : ℕ) → s < p → min s low + (s - high) ≡ min s low′ + (s - high′))
@@ -109,7 +110,7 @@ high-struck row low high rest r e =
     })
     (omega (arith, r .ordered)) (omega arith) (λ s l. omega arith) (λ s l. omega (arith, r .ordered))
 
--- how many are left below and above, with `left` of n grades left
+-- how many are left below and above when `left` of n grades are left
 abbrev lowOf : ℕ → ℕ
 lowOf left = left / 2
 
@@ -155,7 +156,7 @@ outward row =
     strikes-outward (sum row) row row (omega arith)
     (record { ordered = omega arith; within = omega arith; size = refl; sums = λ t. omega arith })
 
--- positions from 1 to n are struck, each once: p when so many grades are left
+-- each position from 1 to n is struck once: position p, when `turn n p` grades are left
 unfoldable pub turn : ℕ → ℕ → ℕ
 turn n p = cond (leb (2 * p) n) (2 * p) (suc (2 * (n - p)))
 
@@ -193,7 +194,7 @@ module _ (n p : ℕ) (l : 0 < p) (h : p ≤ n) where
       ⊎-elim (λ t. ⊎-elim (λ c. omega arith) (λ c. omega arith) (position-cases n (turn n p)))
       (λ t. ⊎-elim (λ c. omega arith) (λ c. omega arith) (position-cases n (turn n p))) (turn-cases n p)
 
--- of two positions the lower one is struck first where they add up to more than n, and the higher one where they do not
+-- the lower of two positions is struck first if they add up to more than n, else the higher
 pub lower-first : (n p q : ℕ) → p < q → q ≤ n → n < p + q → turn n q < turn n p
 lower-first n p q l h s = ⊎-elim (λ t. ⊎-elim (λ u. omega arith) (λ u. omega arith) (turn-cases n q)) (λ t. ⊎-elim (λ u. omega arith) (λ u. omega arith) (turn-cases n q)) (turn-cases n p)
 

@@ -21,7 +21,7 @@ unfoldable pub gradeAt : List ℕ → ℕ → ℕ
 gradeAt [] p = 0
 gradeAt (x ∷ xs) p = cond (leb p x) 0 (suc (gradeAt xs (p - x)))
 
--- it is the grade with which the running sum reaches p
+-- it is the grade at which the running sum reaches p
 pub record Grade (row : List ℕ) (p g : ℕ) : Type 0 where
   pub passed : running row g < p
   pub reached : p ≤ running row (suc g)
@@ -38,14 +38,14 @@ grade-at (x ∷ xs) p l h = go (leb p x) refl (grade-at xs (p - x))
         let g = ih (omega arith) (omega arith) in
         record { passed = omega (arith, g .passed); reached = omega (arith, g .reached) }
 
--- there is one such grade
+-- there is only one such grade
 pub grade-one : (row : List ℕ) (p g h : ℕ) → Grade row p g → Grade row p h → g ≡ h
 grade-one row p g h a b = ⊎-elim (λ l. absurd (apart g h a b l)) (λ l. ⊎-elim (λ m. absurd (apart h g b a m)) (λ m. omega arith) (below-or-not h g)) (below-or-not g h)
   where
     apart : (x y : ℕ) → Grade row p x → Grade row p y → x < y → ⊥
     apart x y u v l = omega (arith, u .reached, v .passed, running-grows row (suc x) y l)
 
--- the grade at p is among the t best where p is among the running sum's positions
+-- the grade at p is among the t best exactly if the running sum at t reaches p
 module _ (row : List ℕ) (p : ℕ) (l : 0 < p) (h : p ≤ sum row) (t : ℕ) where
   pub grade-below : p ≤ running row t → gradeAt row p < t
   grade-below r =
@@ -61,7 +61,7 @@ module _ (row : List ℕ) (p : ℕ) (l : 0 < p) (h : p ≤ sum row) (t : ℕ) wh
   pub grade-passed : t ≤ gradeAt row p → running row t < p
   grade-passed m = omega (arith, grade-at row p l h .passed, running-grows row t (gradeAt row p) m)
 
--- half of what is in a row is reached with its median, and not before
+-- the median is where half of the row's grades are reached
 pub record Median (row : List ℕ) (m : ℕ) : Type 0 where
   pub inside : m < length row
   pub passed : 2 * running row m < sum row

@@ -1,4 +1,4 @@
--- A raised grade makes the candidate's counts better and leaves the other counts alone, so nothing is lost by it.
+-- A raised grade improves the candidate's counts and leaves the others alone, so nothing is lost by it.
 -- Assumes nothing.
 use mathlib.Core.Path.{_≡_, _∙_, refl, sym, ap}
 use mathlib.Core.Logic.{_⊎_, inl, inr, ⊎-elim, _≢_}
@@ -28,7 +28,7 @@ use Rattle.basics.proofs.Arithmetic.{row-within}
 sum-grows : (t u : ℕ) (f : ℕ → ℕ) → t ≤ u → sum (tabulate t f) ≤ sum (tabulate u f)
 sum-grows t u f l = omega (arith, running-most (tabulate u f) t, ap sum (take-tabulate t u f l))
 
--- a single 1 that moves to an earlier entry makes no sum of first entries smaller
+-- moving a single 1 to an earlier entry makes no sum of first entries smaller
 earlier-one : (d from to : ℕ) (f h : ℕ → ℕ) → to < from → from < d → f from ≡ 1 → h to ≡ 1 → sum (tabulate d f) ≡ 1 → (t : ℕ) → t ≤ d → sum (tabulate t f) ≤ sum (tabulate t h)
 earlier-one d from to f h l m ef eh e t p = ⊎-elim past before (below-or-not from t)
   where
@@ -64,7 +64,7 @@ module _ (s : Shape) (candidate : ℕ) (old new : List ℕ) (r : Raised s candid
   new-step : (b c g : ℕ) → countUpTo s new (suc b) c g ≡ countUpTo s new b c g + newByte b c g
   new-step = count-step s new (r .new-accepted .bits)
 
-  -- a count of ballots that agree
+  -- ballots that agree have the same count
   same-count : (c g : ℕ) → c < s .candidates → g < s .grades → (b : ℕ) → b ≤ s .ballots → ((i : ℕ) → i < b → (i ≢ r .ballot) ⊎ (c ≢ candidate)) → countUpTo s new b c g ≡ countUpTo s old b c g
   unfolding countUpTo
   same-count c g hc hg zero h apart = refl

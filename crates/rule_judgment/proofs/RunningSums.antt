@@ -47,7 +47,7 @@ pub p-is : (row : List ℕ) → pOf row ≡ sum (take (medianOf row) row)
 unfolding pOf
 p-is row = refl
 
--- and q is what the sum with the median grade leaves of all
+-- and q is the rest after it
 pub q-is : (row : List ℕ) → 0 < length row → sum (take (suc (medianOf row)) row) + qOf row ≡ sum row
 q-is row h = omega (arith, running-next row (medianOf row), p-is row, p-median-q row h)
 

@@ -1,4 +1,4 @@
--- The test whether two rows of counts are the same: one step at a time, and what it says.
+-- Whether two rows of counts are the same: the test one step at a time, and what it says.
 -- Assumes nothing.
 use mathlib.Core.Path.{_≡_, _∙_, refl, ap}
 use mathlib.Core.Bool.{Bool, true, false, _&&_}
@@ -37,7 +37,7 @@ module _ (a b : List ℕ) (g d : ℕ) (ha : d ≤ length a) (hb : d ≤ length b
   same-end l =
       rw (drop-of-length-le (take d a) {i = g} (omega (arith, length-take d a)), drop-of-length-le (take d b) {i = g} (omega (arith, length-take d b)))
 
--- the test holds of equal rows, and of no others
+-- the test passes exactly for equal rows
 pub same-holds : (xs ys : List ℕ) → sameCounts xs ys ≡ true → xs ≡ ys
 unfolding sameCounts
 same-holds [] [] e = refl

@@ -1,4 +1,4 @@
--- What other crates rest on, stated over running sums: for two rows of counts, which sequence comes first.
+-- What other crates use, stated over running sums: which of two rows of counts has the earlier sequence.
 -- Assumes nothing.
 use mathlib.Core.Path.{_≡_}
 use mathlib.Core.Bool.{true}
@@ -9,7 +9,7 @@ use lib.ListN.{take}
 use Rattle.basics.specs.Lists.{sum}
 use Rattle.rule_judgment.specs.Judgment.{sequenceOf, precedes}
 
--- the number of a row's grades that are the t best ones
+-- how many of a row's grades are among the t best
 abbrev pub running : List ℕ → ℕ → ℕ
 running row t = sum (take t row)
 
@@ -32,11 +32,12 @@ pub record Decides (n : ℕ) (a b : List ℕ) (i : ℕ) : Type 0 where
 abbrev pub SumRule : Type 0
 SumRule = (n : ℕ) (a b : List ℕ) → Alike n a b → (i : ℕ) → Decides n a b i → Precedes a b
 
--- one row has half of its grades among the t best, the other has not
+-- the row with half of its grades among the t best comes before one that has fewer there
 abbrev pub HalfRule : Type 0
 HalfRule = (n : ℕ) (a b : List ℕ) → Alike n a b → (t : ℕ) → n ≤ 2 * running a t → 2 * running b t < n → Precedes a b
 
--- the same with less asked of the two: it is enough that the smaller row is below half at the lower one, and that the larger one is not at the upper one
+-- two thresholds around half: between them the rows agree; below the lower one they may differ only if they differ
+-- there too and one of them is below half there; above the upper one likewise
 pub record Bracket (n : ℕ) (a b : List ℕ) (lower upper : ℕ) : Type 0 where
   pub between : (t : ℕ) → lower < t → t < upper → running a t ≡ running b t
   pub lower-half : (t : ℕ) → t < lower → running a t ≢ running b t → ((2 * running a lower < n) ⊎ (2 * running b lower < n)) × (running a lower ≢ running b lower)
@@ -49,6 +50,6 @@ pub record TwoDecide (n : ℕ) (a b : List ℕ) (lower upper : ℕ) : Type 0 whe
   -- larger at one and not smaller at the other: first
   pub at-lower : running b lower < running a lower → running b upper ≤ running a upper → Precedes a b
   pub at-upper : running b upper < running a upper → running b lower ≤ running a lower → Precedes a b
-  -- opposite directions, the larger row at the lower threshold being a: the sum of its two running sums decides
+  -- each larger at one threshold, a at the lower one: the sum of a's two running sums decides
   pub lower-wins : running b lower < running a lower → running a upper < running b upper → n ≤ running a lower + running a upper → Precedes a b
   pub upper-wins : running b lower < running a lower → running a upper < running b upper → running a lower + running a upper < n → Precedes b a

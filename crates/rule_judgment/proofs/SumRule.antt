@@ -1,4 +1,4 @@
--- Which of two sequences comes first, from running sums alone: the sum rule.
+-- Which of two sequences comes first, from running sums only: the sum rule.
 -- Assumes nothing.
 use mathlib.Core.Path.{_≡_, _∙_, sym, subst, subst₂}
 use mathlib.Core.Bool.{true}
@@ -15,7 +15,7 @@ use Rattle.rule_judgment.proofs.Positions.{gradeAt, grade-at, grade-one
 use Rattle.rule_judgment.proofs.Outward.{down, position, turn, outward, position-within, turn-position, turn-within, position-turn, lower-first, higher-first}
 use Rattle.rule_judgment.proofs.Order.{Ahead, first-better, FirstBetter, down-same}
 
--- the grade struck when so many of n are left
+-- the grade that is struck when `left` of n are left
 abbrev pub struckGrade : ℕ → List ℕ → ℕ → ℕ
 struckGrade n row left = gradeAt row (position n left)
 
@@ -33,7 +33,7 @@ module _ (n : ℕ) (a b : List ℕ) (al : Alike n a b) where
       let inside : q ≤ n = omega (arith, running-most a i, al .sum-a) in
       omega (arith, grade-below a q (omega arith) (omega (arith, al .sum-a)) i h, grade-not-below b q (omega arith) (omega (arith, al .sum-b)) i l)
 
-  -- so it is ahead after every turn before that position's
+  -- so it is ahead after every strike before that position's
   ahead-at : (i q m : ℕ) → running b i < q → q ≤ running a i → m < turn n q → Ahead (struckGrade n a) (struckGrade n b) m n
   ahead-at i q m l h t =
       let inside : q ≤ n = omega (arith, running-most a i, al .sum-a) in
@@ -44,7 +44,7 @@ module _ (n : ℕ) (a b : List ℕ) (al : Alike n a b) where
         better = subst (λ (p : ℕ). gradeAt a p < gradeAt b p) (sym (position-turn n q (omega arith) inside)) (better-at i q l h);
       }
 
-  -- where b is better, at turn m, a was so at an earlier one
+  -- wherever b is better, at strike m, a was better at an earlier one
   ahead-before : (i : ℕ) → Decides n a b i → (m : ℕ) → 0 < m → m ≤ n → struckGrade n b m < struckGrade n a m → Ahead (struckGrade n a) (struckGrade n b) m n
   ahead-before i d m z h worse =
       ⊎-elim
@@ -94,7 +94,7 @@ sum-rule n a b al i d =
     (ahead-at n a b al i (running a i) 0 larger (omega arith) (turn-within n (running a i) (omega arith) (omega (arith, running-most a i, al .sum-a)) .0))
     (ahead-before n a b al i d))
 
--- the other way: the grade at the first difference tells the threshold
+-- the other way: the grade at the first difference gives the threshold
 module _ (n : ℕ) (a b : List ℕ) (al : Alike n a b) (d : FirstBetter (struckGrade n a) (struckGrade n b) n) where
   abbrev p : ℕ
   p = position n (d .at)

@@ -31,6 +31,6 @@ equal-exactly = equal-sequences
 pub each-gets : (s : Shape) (xs : List ℕ) → GradedBallots s xs → EachGets (s .ballots) (countsOf s xs)
 each-gets s xs a i l = counts-sum s xs a i (omega (arith, counts-length s xs))
 
--- as the array in which the program keeps their counts says it
+-- the same for the array in which the program keeps their counts
 pub array-gets : (s : Shape) (xs : List ℕ) → GradedBallots s xs → EachGets (s .ballots) (rowsIn (s .candidates) (s .grades) (countArray s xs))
 array-gets s xs a = rw (array-rows s xs (within s (a .within))) (each-gets s xs a)

@@ -10,7 +10,7 @@ use Rattle.rule_judgment.proofs.RunningSums.{running-grows}
 use Rattle.rule_judgment.proofs.Statements.{running, Precedes, Alike, Bracket, TwoDecide}
 use Rattle.rule_judgment.proofs.SumRule.{alike-back, sum-rule, same-sequence}
 
--- the thresholds may be read from either row
+-- the two rows may be exchanged
 pub bracket-back : (n : ℕ) (a b : List ℕ) (lower upper : ℕ) → Bracket n a b lower upper → Bracket n b a lower upper
 bracket-back n a b lower upper near = record {
   between = λ t l h. sym (near .between t l h);
@@ -19,11 +19,11 @@ bracket-back n a b lower upper near = record {
 }
 
 module _ (n : ℕ) (a b : List ℕ) (al : Alike n a b) (lower upper : ℕ) (near : Bracket n a b lower upper) where
-  -- where a and b differ is not between the two
+  -- a and b do not differ between the two
   outside : (t : ℕ) → running a t ≢ running b t → lower < t → upper ≤ t
   outside t ne l = ⊎-elim (λ h. absurd (ne (near .between t l h))) (λ h. h) (below-or-not t upper)
 
-  -- the lower one decides where a is larger there, and b is nowhere larger above, or the sum reaches n
+  -- the lower one decides if a is larger there, and b is nowhere larger above or the sum reaches n
   lower-decides : running b lower < running a lower → ((t : ℕ) → upper ≤ t → running a t < running b t → n ≤ running a lower + running a t) → Precedes a b
   lower-decides larger over = sum-rule n a b al lower (record {
     larger = larger;

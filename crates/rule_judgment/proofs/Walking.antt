@@ -1,4 +1,4 @@
--- One walk over the running sums of two rows, best grade first, up to the first difference at which half is reached.
+-- The walk over the running sums of two rows, best grade first, up to the first difference at or above half.
 -- Assumes nothing.
 use mathlib.Core.Path.{_≡_, _∙_, sym, subst}
 use mathlib.Core.Bool.{true, false, _||_}
@@ -20,7 +20,8 @@ use Rattle.rule_judgment.specs.inner.Decision.{halfReached, decidedBy}
 use Rattle.rule_judgment.proofs.Statements.{running, Alike, Bracket}
 use Rattle.rule_judgment.proofs.Deciding.{At, decided-right, neither-larger, first-not-smaller, second-not-smaller}
 
--- the first g grades walked: `lower` are the sums at their last difference, where half is not reached, and `sums` those so far
+-- after the first g grades: `lower` has the sums at the last difference, which is below half, and `sums` the sums so
+-- far
 pub record Walk (n : ℕ) (a b : List ℕ) (lower sums : Sums) (g : ℕ) : Type 0 where
   pub low : ℕ
   pub lower-at : At a b low lower
@@ -65,7 +66,7 @@ module _ (n : ℕ) (a b : List ℕ) (al : Alike n a b) where
       since = λ t l h. ⊎-elim (λ k. w .since t l (omega arith)) (λ k. subst (λ (x : ℕ). running a x ≡ running b x) {x = suc g} {y = t} (omega arith) (sym (s .first) ∙ e ∙ s .second)) (below-or-not t (suc g));
     }
 
-    -- a difference at which half is not reached
+    -- a difference below half
     pub walk-differs : next .a ≢ next .b → halfReached n next ≡ false → Walk n a b next next (suc g)
     unfolding halfReached
     walk-differs ne h = record {
@@ -82,7 +83,7 @@ module _ (n : ℕ) (a b : List ℕ) (al : Alike n a b) where
         under : (x : ℕ) → (leb n (2 * x) ≡ true → (leb n (2 * next .a) || leb n (2 * next .b)) ≡ true) → 2 * x < n
         under x f = leb-false n (2 * x) (never-true (leb n (2 * x)) (λ e. let z : true ≡ false = sym (f e) ∙ h in let o : _≡_ {A = ℕ} 0 1 = cc in omega arith))
 
-    -- a difference at which half is reached decides
+    -- a difference at or above half decides
     pub walk-decides : next .a ≢ next .b → halfReached n next ≡ true → decidedBy n lower next ≡ precedes (sequenceOf a) (sequenceOf b)
     unfolding halfReached
     walk-decides ne h = decided-right n a b al (w .low) (suc g) near lower next (w .lower-at) s
@@ -94,7 +95,7 @@ module _ (n : ℕ) (a b : List ℕ) (al : Alike n a b) where
           upper-half = λ t l d. (⊎-elim (λ e. inl (omega (arith, s .first, leb-true n (2 * next .a) e))) (λ e. inr (omega (arith, s .second, leb-true n (2 * next .b) e))) (or-either (leb n (2 * next .a)) (leb n (2 * next .b)) h), λ e. ne (s .first ∙ e ∙ sym (s .second)));
         }
 
-  -- no difference at which half is reached: the last one decides
+  -- if there is none, the last difference decides
   pub walk-ends : (lower sums : Sums) (g : ℕ) → Walk n a b lower sums g → length a ≤ g → length b ≤ g → ltb (lower .b) (lower .a) ≡ precedes (sequenceOf a) (sequenceOf b)
   walk-ends lower sums g w la lb = answer ∙ decided-right n a b al (w .low) g near lower sums (w .lower-at) (w .sums-at)
     where
@@ -128,6 +129,6 @@ sums-next a b d g sums next l s ea eb = record {
   second = omega (arith, s .second, running-next (take d b) g, getD-take d b g 0 l);
 }
 
--- and they stay within the number of grades
+-- which are at most the number of grades
 pub sum-room : (row : List ℕ) (d g s : ℕ) → g < d → s ≡ running (take d row) g → s + getD row g 0 ≤ sum (take d row)
 sum-room row d g s l e = omega (arith, running-next (take d row) g, getD-take d row g 0 l, running-most (take d row) (suc g))

@@ -51,11 +51,11 @@ module _ (rows : List (List ℕ)) (i : ℕ) (h : i < length rows) where
   unfolding judgmentOf
   byte-is = getD-mapped (λ (row : List ℕ). cond {A = ℕ} (nonePrecedes (map sequenceOf rows) (sequenceOf row)) 1 0) rows i [] 0 h
 
-  -- the byte is 1 where no row's sequence precedes that of row i
+  -- the byte is 1 if no row's sequence precedes that of row i
   pub byte-one : Unpreceded rows i → getD (judgmentOf rows) i 0 ≡ 1
   byte-one u = byte-is ∙ ap (λ (t : Bool). cond {A = ℕ} t 1 0) (none-before rows own u)
 
-  -- and 0 where one does
+  -- and 0 if one does
   pub byte-zero : (j : ℕ) → j < length rows → precedes (sequenceOf (getD rows j [])) own ≡ true → getD (judgmentOf rows) i 0 ≡ 0
   byte-zero j l p = byte-is ∙ ap (λ (t : Bool). cond {A = ℕ} t 1 0) (one-before rows own j l p)
 
@@ -69,7 +69,7 @@ module _ (rows : List (List ℕ)) (i : ℕ) (h : i < length rows) where
       ∙ ap (λ (t : Bool). cond {A = ℕ} t 1 0)
       (never-true (nonePrecedes (map sequenceOf rows) own) (λ e. never (byte-is ∙ ap (λ (t : Bool). cond {A = ℕ} t 1 0) e)))
 
--- a row that none precedes, among the rows from the first on
+-- one of the rows that none precedes
 record Least (rows : List (List ℕ)) : Type 0 where
   at : ℕ
   inside : at < length rows

@@ -1,5 +1,5 @@
--- The majority gauge [gauge], over grade counts of any size. Full majority judgment has replaced it (request 2.1);
--- it is kept for the theorem that its winner, where there is one, wins alone.
+-- The majority gauge [gauge], over grade counts of any size. Full majority judgment has replaced it (request 2.1). It
+-- is kept for the theorem that its winner, if there is one, wins alone.
 use mathlib.Core.Bool.{Bool, true, cond, _&&_, _||_}
 use mathlib.Core.List.{List, [], _∷_, _++_}
 use Prim.Native.Nat.{ℕ, suc, _+_}
@@ -34,7 +34,7 @@ largerP a b = equalMedians a b && ltb (qOf a) (pOf a) && ltb (qOf b) (pOf b) && 
 unfoldable pub smallerQ : List ℕ → List ℕ → Bool
 smallerQ a b = equalMedians a b && ltb (pOf a) (qOf a) && ltb (pOf b) (qOf b) && ltb (qOf a) (qOf b)
 
--- To beat another row is to meet one of the four conditions.
+-- A row beats another by one of the four conditions.
 unfoldable pub beats : List ℕ → List ℕ → Bool
 beats a b = betterMedian a b || strongerMedian a b || largerP a b || smallerQ a b
 
@@ -43,8 +43,8 @@ unfoldable pub beatsAll : List ℕ → List (List ℕ) → Bool
 beatsAll a [] = true
 beatsAll a (b ∷ others) = beats a b && beatsAll a others
 
--- A closing byte is 1 for a candidate that beats all others, so for a candidate without others too, and else 0;
--- `earlier` are the candidates before these.
+-- A closing byte is 1 for a candidate that beats all others, and so for a single candidate; else 0. `earlier` are the
+-- candidates before these.
 unfoldable pub closingFrom : List (List ℕ) → List (List ℕ) → List ℕ
 closingFrom earlier [] = []
 closingFrom earlier (a ∷ later) = cond (beatsAll a (earlier ++ later)) 1 0 ∷ closingFrom (earlier ++ (a ∷ [])) later

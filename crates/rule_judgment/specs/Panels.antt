@@ -1,5 +1,5 @@
--- The panels P1 to P11, whose counts stand with the gauge, and their closing bytes by full majority judgment. P3,
--- P9 and P11 have no winner by the gauge; the others keep theirs.
+-- The panels P1 to P11 with their closing bytes by full majority judgment. P3, P9 and P11 have no winner by the
+-- gauge; the others keep theirs.
 use mathlib.Core.Path.{_≡_, refl}
 use mathlib.Core.List.{List, [], _∷_, map}
 use Prim.Native.Nat.{ℕ}

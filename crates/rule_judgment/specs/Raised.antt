@@ -9,8 +9,7 @@ use Rattle.jury.specs.Counts.{byteOf, countsOf}
 use Rattle.jury.specs.Accepted.{GradedBallots}
 use Rattle.rule_judgment.specs.Judgment.{judgmentOf}
 
--- Two accepted sets of ballots that agree in every row but one, where the second gives the candidate a grade that
--- is better by one or more.
+-- Two accepted sets of ballots that differ in one row only, where the second gives the candidate a better grade.
 pub record Raised (s : Shape) (candidate : ℕ) (old new : List ℕ) : Type 0 where
   pub old-accepted : GradedBallots s old
   pub new-accepted : GradedBallots s new
@@ -26,7 +25,7 @@ pub record Raised (s : Shape) (candidate : ℕ) (old new : List ℕ) : Type 0 wh
   pub others : (b c g : ℕ) → b < s .ballots → c < s .candidates → g < s .grades → (b ≢ ballot) ⊎ (c ≢ candidate)
       → byteOf s new b c g ≡ byteOf s old b c g
 
--- Several grades of one candidate raised, by one juror or by several, one after another; none at all is among them.
+-- Any number of the candidate's grades raised, by one juror or by several, one after another.
 pub data RaisedOften (s : Shape) (candidate : ℕ) : List ℕ → List ℕ → Type 0 where
   unchanged : {xs : List ℕ} → RaisedOften s candidate xs xs
   once-more : {xs ys zs : List ℕ} → RaisedOften s candidate xs ys → Raised s candidate ys zs
@@ -36,12 +35,12 @@ pub data RaisedOften (s : Shape) (candidate : ℕ) : List ℕ → List ℕ → T
 abbrev pub byteFor : Shape → List ℕ → ℕ → ℕ
 byteFor s xs c = getD (judgmentOf (countsOf s xs)) c 0
 
--- What raised grades of a winner leave as it is: the winner still wins, and who did not win before does not win now.
+-- After raising grades of a winner, it still wins, and no candidate wins that did not win before.
 pub record NothingLost (s : Shape) (candidate : ℕ) (old new : List ℕ) : Type 0 where
   pub still-wins : byteFor s new candidate ≡ 1
   pub no-new-winner : (c : ℕ) → c < s .candidates → byteFor s old c ≡ 0 → byteFor s new c ≡ 0
 
--- A candidate that wins, and no other does.
+-- The candidate wins, and no other does.
 pub record WinsAlone (s : Shape) (candidate : ℕ) (xs : List ℕ) : Type 0 where
   pub wins : byteFor s xs candidate ≡ 1
   pub alone : (c : ℕ) → c < s .candidates → c ≢ candidate → byteFor s xs c ≡ 0

@@ -1,4 +1,4 @@
--- What holds of full majority judgment, as statements; proofs/Theorems.antt has a proof of each.
+-- What holds for full majority judgment, as statements; proofs/Theorems.antt has a proof of each.
 use mathlib.Core.Path.{_≡_}
 use mathlib.Core.Logic.{_↔_, _≢_}
 use mathlib.Core.List.{List, []}
@@ -13,7 +13,7 @@ use Rattle.rule_judgment.specs.Winner.{Wins}
 abbrev pub EachGets : ℕ → List (List ℕ) → Type 0
 EachGets n rows = (i : ℕ) → i < length rows → sum (getD rows i []) ≡ n
 
--- A closing byte is 1 exactly for a winner, and 0 for any other candidate.
+-- A closing byte is 1 exactly for a winner, else 0.
 pub record ByteSays (rows : List (List ℕ)) (i : ℕ) : Type 0 where
   pub one : (getD (judgmentOf rows) i 0 ≡ 1) ↔ Wins rows i
   pub zero : (getD (judgmentOf rows) i 0 ≡ 0) ↔ (¬ Wins rows i)
@@ -30,7 +30,7 @@ pub record SomeWinner (rows : List (List ℕ)) : Type 0 where
 abbrev pub SomebodyWins : Type 0
 SomebodyWins = (rows : List (List ℕ)) → 0 < length rows → SomeWinner rows
 
--- Where the gauge names a winner, full majority judgment names that one, and nobody else.
+-- If the gauge names a winner, full majority judgment names that one and nobody else.
 pub record NamedAlone (rows : List (List ℕ)) (i : ℕ) : Type 0 where
   pub wins : getD (judgmentOf rows) i 0 ≡ 1
   pub alone : (j : ℕ) → j < length rows → j ≢ i → getD (judgmentOf rows) j 0 ≡ 0
@@ -40,7 +40,7 @@ GaugeKept =
     (n : ℕ) (rows : List (List ℕ)) → 1 ≤ n → EachGets n rows → (i : ℕ) → getD (closingOf rows) i 0 ≡ 1
     → NamedAlone rows i
 
--- Two candidates have equal sequences, and so win together if one of them does, exactly where all their counts are
+-- Two candidates have equal sequences, and so win together if one of them wins, exactly if all their counts are
 -- equal.
 abbrev pub EqualSequences : Type 0
 EqualSequences = (a b : List ℕ) → length a ≡ length b → sum a ≡ sum b → (sequenceOf a ≡ sequenceOf b) ↔ (a ≡ b)

@@ -1,30 +1,25 @@
-// Full majority judgment on the matrix of grade counts, without striking grade after grade: of two candidates, the
-// running sums at two grades tell whose sequence comes first, and equal sequences are of equal counts.
+// Full majority judgment on the matrix of grade counts, without striking grade after grade: the running sums of two
+// candidates at two grades tell whose sequence comes first, and equal sequences have equal counts.
 use jury::shape::Shape;
 ghost use mathlib.Core.Path.{_≡_};
-ghost use Prim.Native.Nat.{ℕ, _≤_, _<_};
+ghost use Prim.Native.Nat.{_≤_};
 ghost use mathlib.Core.List.{[]};
-ghost use lib.Dec.{T};
-ghost use lib.ListN.{length, take, getD};
-ghost use Rattle.jury.specs.Shape.{gradedLimits};
-ghost use Rattle.basics.specs.Lists.{sum};
+ghost use lib.ListN.{take, getD};
 ghost use Rattle.jury.specs.ClosingBytes.{eightBytes};
 ghost use Rattle.jury.specs.inner.Counts.{rowsIn};
 ghost use Rattle.rule_judgment.specs.Judgment.{sequenceOf, precedes, judgmentOf};
-ghost use Rattle.rule_judgment.specs.Theorems.{EachGets};
-ghost use Rattle.rule_judgment.specs.inner.Decision.{sameCounts, halfReached, decidedBy};
+ghost use Rattle.rule_judgment.specs.inner.Decision.{halfReached, decidedBy};
+ghost use Rattle.rule_judgment.specs.inner.Ready.{WinnersReady, FirstReady, Wins, RowsReady, Compared, SumsReady};
 
-// How many grades of two candidates are among the best, up to one grade.
+// Running sums of two candidates: how many of their grades are at least as good as some grade.
 pub struct Sums {
     pub a: usize,
     pub b: usize,
 }
 
-// The closing bytes: 1 for each candidate whose sequence comes first, 0 for any other and from place k on.
+// The closing bytes: 1 for each candidate with the first sequence, 0 for the others and from place k on.
 pub fn winners(shape: Shape, counts: [[u16; 7]; 8]) -> [u8; 8]
-    requires { ⌜ T (gradedLimits shape) ⌝ }
-    requires { ⌜ EachGets (shape .ballots) (rowsIn (shape .candidates) (shape .grades) counts) ⌝ }
-    requires { ⌜ ((i : ℕ) → i < 8 → length (getD counts i []) ≡ 7) ⌝ }
+    requires { ⌜ WinnersReady shape counts ⌝ }
     ensures { λ r. ⌜ r ≡ eightBytes (judgmentOf (rowsIn (shape .candidates) (shape .grades) counts)) ⌝ }
 {
     let k = shape.candidates;
@@ -41,11 +36,10 @@ pub fn winners(shape: Shape, counts: [[u16; 7]; 8]) -> [u8; 8]
     closing
 }
 
-// A candidate whose sequence no other one precedes.
+// A candidate whose sequence no other sequence precedes.
 fn first_winner(counts: [[u16; 7]; 8], k: usize, d: usize, n: usize) -> usize
-    requires { ⌜ (0 < k) × (k ≤ 8) × (d ≤ 7) × (0 < n) × (n ≤ 255) ⌝ }
-    requires { ⌜ EachGets n (rowsIn k d counts) ⌝ }
-    ensures { λ r. ⌜ (r < k) × (getD (judgmentOf (rowsIn k d counts)) r 0 ≡ 1) ⌝ }
+    requires { ⌜ FirstReady counts k d n ⌝ }
+    ensures { λ r. ⌜ Wins counts k d r ⌝ }
 {
     let mut first = 0;
     let mut c = 1;
@@ -58,15 +52,12 @@ fn first_winner(counts: [[u16; 7]; 8], k: usize, d: usize, n: usize) -> usize
     first
 }
 
-// Whether candidates a and b have the same counts. The matrix is lent: a row
-// that is copied right after its numbers were stored makes the processor wait for it.
+// Whether candidates a and b have the same counts. The matrix is lent: the processor would wait for the copy of a row
+// whose numbers were just stored.
 fn same_counts(counts: &[[u16; 7]; 8], a: usize, b: usize, d: usize) -> bool
-    requires { ⌜ (a < 8) × (b < 8) × (d ≤ 7) ⌝ }
-    requires { ⌜ (length (getD (now counts) a []) ≡ 7) × (length (getD (now counts) b []) ≡ 7) ⌝ }
+    requires { ⌜ RowsReady (now counts) a b d ⌝ }
     ensures { λ r. ⌜
-        (r ≡ sameCounts (take d (getD (now (counts .entry)) a [])) (take d (getD (now (counts .entry)) b [])))
-        × (length (take d (getD (now (counts .entry)) a [])) ≡ d)
-        × (length (take d (getD (now (counts .entry)) b [])) ≡ d)
+        Compared (take d (getD (now (counts .entry)) a [])) (take d (getD (now (counts .entry)) b [])) d r
         ⌝ }
 {
     let mut g = 0;
@@ -79,10 +70,9 @@ fn same_counts(counts: &[[u16; 7]; 8], a: usize, b: usize, d: usize) -> bool
     true
 }
 
-// Whether the sequence of candidate a comes before that of b, each of them having n grades.
+// Whether the sequence of candidate a comes before that of b. Both have n grades.
 fn comes_before(counts: &[[u16; 7]; 8], a: usize, b: usize, d: usize, n: usize) -> bool
-    requires { ⌜ (a < 8) × (b < 8) × (d ≤ 7) × (0 < n) × (n ≤ 255) ⌝ }
-    requires { ⌜ (sum (take d (getD (now counts) a [])) ≡ n) × (sum (take d (getD (now counts) b [])) ≡ n) ⌝ }
+    requires { ⌜ SumsReady (now counts) a b d n ⌝ }
     ensures { λ r. ⌜
         r ≡ precedes (sequenceOf (take d (getD (now (counts .entry)) a [])))
         (sequenceOf (take d (getD (now (counts .entry)) b [])))
@@ -107,7 +97,7 @@ fn comes_before(counts: &[[u16; 7]; 8], a: usize, b: usize, d: usize, n: usize) 
     lower.b < lower.a
 }
 
-// Whether one of two candidates has half of its n grades among the best so far.
+// Whether the sum of one of the two is at least half of n.
 fn half_reached(n: usize, sums: Sums) -> bool
     requires { ⌜ (sums .a ≤ 255) × (sums .b ≤ 255) ⌝ }
     ensures { λ r. ⌜ r ≡ halfReached n sums ⌝ }
@@ -115,7 +105,8 @@ fn half_reached(n: usize, sums: Sums) -> bool
     n <= 2 * sums.a || n <= 2 * sums.b
 }
 
-// Whether a comes before b, by the nearest differences below and above half.
+// Whether a comes before b, by their sums at the last grade below half where they differ, and at the first from half
+// on.
 fn decided(n: usize, lower: Sums, upper: Sums) -> bool
     requires { ⌜ (lower .a ≤ 255) × (lower .b ≤ 255) × (upper .a ≤ 255) × (upper .b ≤ 255) ⌝ }
     ensures { λ r. ⌜ r ≡ decidedBy n lower upper ⌝ }

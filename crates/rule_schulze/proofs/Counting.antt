@@ -28,7 +28,7 @@ unfolding every
 every-same f g [] h = refl
 every-same f g (x ∷ xs) h = cc (h x (List·Memᴰ·head refl), every-same f g xs (λ y m. h y (List·Memᴰ·tail m)))
 
--- whether i is unbeaten depends on the strengths between each two of the k candidates alone
+-- whether i is unbeaten depends only on the strengths between the k candidates
 unbeaten-same : (k : ℕ) (p q : ℕ → ℕ → ℕ) (i : ℕ) → i < k → AgreePairs k p q →
     every (λ j. eqb j i || leb (p j i) (p i j)) (candidates k) ≡ every (λ j. eqb j i || leb (q j i) (q i j)) (candidates k)
 unbeaten-same k p q i h a = every-same (λ j. eqb j i || leb (p j i) (p i j)) (λ j. eqb j i || leb (q j i) (q i j)) (candidates k) (λ j m. ⊎-elim (same j) (other j (of-candidates k m)) (same-or-not j i))
@@ -39,7 +39,7 @@ unbeaten-same k p q i h a = every-same (λ j. eqb j i || leb (p j i) (p i j)) (�
     other : (j : ℕ) → j < k → j ≢ i → (eqb j i || leb (p j i) (p i j)) ≡ (eqb j i || leb (q j i) (q i j))
     other j l n = rw (a j i l h n, a i j h l (λ e. n (sym e)))
 
--- strengths of links between each two of the k candidates give those of the strongest paths
+-- strengths of links that agree between the k candidates give strongest paths that agree
 pub strongest-agree : (k : ℕ) (s t : ℕ → ℕ → ℕ) → AgreePairs k s t → AgreePairs k (strongest s k) (strongest t k)
 strongest-agree k s t a i j hi hj ne =
     sym (closure-strongest s k i j ne) ∙ closure-agree k k s t (omega arith) a i j hi hj ne ∙ closure-strongest t k i j ne
@@ -48,14 +48,14 @@ link-agree : (k : ℕ) (v w : ℕ → ℕ → ℕ) → ((i j : ℕ) → i < k �
 unfolding link
 link-agree k v w h i j hi hj ne = rw (h i j hi hj, h j i hj hi)
 
--- the closing bytes depend on the numbers of each two of the k candidates alone
+-- the closing bytes depend only on the votes between the k candidates
 pub closing-agree : (k : ℕ) (v w : ℕ → ℕ → ℕ) → ((i j : ℕ) → i < k → j < k → v i j ≡ w i j) → closingBytes v k ≡ closingBytes w k
 unfolding closingBytes wins
 closing-agree k v w h =
     tabulate-cong k (λ i. cond (wins v k i) 1 0) (λ i. cond (wins w k i) 1 0)
     (λ i l. ap (λ (t : Bool). cond {A = ℕ} t 1 0) (unbeaten-same k (strongest (link v) k) (strongest (link w) k) i l (strongest-agree k (link v) (link w) (link-agree k v w h))))
 
--- the table that the detours leave names the rule's winners
+-- the table after all detours names the rule's winners
 pub table-wins : (k : ℕ) (v : ℕ → ℕ → ℕ) (links paths : List (List ℕ)) → Holds k links (link v) → HoldsPairs k paths (closure k (entry links)) → (i : ℕ) → i < k → unbeatenIn paths k i ≡ wins v k i
 unfolding unbeatenIn wins
 table-wins k v links paths hl hp i h =
@@ -63,7 +63,7 @@ table-wins k v links paths hl hp i h =
     (λ a b ha hb ne.
     hp a b ha hb ne ∙ closure-agree k k (entry links) (link v) (omega arith) (λ c d hc hd n. hl c d hc hd) a b ha hb ne ∙ closure-strongest (link v) k a b ne)
 
--- eight bytes of which the first k are a table's, and the others 0
+-- eight bytes: the first k are a table's, the others 0
 pub eight-table : (k : ℕ) (f : ℕ → ℕ) → tabulate 8 (upTo k f (λ j. 0)) ≡ eightBytes (tabulate k f)
 eight-table k f =
     ext-getD 0 (tabulate 8 bytes) (eightBytes (tabulate k f)) (length-tabulate 8 bytes ∙ sym (eight-length (tabulate k f)))

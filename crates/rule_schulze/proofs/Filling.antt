@@ -1,4 +1,5 @@
--- Loops that put one number a turn into a row, or one row a turn into a table: what stands below i is right, and a turn adds what stands at i.
+-- Loops that put one number a turn into a row, or one row a turn into a table: the entries below i are right, and a
+-- turn adds entry i.
 -- Assumes nothing.
 use mathlib.Core.Path.{_≡_, _∙_, ap}
 use mathlib.Core.Logic.{⊎-elim, _≢_}

@@ -1,4 +1,4 @@
--- Who beats whom without the detour over the last candidate: six strengths of the table before it tell.
+-- Who beats whom without the detour over the last candidate: six strengths of the table before it are enough.
 -- Assumes nothing.
 use mathlib.Core.Path.{_≡_, _∙_, refl, sym}
 use mathlib.Core.Bool.{_||_}
@@ -14,19 +14,19 @@ use Rattle.rule_schulze.specs.Closure.{detour, closure}
 use Rattle.rule_schulze.proofs.Paths.{detour-more, detour-over, closure-strongest, through}
 use Rattle.rule_schulze.proofs.Tables.{detour-stays}
 
--- j beats i, who is not beaten by the last candidate l: a, b are the strengths from i to j and back, α, β those from i to l
--- and back, α′, β′ those from j to l and back.
+-- j beats i, and the last candidate l does not beat i. a, b are the strengths from i to j and back, α, β those from i
+-- to l and back, α′, β′ those from j to l and back.
 abbrev pub BeatsBySix : ℕ → ℕ → ℕ → ℕ → ℕ → Type 0
 BeatsBySix a b β α′ β′ = ((β′ < β) × (β′ < α′)) ⊎ ((β ≤ β′) × (a < b) × (β < b))
 
--- of two numbers, the smaller of which is small, the other one is where the first is not
+-- if the smaller of two numbers is at most z and one of them is not, the other is
 other-small : (x y z : ℕ) → min x y ≤ z → z < x → y ≤ z
 other-small x y z h l = omega arith
 
 first-small : (x y z : ℕ) → min x y ≤ z → z < y → x ≤ z
 first-small x y z h l = omega arith
 
--- the strengths a and b with the ways over l, whose parts are α, β′ and α′, β
+-- the strengths a and b with the paths over l, whose parts are α, β′ and α′, β
 nearer-beats : (a b α β α′ β′ : ℕ) → a ≤ β′ → β′ < β → β′ < α′ → max a (min α β′) < max b (min α′ β)
 nearer-beats a b α β α′ β′ small h g = omega arith
 
@@ -45,7 +45,7 @@ farther-beaten a b α β α′ β′ h g less =
     largest : (a b x y β : ℕ) → β ≤ x → y ≤ β → max a x < max b y → (a < b) × (β < b)
     largest a b x y β h g l = (omega arith, omega arith)
 
--- the numbers alone, of which four facts are known
+-- the statement about numbers, from four facts about them
 module _ (a b α β α′ β′ : ℕ) (unbeaten : β ≤ α) (to′ : min b α ≤ α′) (from : min β′ b ≤ β) (from′ : min β a ≤ β′) where
   six-beats : BeatsBySix a b β α′ β′ → max a (min α β′) < max b (min α′ β)
   six-beats h =
@@ -79,7 +79,7 @@ module _ (s : ℕ → ℕ → ℕ) (l : ℕ) where
   unfolding closure
   after-is i j ne = closure-strongest s (suc l) i j ne
 
-  -- to and from l that detour changes nothing
+  -- that detour changes no strength to or from l
   pub last-to : (i : ℕ) → i < l → before i l ≡ strongest s (suc l) i l
   last-to i h =
       let il : i ≢ l = λ e. omega arith in
@@ -94,7 +94,7 @@ module _ (s : ℕ → ℕ → ℕ) (l : ℕ) where
     over : strongest s (suc l) i j ≡ max (before i j) (min (before i l) (before l j))
     over = sym (after-is i j ne) ∙ detour-over l before i j (λ e. omega arith) (λ e. omega arith) ne
 
-    -- the way over j is no better, to l and from it
+    -- the path over j is no better, to l and from it
     to-last : min (before i j) (before j l) ≤ before i l
     to-last =
         let more : before i j ≤ strongest s (suc l) i j = omega (arith, detour-more l before i j, after-is i j ne) in
@@ -105,7 +105,7 @@ module _ (s : ℕ → ℕ → ℕ) (l : ℕ) where
         let more : before i j ≤ strongest s (suc l) i j = omega (arith, detour-more l before i j, after-is i j ne) in
         omega (arith, through s (suc l) l i j (omega arith) (λ e. omega arith) ne (λ e. omega arith), last-from i hi, last-from j hj)
 
-  -- where l does not beat i, six strengths before the last detour tell whether j does
+  -- if l does not beat i, six strengths before the last detour tell whether j does
   pub beats-by-six : (i j : ℕ) → i < l → j < l → i ≢ j → before l i ≤ before i l →
       (strongest s (suc l) i j < strongest s (suc l) j i) ↔ BeatsBySix (before i j) (before j i) (before l i) (before j l) (before l j)
   beats-by-six i j hi hj ne unbeaten =

@@ -1,4 +1,5 @@
--- Members of the lists that the rule makes: of a list without one candidate, of a table, of all selections; and the largest of a list.
+-- Members of the lists that the rule makes: a list without one candidate, a table, all selections; and the largest of
+-- a list.
 -- Assumes nothing.
 use mathlib.Core.Path.{_≡_, _∙_, refl, sym, ap}
 use mathlib.Core.Bool.{Bool, true, false, cond}
@@ -44,7 +45,7 @@ module _ {A B : Type 0} (f : A → List B) where
   of-flat [] m = absurd (List·Memᴰ·not-nil m)
   of-flat {b} (x ∷ l) m = ⊎-elim (λ h. (x, List·Memᴰ·head refl, h)) (λ n. let r = of-flat l n in (r .0, List·Memᴰ·tail (r .1), r .2)) (List·Memᴰ·append-cases (f x) m)
 
--- a list without x has what the list has but x
+-- a list without x has all its other members
 pub in-without : {y : ℕ} (x : ℕ) (xs : List ℕ) → On y xs → y ≢ x → On y (without x xs)
 unfolding without
 in-without x [] m n = absurd (List·Memᴰ·not-nil m)
@@ -63,7 +64,7 @@ of-without {y} x (z ∷ zs) m = here (eqb x z) refl (λ h. let r = of-without x 
     here true e later h = later h
     here false e later h = ⊎-elim (λ s. (List·Memᴰ·head s, λ d. eqb-false x z e (sym d ∙ s))) later (List·Memᴰ·cases-cons h)
 
--- and is no longer, shorter where x was in it
+-- and is no longer; it is shorter if x was in it
 pub without-most : (x : ℕ) (xs : List ℕ) → length (without x xs) ≤ length xs
 unfolding without
 without-most x [] = omega arith
@@ -140,7 +141,7 @@ in-selections (suc most) free (l ∷ q) h d m =
     (in-selections most (without l free) q (let s = without-less l free (m l (List·Memᴰ·head refl)) in omega arith) (d .1)
     (λ x g. in-without l free (m x (List·Memᴰ·tail g)) (λ e. d .0 (Memᴰ·cast (sym e) g))))))
 
--- the largest of a list is one of it, and none is larger
+-- the largest of a list is a member, and no member is larger
 pub maximum-largest : {x : ℕ} (xs : List ℕ) → On x xs → x ≤ maximum xs
 unfolding maximum
 maximum-largest [] m = absurd (List·Memᴰ·not-nil m)

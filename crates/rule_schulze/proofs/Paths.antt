@@ -1,5 +1,6 @@
 -- The paths theorem: detours over all candidates, one after another, give the strength of the strongest simple path.
--- Strengths are compared by thresholds: a path has strength T or more where each of its links has. Assumes nothing.
+-- Strengths are compared by thresholds: a path has strength T or more if each of its links has.
+-- Assumes nothing.
 use mathlib.Core.Path.{_≡_, _∙_, refl, sym}
 use mathlib.Core.Bool.{Bool, true, false, cond, _||_}
 use mathlib.Core.Logic.{_⊎_, inl, inr, ⊎-elim, _≢_}
@@ -17,7 +18,7 @@ use Rattle.rule_schulze.specs.Winner.{On, Distinct, SimplePath, Stronges
 use Rattle.rule_schulze.proofs.Members.{on-or-not, in-map, of-map, in-without, of-without, without-most, in-candidates, of-candidates, of-selections, in-selections, maximum-largest, maximum-of}
 
 module _ (s : ℕ → ℕ → ℕ) where
-  -- each link on the way from i over these candidates to j is at least T
+  -- each link on the path from i over these candidates to j is at least T
   abbrev pub Via : ℕ → ℕ → List ℕ → ℕ → Type 0
   Via T i [] j = T ≤ s i j
   Via T i (l ∷ q) j = (T ≤ s i l) × Via T l q j
@@ -40,7 +41,7 @@ module _ (s : ℕ → ℕ → ℕ) where
   via-join T i [] l r j g h = (g, h)
   via-join T i (m ∷ q) l r j g h = (g .0, via-join T m q l r j (g .1) h)
 
-  -- what is left of a way after i
+  -- the rest of a path after i
   record After (T i : ℕ) (q : List ℕ) (j : ℕ) : Type 0 where
     rest : List ℕ
     strong : Via T i rest j
@@ -58,7 +59,7 @@ module _ (s : ℕ → ℕ → ℕ) where
       later : After T i q j → After T i (x ∷ q) j
       later a = record { rest = a .rest; strong = a .strong; never = a .never; once = a .once; part = λ y g. List·Memᴰ·tail (a .part y g) }
 
-  -- a way that visits nobody twice and is at least as strong
+  -- a path that visits nobody twice and is at least as strong
   pub record Direct (T k i j : ℕ) : Type 0 where
     pub between : List ℕ
     pub strong : Via T i between j
@@ -112,7 +113,7 @@ module _ (s : ℕ → ℕ → ℕ) where
             };
           }
 
-  -- a way over l, cut there
+  -- a path over l, cut at l
   record Cut (T i l : ℕ) (q : List ℕ) (j : ℕ) : Type 0 where
     first : List ℕ
     second : List ℕ
@@ -199,7 +200,7 @@ pub detour-over : (l : ℕ) (t : ℕ → ℕ → ℕ) (i j : ℕ) → i ≢ l �
 unfolding detour
 detour-over l t i j a b c = rw (ne-eqb i l a, ne-eqb j l b, ne-eqb i j c)
 
--- the strength after a detour is that before it, or that of the way over l
+-- the strength after a detour is the one before it, or that of the path over l
 detour-cases : (l : ℕ) (t : ℕ → ℕ → ℕ) (i j : ℕ) → (detour l t i j ≡ t i j) ⊎ ((i ≢ l) × (j ≢ l) × (detour l t i j ≡ min (t i l) (t l j)))
 unfolding detour
 detour-cases l t i j = go (eqb i l) (eqb j l) (eqb i j) refl refl
@@ -216,7 +217,7 @@ detour-cases l t i j = go (eqb i l) (eqb j l) (eqb i j) refl refl
     go false false false e f = larger (eqb-false i l e) (eqb-false j l f)
 
 module _ (s : ℕ → ℕ → ℕ) where
-  -- no simple way whose inner candidates lie below l is stronger than t
+  -- no simple path whose inner candidates are below l is stronger than t
   abbrev Covers : ℕ → (ℕ → ℕ → ℕ) → Type 0
   Covers l t =
       (T i : ℕ) (q : List ℕ) (j : ℕ) → i ≢ j → Via s T i q j → Distinct q → (¬ On i q) → (¬ On j q) → ((x : ℕ) → On x q → x < l) → T ≤ t i j
@@ -250,7 +251,7 @@ module _ (s : ℕ → ℕ → ℕ) where
   covers zero = covers-links
   covers (suc l) = covers-detour l (closure l s) (covers l)
 
-  -- some way over candidates below k is as strong as t says
+  -- some path over candidates below k has the strength x
   record Attained (k i j x : ℕ) : Type 0 where
     between : List ℕ
     strong : Via s x i between j
@@ -302,7 +303,7 @@ module _ (s : ℕ → ℕ → ℕ) where
         omega (arith, strong-via s (closure k s i j) i (d .between) j (d .strong), best .largest (d .between) (d .simple)) in
         omega arith
 
--- the way over a third candidate is no stronger than the strongest
+-- the path over a third candidate is no stronger than the strongest
 pub through : (s : ℕ → ℕ → ℕ) (k i l j : ℕ) → l < k → i ≢ l → l ≢ j → i ≢ j → min (strongest s k i l) (strongest s k l j) ≤ strongest s k i j
 through s k i l j h il lj ij =
     let a = strongest-is s k i l il in

@@ -1,4 +1,4 @@
--- What the loops of the count find in its tables.
+-- What the loops of the count find in their tables.
 -- Assumes nothing.
 use mathlib.Core.Path.{_≡_, _∙_, sym, ap}
 use mathlib.Core.Bool.{Bool, true, false, cond, _||_, true≢false}
@@ -51,7 +51,7 @@ votes-none k b xs i j at p e =
     ∙ ap (λ (t : Bool). votes k b xs i j + cond t 1 0) (ne-eqb (getD xs ((b * k + i) * k + j) 0) 1 (λ h. e (ap (λ (m : ℕ). getD xs m 0) p ∙ h)))
     ∙ add-zero (votes k b xs i j)
 
--- the tests of all candidates
+-- the test of one candidate after another
 module _ (t : List (List ℕ)) (k i : ℕ) where
   abbrev unbeatenBy : ℕ → Bool
   unbeatenBy j = eqb j i || leb (entry t j i) (entry t i j)
@@ -73,7 +73,7 @@ module _ (l : ℕ) (t : ℕ → ℕ → ℕ) (i j : ℕ) where
   unfolding detour
   detour-stays e = ap (λ (b : Bool). cond b (t i j) (max (t i j) (min (t i l) (t l j)))) e
 
-  -- where i or j is l itself the way over l is no detour, and nothing is lost by trying it
+  -- if i or j is l itself, the path over l is no detour, and trying it does no harm
   pub detour-tried : i ≢ j → max (t i j) (min (t i l) (t l j)) ≡ detour l t i j
   detour-tried ne = ⊎-elim from (λ il. ⊎-elim to (λ jl. sym (detour-over l t i j il jl ne)) (same-or-not j l)) (same-or-not i l)
     where
@@ -83,7 +83,7 @@ module _ (l : ℕ) (t : ℕ → ℕ → ℕ) (i j : ℕ) where
       to : j ≡ l → max (t i j) (min (t i l) (t l j)) ≡ detour l t i j
       to e = omega (arith, ap (t i) e, detour-stays (or-first (eqb i l || eqb j l) (eqb i j) (or-second (eqb i l) (eqb j l) (eq-eqb j l e))))
 
--- tables that agree on each two of k candidates still do after detours
+-- tables that agree for every pair of the k candidates still do after a detour
 module _ (k : ℕ) (t u : ℕ → ℕ → ℕ) where
   abbrev pub AgreePairs : Type 0
   AgreePairs = (i j : ℕ) → i < k → j < k → i ≢ j → t i j ≡ u i j

@@ -1,4 +1,4 @@
--- Winners by Schulze's rule: the closing bytes say who wins, a candidate preferred to each other one wins alone, and somebody always wins.
+-- Winners by Schulze's rule: the closing bytes say who wins, a Condorcet winner wins alone, and somebody always wins.
 -- Assumes nothing.
 use mathlib.Core.Path.{_≡_, _∙_, refl, sym, ap}
 use mathlib.Core.Bool.{Bool, true, false, cond, _||_}
@@ -17,7 +17,7 @@ use Rattle.rule_schulze.specs.Winner.{On, Strongest, Winner}
 use Rattle.rule_schulze.proofs.Members.{in-candidates, of-candidates}
 use Rattle.rule_schulze.proofs.Paths.{Via, via-strong, direct, strongest-is, through}
 
--- a test holds of every member or fails at one
+-- a test holds for every member or fails for one
 pub every-holds : (test : ℕ → Bool) (xs : List ℕ) → every test xs ≡ true → (x : ℕ) → On x xs → test x ≡ true
 unfolding every
 every-holds test [] e x m = absurd (List·Memᴰ·not-nil m)
@@ -29,7 +29,7 @@ unfolding every
 holds-every test [] h = refl
 holds-every test (y ∷ ys) h = and-both (test y) (every test ys) (h y (List·Memᴰ·head refl)) (holds-every test ys (λ x m. h x (List·Memᴰ·tail m)))
 
--- there is one greatest strength
+-- there is only one greatest strength
 pub strongest-only : (s : ℕ → ℕ → ℕ) (k i j x : ℕ) → i ≢ j → Strongest s k i j x → x ≡ strongest s k i j
 strongest-only s k i j x ne a =
     let b = strongest-is s k i j ne in
@@ -59,7 +59,7 @@ module _ (v : ℕ → ℕ → ℕ) (k i : ℕ) where
       other : (j : ℕ) → j < k → j ≢ i → test j ≡ true
       other j h n = or-second (eqb j i) (leb (strongest (link v) k j i) (strongest (link v) k i j)) (le-leb (strongest (link v) k j i) (strongest (link v) k i j) (u j h n))
 
-  -- where one candidate reaches i better, i does not win
+  -- if one candidate reaches i better, i does not win
   pub beaten-loses : (j : ℕ) → j < k → j ≢ i → strongest (link v) k i j < strongest (link v) k j i → wins v k i ≡ false
   beaten-loses j h n l = never-true (wins v k i) (λ e. let u = wins-unbeaten e j h n in omega arith)
 
@@ -75,7 +75,7 @@ module _ (v : ℕ → ℕ → ℕ) (k i : ℕ) where
   unfolding closingBytes
   closing-at h = getD-tabulate k i (λ i. cond (wins v k i) 1 0) 0 h
 
-  -- closing byte i is 1 exactly where i wins
+  -- closing byte i is 1 exactly if i wins
   pub closing-one : i < k → (getD (closingBytes v k) i 0 ≡ 1) ↔ Winner v k i
   closing-one h = (λ e. unbeaten-winner (wins-unbeaten (go (wins v k i) refl e)), λ w. closing-at h ∙ ap (λ (t : Bool). cond {A = ℕ} t 1 0) (unbeaten-wins (winner-unbeaten w)))
     where
@@ -83,7 +83,7 @@ module _ (v : ℕ → ℕ → ℕ) (k i : ℕ) where
       go true e f = e
       go false e f = let z : _≡_ {A = ℕ} 0 1 = sym (closing-at h ∙ ap (λ (t : Bool). cond {A = ℕ} t 1 0) e) ∙ f in absurd (omega arith)
 
--- the strength of a link is v i j where that is above v j i, and 0 otherwise
+-- the strength of a link is v i j if that is above v j i, else 0
 pub link-won : (v : ℕ → ℕ → ℕ) (i j : ℕ) → v j i < v i j → link v i j ≡ v i j
 unfolding link
 link-won v i j h = rw (lt-ltb (v j i) (v i j) h)
@@ -97,7 +97,7 @@ link-strongest : (s : ℕ → ℕ → ℕ) (k i j : ℕ) → i ≢ j → s i j �
 unfolding weakest
 link-strongest s k i j ne = strongest-is s k i j ne .largest [] (direct k i j ne)
 
--- nobody reaches a candidate into which no link leads
+-- nobody reaches a candidate to which no link leads
 unreached : (s : ℕ → ℕ → ℕ) (k i T j : ℕ) (q : List ℕ) → ((x : ℕ) → x < k → x ≢ i → s x i ≡ 0) → j < k → j ≢ i → ((x : ℕ) → On x q → x < k) → (¬ On i q) → Via s T j q i → T ≡ 0
 unreached s k i T j [] z h n b never w = let e : s j i ≡ 0 = z j h n in omega arith
 unreached s k i T j (l ∷ q) z h n b never w =
@@ -117,7 +117,7 @@ module _ (v : ℕ → ℕ → ℕ) (k i : ℕ) (low : i < k) (preferred : (j : �
       let l = preferred j h n in
       omega (arith, link-won v i j l, link-strongest (link v) k i j (λ e. n (sym e)))
 
-  -- a candidate that is preferred to each other one wins, and nobody else does
+  -- a Condorcet winner wins, and nobody else does
   pub condorcet : (wins v k i ≡ true) × ((j : ℕ) → j < k → j ≢ i → wins v k j ≡ false)
   condorcet = (
     unbeaten-wins v k i (λ j h n. omega (arith, none-back j h n)),
@@ -137,7 +137,7 @@ beats-transitive s k a b c ha hb hc ab bc ac h g =
       through s k c a b ha (λ e. ac (sym e)) ab (λ e. bc (sym e)),
     )
 
--- one of the first m candidates whom none of them beats
+-- one of the first m candidates that none of them beats
 record Champion (s : ℕ → ℕ → ℕ) (k m : ℕ) : Type 0 where
   who : ℕ
   low : who < m

@@ -8,7 +8,7 @@ use lib.ListN.{getD}
 use Rattle.basics.specs.Lists.{tabulate}
 use Rattle.rule_schulze.specs.Schulze.{link, weakest, candidates, without, selections, maximum, simplePaths, strongest, every, wins, closingBytes}
 
--- So many equal ballots.
+-- A number of equal ballots.
 pub record Ballots : Type 0 where
   pub times : ℕ
   pub ranks : List ℕ
@@ -29,8 +29,8 @@ pub preferring : List Ballots → ℕ → ℕ → ℕ
 preferring [] i j = 0
 preferring (b ∷ bs) i j = cond (ltb (getD (b .ranks) i 0) (getD (b .ranks) j 0)) (b .times) 0 + preferring bs i j
 
--- In turn: a cycle of three; the example of 45 ballots in Schulze's paper; a tie of two; one candidate alone; a
--- jury that margins would leave tied; one that needs a path of three links.
+-- In this order: a cycle of three; the example with 45 ballots from Schulze's paper; a tie of two; a single
+-- candidate; a jury that margins would leave tied; one that needs a path of three links.
 pub panels : List Panel
 panels =
     panel 3 (ballots 1 (0 ∷ 1 ∷ 2 ∷ []) ∷ ballots 1 (2 ∷ 0 ∷ 1 ∷ []) ∷ ballots 1 (1 ∷ 2 ∷ 0 ∷ []) ∷ []) (1 ∷ 1 ∷ 1 ∷ [])

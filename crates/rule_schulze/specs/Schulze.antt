@@ -1,16 +1,17 @@
--- Schulze's rule over any numbers v: v i j says how many put candidate i before candidate j (request 2.2).
+-- Schulze's rule (request 2.2) over any votes v: v i j is the number of ballots that put candidate i before candidate
+-- j.
 use mathlib.Core.Bool.{Bool, true, cond, _&&_, _||_}
 use mathlib.Core.List.{List, [], _∷_, map, flatMap}
 use Prim.Native.Nat.{ℕ, zero, suc, min, max}
 use lib.Dec.{leb, ltb, eqb}
 use Rattle.basics.specs.Lists.{tabulate}
 
--- How strong the link of i to j is [schulze]: v i j where that is above v j i, else 0.
+-- The strength of the link from i to j [schulze]: v i j if it is larger than v j i, else 0.
 unfoldable pub link : (ℕ → ℕ → ℕ) → ℕ → ℕ → ℕ
 link v i j = cond (ltb (v j i) (v i j)) (v i j) 0
 
--- A path from i to j is written as the list of the candidates that it passes between the two. The weakest of its
--- links tells how strong it is; s i j is the strength of a link.
+-- A path from i to j is the list of the candidates between them. Its strength is that of its weakest link; s i j is
+-- the strength of the link from i to j.
 unfoldable pub weakest : (ℕ → ℕ → ℕ) → ℕ → List ℕ → ℕ → ℕ
 weakest s i [] j = s i j
 weakest s i (l ∷ between) j = min (s i l) (weakest s l between j)
@@ -23,7 +24,7 @@ unfoldable pub without : ℕ → List ℕ → List ℕ
 without x [] = []
 without x (y ∷ ys) = cond (eqb x y) (without x ys) (y ∷ without x ys)
 
--- Every list, in every order, of at most so many of these candidates that names none of them twice.
+-- All lists, in every order, of at most this many of these candidates, none named twice.
 unfoldable pub selections : ℕ → List ℕ → List (List ℕ)
 selections zero free = [] ∷ []
 selections (suc most) free = [] ∷ flatMap (λ l. map (λ rest. l ∷ rest) (selections most (without l free))) free
@@ -32,7 +33,7 @@ unfoldable pub maximum : List ℕ → ℕ
 maximum [] = 0
 maximum (x ∷ xs) = max x (maximum xs)
 
--- The paths from i to j that visit none of the k candidates twice.
+-- The paths from i to j, among k candidates, that visit nobody twice.
 unfoldable pub simplePaths : ℕ → ℕ → ℕ → List (List ℕ)
 simplePaths k i j = selections k (without i (without j (candidates k)))
 
@@ -40,15 +41,15 @@ simplePaths k i j = selections k (without i (without j (candidates k)))
 unfoldable pub strongest : (ℕ → ℕ → ℕ) → ℕ → ℕ → ℕ → ℕ
 strongest s k i j = maximum (map (λ between. weakest s i between j) (simplePaths k i j))
 
--- Whether the test holds of each of these.
+-- Whether the test holds for each of these.
 unfoldable pub every : (ℕ → Bool) → List ℕ → Bool
 every test [] = true
 every test (x ∷ xs) = test x && every test xs
 
--- i wins where no other candidate has a path to it that is stronger than its own strongest path to that one.
+-- i wins if no other candidate has a stronger path to i than i has to it.
 unfoldable pub wins : (ℕ → ℕ → ℕ) → ℕ → ℕ → Bool
 wins v k i = every (λ j. eqb j i || leb (strongest (link v) k j i) (strongest (link v) k i j)) (candidates k)
 
--- One closing byte a candidate: 1 for a winner and 0 for any other.
+-- One closing byte a candidate: 1 for a winner, else 0.
 unfoldable pub closingBytes : (ℕ → ℕ → ℕ) → ℕ → List ℕ
 closingBytes v k = tabulate k (λ i. cond (wins v k i) 1 0)

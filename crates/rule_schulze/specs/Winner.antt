@@ -9,17 +9,17 @@ use Rattle.rule_schulze.specs.Schulze.{link, weakest}
 abbrev pub On : ℕ → List ℕ → Type 0
 On x xs = List·Memᴰ x xs
 
--- None of these comes twice.
+-- None of these occurs twice.
 abbrev pub Distinct : List ℕ → Type 0
 Distinct [] = Unit {0}
 Distinct (x ∷ xs) = (¬ On x xs) × Distinct xs
 
--- A path from i over these candidates to j, among k candidates, that visits none of them twice.
+-- A path from i over these candidates to j, among k candidates, that visits nobody twice.
 pub record SimplePath (k i : ℕ) (between : List ℕ) (j : ℕ) : Type 0 where
   pub below : (x : ℕ) → On x between → x < k
   pub once : Distinct (i ∷ j ∷ between)
 
--- Some such path has the strength x, and none a greater one.
+-- Some such path has the strength x, and none is stronger.
 pub record Strongest (s : ℕ → ℕ → ℕ) (k i j x : ℕ) : Type 0 where
   pub attained : (between : List ℕ) × SimplePath k i between j × (weakest s i between j ≡ x)
   pub largest : (between : List ℕ) → SimplePath k i between j → weakest s i between j ≤ x

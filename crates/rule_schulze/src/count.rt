@@ -1,4 +1,4 @@
-// Counting a ranked jury plainly.
+// The plain count of a ranked jury.
 use crate::rule;
 use crate::votes;
 ghost use mathlib.Core.Path.{_≡_};

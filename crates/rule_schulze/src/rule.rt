@@ -1,4 +1,4 @@
-// Schulze's rule on a matrix of numbers of ballots.
+// Schulze's rule on a matrix of votes.
 ghost use mathlib.Core.Path.{_≡_};
 ghost use Prim.Native.Nat.{ℕ, _≤_, _<_, min, max};
 ghost use mathlib.Core.Bool.{cond};
@@ -9,7 +9,7 @@ ghost use Rattle.rule_schulze.specs.Schulze as spec;
 ghost use Rattle.rule_schulze.specs.Closure as closure;
 ghost use Rattle.rule_schulze.specs.inner.Tables.{entry, Holds, HoldsPairs, unbeatenIn};
 
-// The closing bytes: 1 for a winner, 0 for any other and from place k on.
+// The closing bytes: 1 for a winner, 0 for the others and from place k on.
 pub fn winners(votes: [[u16; 8]; 8], k: usize) -> [u8; 8]
     requires { ⌜ k ≤ 8 ⌝ }
     ensures { λ r. ⌜ r ≡ eightBytes (spec.closingBytes (entry votes) k) ⌝ }
@@ -71,14 +71,14 @@ fn links_of(votes: [[u16; 8]; 8], k: usize, i: usize) -> [u16; 8]
     row
 }
 
-// The strength of a link, from the numbers of those for and against it.
+// The strength of a link, from the votes for and against it.
 fn link(forth: u16, back: u16) -> u16
     ensures { λ r. ⌜ r ≡ cond (ltb back forth) forth 0 ⌝ }
 {
     if back < forth { forth } else { 0 }
 }
 
-// The strengths of the strongest paths: detours over one candidate after the other.
+// The strengths of the strongest paths: detours over one candidate after another.
 fn strongest_paths(links: [[u16; 8]; 8], k: usize) -> [[u16; 8]; 8]
     requires { ⌜ k ≤ 8 ⌝ }
     ensures { λ r. ⌜ HoldsPairs k r (closure.closure k (entry links)) ⌝ }
@@ -93,7 +93,7 @@ fn strongest_paths(links: [[u16; 8]; 8], k: usize) -> [[u16; 8]; 8]
     paths
 }
 
-// The strengths once the way over l is allowed too.
+// The strengths once paths over l are allowed too.
 fn detour(paths: [[u16; 8]; 8], k: usize, l: usize) -> [[u16; 8]; 8]
     requires { ⌜ (k ≤ 8) × (l < k) ⌝ }
     ensures { λ r. ⌜ HoldsPairs k r (closure.detour l (entry paths)) ⌝ }
@@ -108,7 +108,7 @@ fn detour(paths: [[u16; 8]; 8], k: usize, l: usize) -> [[u16; 8]; 8]
     after
 }
 
-// The strengths from i once the way over l is allowed too. Where i or j is l itself, that way is none better.
+// The strengths from i once paths over l are allowed too. If i or j is l itself, that path is never better.
 fn detour_from(paths: [[u16; 8]; 8], k: usize, l: usize, i: usize) -> [u16; 8]
     requires { ⌜ (k ≤ 8) × (l < k) × (i < k) ⌝ }
     ensures { λ r. ⌜

@@ -1,11 +1,11 @@
-// How many ballots put one candidate before another, for each two.
+// How many ballots put one candidate before another, for every pair.
 ghost use mathlib.Core.Path.{_≡_};
 ghost use Prim.Native.Nat.{ℕ, _<_};
 ghost use lib.ListN.{getD};
 ghost use Rattle.rule_schulze.specs.Votes as spec;
-ghost use Rattle.rule_schulze.specs.inner.Tables.{Holds, RankedSize};
+ghost use Rattle.rule_schulze.specs.inner.Tables.{Holds, RankedSize, VotesRowReady, VotesReady};
 
-// Row i has the numbers of those that put i before the others. Rows and columns from k on stay 0.
+// Row i has the numbers of ballots that put i before each other candidate. Rows and columns from k on stay 0.
 pub fn matrix(ballots: &[u8], k: usize, n: usize) -> [[u16; 8]; 8]
     requires { ⌜ RankedSize k n (now ballots) ⌝ }
     ensures { λ r. ⌜ Holds k r (spec.votes k n (now (ballots .entry))) ⌝ }
@@ -20,10 +20,9 @@ pub fn matrix(ballots: &[u8], k: usize, n: usize) -> [[u16; 8]; 8]
     table
 }
 
-// The numbers of those that put i before each candidate.
+// How many ballots put i before each candidate.
 fn row_of(ballots: &[u8], k: usize, n: usize, i: usize) -> [u16; 8]
-    requires { ⌜ RankedSize k n (now ballots) ⌝ }
-    requires { ⌜ i < k ⌝ }
+    requires { ⌜ VotesRowReady k n (now ballots) i ⌝ }
     ensures { λ r. ⌜ ((j : ℕ) → j < k → getD r j 0 ≡ spec.votes k n (now (ballots .entry)) i j) ⌝ }
 {
     let mut row = [0u16; 8];
@@ -36,10 +35,9 @@ fn row_of(ballots: &[u8], k: usize, n: usize, i: usize) -> [u16; 8]
     row
 }
 
-// The number of those that put i before j.
+// How many ballots put i before j.
 fn count_of(ballots: &[u8], k: usize, n: usize, i: usize, j: usize) -> u16
-    requires { ⌜ RankedSize k n (now ballots) ⌝ }
-    requires { ⌜ (i < k) × (j < k) ⌝ }
+    requires { ⌜ VotesReady k n (now ballots) i j ⌝ }
     ensures { λ r. ⌜ r ≡ spec.votes k n (now (ballots .entry)) i j ⌝ }
 {
     let ballot = k * k;

@@ -1,4 +1,4 @@
--- The edges of the season sheet that its definitions decide by computing.
+-- The edges of the season sheet, computed by its definitions.
 -- Assumes nothing.
 use mathlib.Core.Path.{_≡_, refl}
 use mathlib.Core.Option.{none, some}
@@ -13,7 +13,7 @@ use Rattle.season.specs.Season.{numberAt, runOf, firstRuns, runsIn, ones
 run : ℕ → List ℕ
 run mask = 2 ∷ 3 ∷ 3 ∷ mask ∷ 4 ∷ 3 ∷ 2 ∷ 1 ∷ 27 ∷ 0 ∷ 0 ∷ 0 ∷ []
 
--- two candidates, so many grades, three ballots
+-- two candidates, d grades, three ballots
 kindRun : ℕ → List ℕ
 kindRun grades = 2 ∷ grades ∷ 3 ∷ 1 ∷ 18 ∷ 0 ∷ 0 ∷ 0 ∷ 5 ∷ 0 ∷ 0 ∷ 0 ∷ []
 
@@ -27,12 +27,12 @@ short : firstOf (sheetReasons (replicate 11 0)) ≡ some (reasonAt 21 0)
 unfolding firstOf sheetReasons unless
 short = refl
 
--- a winner who is no candidate: the second run is the first bad one
+-- a winner that is no candidate: the second run is the first bad one
 stranger : firstOf (sheetReasons (run 3 ++ run 4 ++ run 4)) ≡ some (reasonAt 22 1)
 unfolding firstOf sheetReasons unless foundAt firstBadRun runsIn firstRuns goodRun isRanking gradedLimits rankedLimits withinLimits runOf numberAt run
 stranger = refl
 
--- a run of rankings is a good one, one with a single grade is not
+-- a run of rankings is good, one with a single grade is not
 ranked : firstOf (sheetReasons (kindRun 0 ++ kindRun 1)) ≡ some (reasonAt 22 1)
 unfolding firstOf sheetReasons unless foundAt firstBadRun runsIn firstRuns goodRun isRanking gradedLimits rankedLimits withinLimits runOf numberAt kindRun
 ranked = refl

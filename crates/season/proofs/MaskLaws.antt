@@ -9,7 +9,7 @@ use lib.Dec.{ltb}
 use borrow.Author.Tests.{ltb-true, ltb-false, lt-ltb, le-ltb}
 use Rattle.season.specs.Season.{onesIn}
 
--- half of a number is below a power of two where the number is below the next
+-- half of a number is below a power of two exactly if the number is below the next
 half-below : (rest m : ℕ) → ltb (rest / 2) (2 ^ m) ≡ ltb rest (2 ^ suc m)
 half-below rest m = go (ltb rest (2 ^ suc m)) refl
   where

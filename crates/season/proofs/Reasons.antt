@@ -31,7 +31,7 @@ unfolding judged sheetReasons
 judged-by bytes size run e₁ e₂ = ap (λ (t : Bool). judged t (firstBadRun 0 (runsIn bytes))) e₁ ∙ ap (judged size) e₂
 
 module _ (bytes : List ℕ) where
-  -- the three ways to be turned away, and the one to be accepted
+  -- the three ways to be refused, and the one to be accepted
   pub part-of-a-run : (length bytes % runBytes ≡ 0 → ⊥) → firstOf (sheetReasons bytes) ≡ some (reasonOf Length)
   unfolding judged unless firstOf reasonOf
   part-of-a-run h = judged-by bytes false (firstBadRun 0 (runsIn bytes)) (and-first-fails _ (leb (length bytes) (mostRuns * runBytes)) (ne-eqb (length bytes % runBytes) 0 h)) refl

@@ -1,4 +1,4 @@
--- The runs of a season and the test of them, one run at a time.
+-- The runs of a season and their test, one run at a time.
 -- Assumes nothing.
 use mathlib.Core.Path.{_≡_, _∙_, sym, ap}
 use mathlib.Core.Bool.{Bool, true, false, cond}
@@ -19,7 +19,7 @@ pub run-is : (bytes : List ℕ) (k d n m g c : ℕ) → k ≡ getD bytes 0 0 →
 unfolding runOf
 run-is bytes k d n m g c e₁ e₂ e₃ e₄ e₅ e₆ = cc
 
--- the bytes of the run at a place: they are enough, and the definition has the same
+-- there are enough bytes for the run at a place, and they are the definition's
 pub part-long : (at : ℕ) (bytes : List ℕ) → at + runBytes ≤ length bytes → runBytes ≤ length (take (at + runBytes - at) (drop at bytes))
 part-long at bytes h = omega (arith, length-take (at + runBytes - at) (drop at bytes), length-drop at bytes)
 
@@ -39,7 +39,7 @@ pub runs-end : (i runs : ℕ) (bytes : List ℕ) → runs ≤ i → firstRuns (r
 unfolding firstRuns
 runs-end i runs bytes h = ap (λ (n : ℕ). firstRuns n bytes) {x = runs - i} {y = 0} (omega arith)
 
--- the run at hand is bad, or it is good and the search goes on, or no run is left
+-- this run is bad; or it is good and the search goes on; or no run is left
 bad-step : (i runs : ℕ) (bytes : List ℕ) (good : Bool) → i < runs → goodRun (runOf (take runBytes bytes)) ≡ good →
     firstBadRun i (firstRuns (runs - i) bytes) ≡ cond good (firstBadRun (suc i) (firstRuns (runs - suc i) (drop runBytes bytes))) (At i)
 unfolding firstBadRun
@@ -58,7 +58,7 @@ pub bad-end : (i runs : ℕ) (bytes : List ℕ) → runs ≤ i → firstBadRun i
 unfolding firstBadRun
 bad-end i runs bytes h = ap (firstBadRun i) (runs-end i runs bytes h)
 
--- a turn of the search: the run at a place is good, and the next one is looked at
+-- a turn of the search: the run at a place is good, and the next one is tested
 pub bad-turn : (i runs at : ℕ) (bytes : List ℕ) → i < runs → goodRun (runOf (take (at + runBytes - at) (drop at bytes))) ≡ true →
     firstBadRun (i + 1) (firstRuns (runs - (i + 1)) (drop (at + runBytes) bytes)) ≡ firstBadRun i (firstRuns (runs - i) (drop at bytes))
 bad-turn i runs at bytes h e =

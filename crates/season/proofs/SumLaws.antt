@@ -1,4 +1,4 @@
--- The sums over the runs of a season: those so far and those of the runs that are left are those of all.
+-- Sums over the runs of a season: those so far and those of the runs left add up to those of all.
 -- Assumes nothing.
 use mathlib.Core.Path.{_≡_, _∙_, refl, sym, ap, subst}
 use mathlib.Core.Bool.{Bool, true, false, cond}
@@ -59,7 +59,7 @@ sums-turn t u r i runs at bytes h e₁ e₂ =
     ∙ ap (λ (rs : List Run). plus (plusRun t (runOf (take runBytes (drop at bytes)))) (totalsOf rs)) (left-is i runs at bytes)
     ∙ sums-step t i runs (drop at bytes) h
 
--- a run with several winners counts one, any other none
+-- a run with several winners counts 1, any other 0
 pub shared-one : (r : Run) → ltb 1 (winnersOf r) ≡ true → sharedOf r ≡ 1
 unfolding sharedOf
 shared-one r e = ap (λ (t : Bool). cond t 1 0) e
@@ -75,7 +75,7 @@ shared-most r = go (ltb 1 (winnersOf r)) refl
     go true e = omega (arith, shared-one r e)
     go false e = omega (arith, shared-none r e)
 
--- sums of few runs are sums of more, and one run more makes them sums of one more
+-- bounds for a few runs hold for more, and one more run moves to the next bound
 pub sums-most : (i n : ℕ) (t : Totals) → i ≤ n → SumsOf i t → SumsOf n t
 sums-most i n t h s = record {
   runs-most = omega (arith, s .runs-most);

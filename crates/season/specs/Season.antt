@@ -1,5 +1,4 @@
--- The season sheet, [sheet]: what the bytes of a season tell, which of them are turned away, and the sums over all
--- runs.
+-- The season sheet [sheet]: the runs in a season's bytes, the reasons to refuse them, and the sums over all runs.
 use mathlib.Core.Path.{_≡_}
 use mathlib.Core.Bool.{Bool, cond, _&&_}
 use mathlib.Core.Option.{Option, none, some}
@@ -41,7 +40,7 @@ runOf bytes = record {
   conditional = numberAt 8 bytes;
 }
 
--- The first so many runs, which follow each other without gaps.
+-- The first runs, without gaps.
 unfoldable pub firstRuns : ℕ → List ℕ → List Run
 firstRuns zero bytes = []
 firstRuns (suc n) bytes = runOf (take runBytes bytes) ∷ firstRuns n (drop runBytes bytes)
@@ -50,12 +49,12 @@ firstRuns (suc n) bytes = runOf (take runBytes bytes) ∷ firstRuns n (drop runB
 unfoldable pub runsIn : List ℕ → List Run
 runsIn bytes = firstRuns (length bytes / runBytes) bytes
 
--- How many of the lowest so many binary digits of a number are 1.
+-- How many of the lowest `digits` binary digits of a number are 1.
 unfoldable pub onesIn : ℕ → ℕ → ℕ
 onesIn zero m = 0
 onesIn (suc digits) m = m % 2 + onesIn digits (m / 2)
 
--- The number of winners: the bits of the mask, which is a byte.
+-- The number of winners: the ones in the mask, which is a byte.
 unfoldable pub winnersOf : Run → ℕ
 winnersOf r = onesIn 8 (r .mask)
 
@@ -65,7 +64,7 @@ goodRun r =
     withinLimits (record { candidates = r .candidates; grades = r .grades; ballots = r .ballots })
     && ltb (r .mask) (2 ^ r .candidates)
 
--- The first run that is not good, the first run here standing at place i.
+-- The first bad run, where the first run here has place i.
 unfoldable pub firstBadRun : ℕ → List Run → Place
 firstBadRun i [] = Nowhere
 firstBadRun i (r ∷ rs) = cond (goodRun r) (firstBadRun (suc i) rs) (At i)
@@ -96,12 +95,12 @@ totalsOf rs = record {
   shared = sumOver sharedOf rs;
 }
 
--- Number and place of each refusal.
+-- The number and place of each refusal.
 unfoldable pub reasonOf : Refusal → Reason
 reasonOf Length = reasonAt 21 0
 reasonOf (BadRun i) = reasonAt 22 i
 
--- The reason of an answer, where it is a refusal, and its values, where it is none.
+-- The reason of an answer if it is a refusal, and its totals if it is not.
 unfoldable pub reasonFor : Answer → Option Reason
 reasonFor (Accepted totals) = none
 reasonFor (Refused r) = some (reasonOf r)
@@ -110,12 +109,12 @@ unfoldable pub totalsFor : Answer → Option Totals
 totalsFor (Accepted totals) = some totals
 totalsFor (Refused r) = none
 
--- A refused sheet has no values.
+-- A refused sheet has no totals.
 unfoldable pub totalsAfter : Option Reason → Totals → Option Totals
 totalsAfter none totals = some totals
 totalsAfter (some r) totals = none
 
--- What the entry point promises of its answer.
+-- What the entry point promises about its answer.
 pub record Sheet (bytes : List ℕ) (r : Answer) : Type 0 where
   pub reason : reasonFor r ≡ firstOf (sheetReasons bytes)
   pub totals : totalsFor r ≡ totalsAfter (firstOf (sheetReasons bytes)) (totalsOf (runsIn bytes))

@@ -1,11 +1,11 @@
-// One run of a season, as its twelve bytes tell it.
+// One run of a season, read from its twelve bytes.
 use jury::shape::Shape;
 ghost use mathlib.Core.Path.{_≡_};
-ghost use Prim.Native.Nat.{_+_, _<_, _≤_, _^_};
+ghost use Prim.Native.Nat.{_+_, _≤_, _^_};
 ghost use lib.Dec.{ltb};
 ghost use lib.ListN.{length};
-ghost use Rattle.season.specs.Season.{runBytes, runOf, numberAt, onesIn, winnersOf, goodRun};
-ghost use Rattle.season.specs.inner.Sums.{Small};
+ghost use Rattle.season.specs.Season.{runBytes, onesIn, winnersOf, goodRun};
+ghost use Rattle.season.specs.inner.Sums.{ByteRead, NumberRead, RunRead};
 
 // The bytes of a run.
 pub const RUN_BYTES: usize = 12;
@@ -23,19 +23,17 @@ pub struct Run {
     pub conditional: usize,
 }
 
-// A byte as a wider number, of which it is still known that it is small.
+// A byte as a wider number that is known to be small.
 fn wide(x: u8) -> usize
-    ensures { λ r. ⌜ r ≡ x ⌝ }
-    ensures { λ r. ⌜ r < 256 ⌝ }
+    ensures { λ r. ⌜ ByteRead x r ⌝ }
 {
     x as usize
 }
 
-// The number that four bytes write, low byte first.
+// The number in four bytes, low byte first.
 fn number(bytes: &[u8], at: usize) -> usize
     requires { ⌜ at + 4 ≤ length (now bytes) ⌝ }
-    ensures { λ r. ⌜ r ≡ numberAt at (now (bytes .entry)) ⌝ }
-    ensures { λ r. ⌜ r < 2 ^ 32 ⌝ }
+    ensures { λ r. ⌜ NumberRead at (now (bytes .entry)) r ⌝ }
 {
     wide(bytes[at])
         + 256 * (wide(bytes[at + 1]) + 256 * (wide(bytes[at + 2]) + 256 * wide(bytes[at + 3])))
@@ -70,11 +68,10 @@ fn winners(mask: usize) -> usize
 }
 
 impl Run {
-    // The run that twelve bytes tell.
+    // The run in twelve bytes.
     pub fn read(bytes: &[u8]) -> Run
         requires { ⌜ runBytes ≤ length (now bytes) ⌝ }
-        ensures { λ r. ⌜ r ≡ runOf (now (bytes .entry)) ⌝ }
-        ensures { λ r. ⌜ Small r ⌝ }
+        ensures { λ r. ⌜ RunRead (now (bytes .entry)) r ⌝ }
     {
         Run {
             candidates: wide(bytes[0]),
@@ -86,7 +83,7 @@ impl Run {
         }
     }
 
-    // Whether its shape is within the limits and each winner is a candidate.
+    // Whether its shape is within the limits and its mask names candidates only.
     pub fn is_good(self) -> bool
         ensures { λ r. ⌜ r ≡ goodRun self ⌝ }
     {

@@ -3,15 +3,15 @@ use crate::run;
 use crate::run::Run;
 use gates::place::Place;
 ghost use mathlib.Core.Path.{_≡_};
-ghost use Prim.Native.Nat.{_*_, _≤_};
+ghost use Prim.Native.Nat.{_*_};
 ghost use lib.ListN.{length};
-ghost use Rattle.season.specs.Season.{runBytes, mostRuns, firstRuns, firstBadRun, totalsOf, reasonOf, Sheet};
-ghost use Rattle.season.specs.inner.Sums.{Small, SumsOf, plusRun};
+ghost use Rattle.season.specs.Season.{runBytes, firstRuns, firstBadRun, totalsOf, reasonOf, Sheet};
+ghost use Rattle.season.specs.inner.Sums.{plusRun, PlusReady, SumsReady};
 
 // The most bytes of a sheet: 4,096 runs.
 pub const MOST_BYTES: usize = 49152;
 
-// What the sheet tells: how many runs, their gates, conditional gates and ballots, and how many runs have several
+// The totals of a sheet: how many runs; their gates, conditional gates and ballots; and how many runs have several
 // winners.
 pub struct Totals {
     pub runs: usize,
@@ -21,7 +21,7 @@ pub struct Totals {
     pub shared: usize,
 }
 
-// Why a sheet is turned away: its length, or the first bad run.
+// Why a sheet is refused: its length, or its first bad run.
 pub enum Refusal {
     Length,
     BadRun(usize),
@@ -44,7 +44,7 @@ impl Refusal {
         }
     }
 
-    // Its place, 0 where none is named.
+    // Its place, 0 if it has none.
     pub fn place(self) -> usize
         ensures { λ r. ⌜ r ≡ (reasonOf self) .place ⌝ }
     {
@@ -56,10 +56,9 @@ impl Refusal {
 }
 
 impl Totals {
-    // The totals with one run more, of which there are few enough so far.
+    // The totals with one more run. There are few enough runs that no sum wraps.
     fn plus(self, run: Run) -> Totals
-        requires { ⌜ Small run ⌝ }
-        requires { ⌜ SumsOf 4096 self ⌝ }
+        requires { ⌜ PlusReady self run ⌝ }
         ensures { λ r. ⌜ r ≡ plusRun self run ⌝ }
     {
         let mut shared = self.shared;
@@ -76,7 +75,7 @@ impl Totals {
     }
 }
 
-// The first of so many runs that is not good.
+// The first bad run of this many.
 fn first_bad(bytes: &[u8], runs: usize) -> Place
     requires { ⌜ length (now bytes) ≡ runs * runBytes ⌝ }
     ensures { λ r. ⌜ r ≡ firstBadRun 0 (firstRuns runs (now (bytes .entry))) ⌝ }
@@ -94,10 +93,9 @@ fn first_bad(bytes: &[u8], runs: usize) -> Place
     Place::Nowhere
 }
 
-// The sums over so many runs.
+// The sums over this many runs.
 fn sums(bytes: &[u8], runs: usize) -> Totals
-    requires { ⌜ length (now bytes) ≡ runs * runBytes ⌝ }
-    requires { ⌜ runs ≤ mostRuns ⌝ }
+    requires { ⌜ SumsReady (now bytes) runs ⌝ }
     ensures { λ r. ⌜ r ≡ totalsOf (firstRuns runs (now (bytes .entry))) ⌝ }
 {
     let mut totals = Totals {
@@ -118,7 +116,7 @@ fn sums(bytes: &[u8], runs: usize) -> Totals
     totals
 }
 
-// The sheet of any bytes. The length is tested before any run is looked at.
+// The sheet of any bytes. The length is tested before any run is read.
 pub fn sheet(bytes: &[u8]) -> Answer
     ensures { λ r. ⌜ Sheet (now (bytes .entry)) r ⌝ }
 {

@@ -17,7 +17,7 @@ fn print_totals(totals: Totals) {
     print_line(b"shared", totals.shared);
 }
 
-// One byte more is kept than a sheet may have, so that a longer input is refused and not cut.
+// Keeps one byte more than a sheet may have, so that a longer input is refused and not cut.
 fn main() {
     let mut input = [0u8; 49153];
     let got = io::read_full(STDIN_FILENO, &mut input);

@@ -1,4 +1,4 @@
--- The reason for which a count is turned away, by the test of its shape and then those of its ballots.
+-- The reason for which a count is refused: by the test of its shape, then those of its ballots.
 -- Assumes nothing.
 use mathlib.Core.Path.{_≡_, _∙_, refl, sym, ap}
 use mathlib.Core.Bool.{Bool, true, false}
@@ -23,7 +23,7 @@ pub within-reason : (s : Shape) (xs : List ℕ) → withinLimits s ≡ true → 
 unfolding countReason unless firstOf
 within-reason s xs e = ap (λ (t : Bool). firstOf (unless t 1 ∷ ballotReasons s xs)) e
 
--- a count is accepted exactly where its ballots are
+-- a count is accepted exactly if its ballots are
 pub count-accepts : (s : Shape) (xs : List ℕ) → (countReason s xs ≡ none) ↔ AcceptedBallots s xs
 count-accepts s xs =
     (λ e. go (withinLimits s) refl e, λ a. within-reason s xs (a .within) ∙ accepted-back s xs a)

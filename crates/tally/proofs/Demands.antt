@@ -78,7 +78,7 @@ pub run-lengths : (s : Shape) (table ballots tape wires board : List ℕ)
     → (length (runResult s table ballots tape wires board .wires) ≡ length wires) × (length (runResult s table ballots tape wires board .board) ≡ length board)
 run-lengths s table ballots tape wires board = lengths s table ballots tape wires board (firstOf (runReasons s table ballots tape wires board)) refl
 
--- reasons past the third have larger numbers
+-- reasons after the third have larger numbers
 row-number : (row : Place) (r : Reason) → firstOf (foundAt 6 row ∷ []) ≡ some r → 4 ≤ r .number
 unfolding foundAt firstOf reasonAt
 row-number (At i) r e = let n : 6 ≡ r .number = cc in omega arith
@@ -110,7 +110,7 @@ lent-number true Nowhere false v r e = let n : 9 ≡ r .number = cc in omega ari
 lent-number true Nowhere true false r e = let n : 10 ≡ r .number = cc in omega arith
 lent-number true Nowhere true true r e = let z : _≡_ {A = ℕ} 0 1 = cc in absurd (omega arith)
 
--- where the list passes its test, the first reason is past the third
+-- if the list passes its test, the first reason comes after the third
 late : (a b c : Option Reason) (r : Reason) → a ≡ none → ((q : Reason) → b ≡ some q → 4 ≤ q .number) → ((q : Reason) → c ≡ some q → 4 ≤ q .number)
     → firstOfThree a b c ≡ some r → 4 ≤ r .number
 unfolding firstOfThree orElse
@@ -172,7 +172,7 @@ module _ (s : Shape) (table : List ℕ) (size : Size) (p : writing.WritePassed s
     says : SaysWhoWins s ballots (closingBytes s (runResult s list ballots tape wires board .board))
     says = subst (SaysWhoWins s ballots) (sym closing) (rule-says s ballots (passed .ballotsPassed))
 
--- a call that is lent nothing to write to keeps it
+-- a call that is lent nothing to write to changes nothing
 nothing-lent : {Values : Type 0} {numbers : List ℕ} {answer : Outcome Values}
     → ((r : Reason) → answer ≡ refused r → T (hasNumberIn numbers r)) → KeepsMemory numbers answer [] []
 unfolding Each

@@ -1,4 +1,5 @@
--- Those of the edges [edges] that concern a plain count, and the jury that [rehearsal] gives, computed by the definitions; and the edge of a list's length, for every list that long.
+-- The edges [edges] of a plain count and the jury of [rehearsal], computed by the definitions; and the edge of a
+-- list's length, for every list of that length.
 -- Assumes nothing.
 use mathlib.Core.Path.{_≡_, refl}
 use mathlib.Core.Bool.{Bool, true, false}
@@ -46,7 +47,9 @@ refused k d n bytes number place = record {
   closing = 0 ∷ 0 ∷ 0 ∷ 0 ∷ 0 ∷ 0 ∷ 0 ∷ 0 ∷ [];
 }
 
--- Each number of a shape one below and one above its limits (1), ballots that are too short and too long (4), a byte 2 (5 at its place), rows without a 1 and with two (6), and a byte 2 behind an empty row (5, which is tested over all bytes first); of rankings the same numbers (1, 4), the earlier of two opposite bytes before one of the diagonal behind it, a diagonal byte of the second ballot (11), a candidate tied with both of two that are ranked (12), and that in the first ballot with a diagonal byte in the second (11, which looks at all ballots first).
+-- Grades: shapes just outside the limits (1), ballots too short and too long (4), a byte 2 (5), a row without a 1 and
+-- one with two (6), a byte 2 after an empty row (5). Rankings: 1 and 4 likewise, the earlier of two opposite bytes
+-- (11), a candidate tied with two that are ranked (12), and that with a diagonal byte in a later ballot (11).
 pub edges : List Edge
 edges =
     refused 0 2 1 [] 1 0
@@ -99,7 +102,7 @@ most-gates s n w enough few =
     let t = good-list-accepted (ballotBytes s) (s .candidates) (zeros n) (zeros-good (ballotBytes s) n) (omega arith) (omega arith) in
     list-accepted s (numbersOf (zeros n)) w n 0 (rw (zeros-length n, zeros-free n) at t)
 
--- 1,048,577 are, whatever they are.
+-- A table of more than 4,194,304 numbers is refused, whatever they are.
 pub one-gate-more : (s : Shape) (table : List ℕ) → withinLimits s ≡ true → 4194304 < length table → testOutcome s table ≡ turnedAway (reasonAt 2 0)
 one-gate-more s table w long = by (eqb (length table % 4) 0) refl
   where

@@ -1,4 +1,5 @@
--- A better grade costs nobody the win, as run on the gates: the closing bytes are the rule's, and the rule keeps a winner that is graded better.
+-- A better grade costs nobody the win, on the gates: the closing bytes are the rule's, and by the rule a winner that
+-- is graded better still wins.
 -- Assumes nothing.
 use mathlib.Core.Path.{_≡_, _∙_, refl, sym, ap}
 use mathlib.Core.Bool.{true, false, true≢false}
@@ -23,7 +24,7 @@ use Rattle.tally.proofs.PlainFacts.{plain-first}
 use Rattle.tally.proofs.Demands.{three-demands}
 use Rattle.basics.proofs.Flags.{either}
 
--- only grades are raised: ballots of a ranking shape are what they were
+-- only grades are raised: ballots of a ranking stay as they are
 unraised : (s : Shape) (candidate : ℕ) → isRanking s ≡ true → {old new : List ℕ} → RaisedOften s candidate old new → old ≡ new
 unraised s candidate e unchanged = refl
 unraised s candidate e (once-more raises once) = absurd (true≢false (sym e ∙ graded-is s (within s (once .old-accepted .within))))

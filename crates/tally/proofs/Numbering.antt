@@ -1,4 +1,4 @@
--- The first reason of a list of tests has one of the numbers of these tests.
+-- The first reason of a list of tests has the number of one of them.
 -- Assumes nothing.
 use mathlib.Core.Path.{_≡_, subst}
 use mathlib.Core.Bool.{Bool, true, false, cond}
@@ -23,7 +23,7 @@ use Rattle.tally.specs.Run.{bufferReasons, runReasons, runResultAfter, r
 use Rattle.tally.specs.Test.{testReasons, testOutcome}
 use Rattle.tally.specs.Write.{writeReasons, writeOutcome}
 
--- no reason, or one of these numbers
+-- no reason, or one with one of these numbers
 unfoldable pub Fine : List ℕ → Option Reason → Type 0
 Fine ns none = Unit {0}
 Fine ns (some r) = T (hasNumberIn ns r)

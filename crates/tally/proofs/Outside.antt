@@ -1,4 +1,5 @@
--- What the entry points answer and leave for a shape outside the limits: reason 1, and nothing altered. `TestReasons`, `Writing` and `CountReason` say it of testing, of writing and of the count's reason.
+-- For a shape outside the limits, entry points answer reason 1 and change nothing. `TestReasons`, `Writing` and
+-- `CountReason` have it for test, write and count.
 -- Assumes nothing.
 use mathlib.Core.Path.{_≡_, refl}
 use mathlib.Core.Bool.{false}

@@ -1,4 +1,4 @@
--- What write's contract says of the own list, by the kind of the shape.
+-- What write's contract says about the own list, by the kind of the shape.
 -- Assumes nothing.
 use mathlib.Core.Path.{_≡_, _∙_, sym, ap, subst}
 use mathlib.Core.Bool.{Bool, true, false, cond}

@@ -1,4 +1,5 @@
--- A run of the own list with a mask tape and buffers of the right lengths: only its ballots can turn it away, and its closing bytes are majority judgment's.
+-- A run of the own list with a mask tape and buffers of the right lengths: only the ballots can have it refused, and
+-- its closing bytes are the rule's.
 -- Assumes nothing.
 use mathlib.Core.Path.{_≡_, _∙_, refl, sym, ap}
 use mathlib.Core.Bool.{true}
@@ -76,7 +77,7 @@ module _ (s : Shape) (w : withinLimits s ≡ true) (ballots tape wires board : L
       let o = firstOf (ballotReasons s ballots) in
       ap (λ (r : RunResult). r .answer) (ran-by s list ballots tape wires board o reason) ∙ answer-of o ∙ ap (λ (gs : List Gate). outcome o (sizeOf gs)) gates
 
-  -- where the ballots pass, the board has its closing bytes behind the shown bits
+  -- if the ballots pass, the board has the closing bytes after the shown bits
   pub own-closing : firstOf (ballotReasons s ballots) ≡ none
       → (length (runResult s (numbersOf (ownList s)) ballots tape wires board .board) ≡ conditionalCount (ownList s) + s .candidates)
       × (drop (conditionalCount (ownList s)) (runResult s (numbersOf (ownList s)) ballots tape wires board .board) ≡ closingFor s ballots)

@@ -1,4 +1,5 @@
--- What a plain count answers: for accepted ballots the closing bytes of the rule, then zeros, and on a refusal zeros alone.
+-- What a plain count answers: for accepted ballots the closing bytes of the rule, then zeros; on a refusal only
+-- zeros.
 -- Assumes nothing.
 use mathlib.Core.Path.{_≡_, _∙_, sym, ap}
 use mathlib.Core.Logic.{⊎-elim}
@@ -61,6 +62,6 @@ module _ (s : Shape) (xs : List ℕ) (a : AcceptedBallots s xs) where
           List·getD-eq-default (plainClosing s xs) 0 {n = i} (omega (arith, plain-length s xs))
           ∙ sym (List·getD-eq-default (closingFor s xs) 0 {n = i} (omega (arith, bytes-length, most)))
 
-  -- so that they say who wins
+  -- so they say who wins
   pub plain-says : SaysWhoWins s xs (plainClosing s xs)
   plain-says = says-same s xs (closingFor s xs) (plainClosing s xs) plain-byte (rule-says s xs a)

@@ -26,7 +26,7 @@ use Rattle.tally.specs.SaysWhoWins.{SaysWhoWins}
 use Rattle.basics.proofs.Flags.{either}
 use Rattle.basics.proofs.Flags.{bit-most}
 
--- a byte that is 0 or 1, and 1 exactly where a statement holds, is 0 exactly where it does not
+-- a bit that is 1 exactly if a statement holds is 0 exactly if it does not
 none-exactly : {W : Type 0} (x : ℕ) → x ≤ 1 → (x ≡ 1) ↔ W → (x ≡ 0) ↔ (¬ W)
 none-exactly x h iff = (
   λ zero wins. let one = iff .1 wins in absurd (omega arith),
@@ -101,7 +101,7 @@ module _ (s : Shape) (xs : List ℕ) where
           past = λ i h. List·getD-eq-default (closingFor s xs) 0 {n = i} (omega (arith, closing-length));
         }
 
--- so do all bytes that are theirs at each place
+-- so do all bytes that agree with them at each place
 pub says-same : (s : Shape) (xs bytes others : List ℕ) → ((i : ℕ) → getD others i 0 ≡ getD bytes i 0)
     → SaysWhoWins s xs bytes → SaysWhoWins s xs others
 says-same s xs bytes others same says =

@@ -1,4 +1,4 @@
--- The ten reasons of a run: what their order answers, and what is known where none applies.
+-- The reasons of a run: what their order answers, and what is known if none applies.
 -- Assumes nothing.
 use mathlib.Core.Path.{_≡_, _∙_, refl, sym, ap}
 use mathlib.Core.Bool.{Bool, true, false}
@@ -39,7 +39,7 @@ module _ (i k : ℕ) (size : Size) (tape wires board : List ℕ) where
   unfolding bufferReasons lentFound
   lent-by t p u v e f g h = rw (e, f, g, h)
 
-  -- where none of them applies
+  -- what is known if none of them applies
   pub record LentPassed : Type 0 where
     pub tapeLength : length tape ≡ size .conditional
     pub tapeBits : firstAboveOne 0 tape ≡ Nowhere
@@ -84,7 +84,7 @@ three-passed none none (some r) e = let z : _≡_ {A = ℕ} 0 1 = cc in absurd (
 three-passed none (some r) c e = let z : _≡_ {A = ℕ} 0 1 = cc in absurd (omega arith)
 three-passed (some r) b c e = let z : _≡_ {A = ℕ} 0 1 = cc in absurd (omega arith)
 
--- three parts make the result of a call
+-- the result of a call is equal if its three parts are
 pub same-result : {answer answer′ : Outcome Size} {wires wires′ board board′ : List ℕ} → answer ≡ answer′ → wires ≡ wires′ → board ≡ board′
     → _≡_ {A = RunResult} (record { answer = answer; wires = wires; board = board }) (record { answer = answer′; wires = wires′; board = board′ })
 same-result {answer} {answer′} {wires} {wires′} {board} {board′} e f g =

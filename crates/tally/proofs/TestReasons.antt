@@ -1,4 +1,4 @@
--- What the test of a list answers, by the test of its shape and then that of its gates.
+-- What the test of a list answers: by the test of its shape, then that of its gates.
 -- Assumes nothing.
 use mathlib.Core.Path.{_≡_, _∙_, refl, sym, ap}
 use mathlib.Core.Bool.{Bool, true, false}
@@ -19,7 +19,7 @@ use Rattle.jury.specs.Reason.{Reason, reasonAt, unless, listReason, firstOf}
 use Rattle.tally.specs.Answer.{refused, accepted, outcome, Size, sizeOf}
 use Rattle.tally.specs.Test.{testReasons, testOutcome}
 
--- the first reason of tests one after the other
+-- the first reason of two groups of tests
 unfoldable pub orElse : Option Reason → Option Reason → Option Reason
 orElse none other = other
 orElse (some r) other = some r

@@ -98,7 +98,7 @@ module _ (s : Shape) (table : List ℕ) where
   pub write-length : length (writeResult s table) ≡ length table
   write-length = long-after (firstOf (writeReasons s table)) refl
 
-  -- what `graded_writer` leaves of the table is what the definition says
+  -- storing the list's numbers leaves the table that the definition names
   pub stored : 4 * length (ownList s) ≤ length table → sets table (4 * 0) (numbersOf (ownList s)) ≡ numbersOf (ownList s) ++ drop (length (numbersOf (ownList s))) table
   stored h =
       let ns = numbersOf (ownList s) in

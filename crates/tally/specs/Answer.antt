@@ -1,4 +1,4 @@
--- What the entry points answer: a reason with its place [order], or the values that [accepted] and [measure] name.
+-- What the entry points answer: a reason with its place [order], or the values of [accepted] and [measure].
 use mathlib.Core.Option.{Option, none, some}
 use mathlib.Core.Bool.{Bool, false, _||_}
 use mathlib.Core.List.{List, [], _∷_}
@@ -11,12 +11,12 @@ use Rattle.jury.specs.Reason.{Reason, reasonOf}
 use Rattle.tally.specs.declared.answer.Answer.{Answer}
 use Rattle.tally.specs.declared.answer.Answer.the-variants.{Accepted, Refused}
 
--- A call is turned away for a reason, or it is accepted and gives its values.
+-- A call is refused for a reason, or accepted with its values.
 pub data Outcome (Values : Type 0) : Type 0 where
   refused : Reason → Outcome Values
   accepted : Values → Outcome Values
 
--- A call is accepted exactly where no reason applies.
+-- A call is accepted exactly if no reason applies.
 unfoldable pub outcome : {Values : Type 0} → Option Reason → Values → Outcome Values
 outcome (some r) values = refused r
 outcome none values = accepted values
@@ -26,7 +26,7 @@ unfoldable pub hasNumberIn : List ℕ → Reason → Bool
 hasNumberIn [] r = false
 hasNumberIn (n ∷ ns) r = eqb (r .number) n || hasNumberIn ns r
 
--- What writing, testing and running give where they are accepted.
+-- What write, test and run answer if they are accepted.
 pub record Size : Type 0 where
   pub gates : ℕ
   pub conditional : ℕ
@@ -35,7 +35,7 @@ pub record Size : Type 0 where
 unfoldable pub sizeOf : List Gate → Size
 sizeOf gs = record { gates = length gs; conditional = conditionalCount gs }
 
--- What each case of the program's enum means, as a number with values.
+-- What each case of the program's enum means.
 unfoldable pub outcomeOf : Answer → Outcome Size
 outcomeOf (Accepted gates conditional) = accepted (record { gates = gates; conditional = conditional })
 outcomeOf (Refused r) = refused (reasonOf r)

@@ -11,11 +11,11 @@ use Rattle.jury.specs.ClosingBytes.{eightBytes}
 use Rattle.tally.specs.Answer.{Outcome, outcome}
 use Rattle.tally.specs.Rule.{closingFor}
 
--- The reasons that concern a count, in checking order: 1, 4, 5, then 6 of grades or 11 and 12 of rankings.
+-- The reasons of a count, in checking order: 1, 4, 5, then 6 for grades or 11 and 12 for rankings.
 unfoldable pub countReason : Shape → List ℕ → Option Reason
 countReason s xs = firstOf (unless (withinLimits s) 1 ∷ ballotReasons s xs)
 
--- The closing bytes of an accepted count, and eight zeros on a refusal.
+-- The closing bytes of an accepted count; eight zeros on a refusal.
 unfoldable pub closingAfter : Option Reason → List ℕ → List ℕ
 closingAfter none bytes = eightBytes bytes
 closingAfter (some r) bytes = eightBytes []
@@ -23,7 +23,7 @@ closingAfter (some r) bytes = eightBytes []
 unfoldable pub plainClosing : Shape → List ℕ → List ℕ
 plainClosing s xs = closingAfter (countReason s xs) (closingFor s xs)
 
--- What the entry point promises of its verdict and of the closing bytes.
+-- What the entry point promises about its verdict and the closing bytes.
 pub record Counts (s : Shape) (xs : List ℕ) (reason : Option Reason) (bytes : List ℕ) : Type 0 where
   pub verdict : reason ≡ countReason s xs
   pub closing : bytes ≡ plainClosing s xs

@@ -1,5 +1,5 @@
 -- Demand 3 on two concrete runs: different ballots, equal closing bytes, two tapes, one board. One candidate, two
--- grades, one ballot; the list is a stranger's, one gate that says whether wire 0 and wire 1 are both 1.
+-- grades, one ballot; the list is a stranger's, a single gate that tells whether wires 0 and 1 are both 1.
 use mathlib.Core.Path.{_≡_}
 use mathlib.Core.List.{[], _∷_}
 use Rattle.gates.specs.HidingExample.{oneGate}
@@ -14,7 +14,7 @@ pub record PairOfRuns : Type 0 where
   -- the better grade under the mask 0
   pub first-run : runResult oneBallot oneGate (1 ∷ 0 ∷ []) (0 ∷ []) (9 ∷ 9 ∷ 9 ∷ []) (9 ∷ 9 ∷ [])
       ≡ record { answer = accepted (record { gates = 1; conditional = 1 }); wires = 0 ∷ 0 ∷ 0 ∷ []; board = 1 ∷ 0 ∷ [] }
-  -- the worse grade under the mask 1, over other old bytes: the same board
+  -- the worse grade under the mask 1, over other old contents: the same board
   pub second-run : runResult oneBallot oneGate (0 ∷ 1 ∷ []) (1 ∷ []) (7 ∷ 7 ∷ 7 ∷ []) (7 ∷ 7 ∷ [])
       ≡ record { answer = accepted (record { gates = 1; conditional = 1 }); wires = 0 ∷ 0 ∷ 0 ∷ []; board = 1 ∷ 0 ∷ [] }
   -- the worse grade under the mask 0: another board

@@ -1,4 +1,4 @@
--- Demand 3: of the ballots, a board tells what its closing bytes tell and nothing else.
+-- Demand 3: a board reveals of the ballots only what its closing bytes reveal.
 use mathlib.Core.Path.{_≡_}
 use mathlib.Core.List.{List}
 use Prim.Native.Nat.{ℕ, _-_}
@@ -11,15 +11,15 @@ use Rattle.jury.specs.declared.shape.Shape.{Shape}
 use Rattle.tally.specs.Answer.{accepted, Size, sizeOf}
 use Rattle.tally.specs.Run.{BoardCall, runResult}
 
--- The closing bytes stand last on the board.
+-- The closing bytes are the last bytes of the board.
 unfoldable pub closingBytes : Shape → List ℕ → List ℕ
 closingBytes s board = drop (length board - s .candidates) board
 
--- Two calls of one shape and list, on the ballots xs and ys, over wire tables vs, ws and boards bs, ds of any contents.
--- `Finished`: each shown bit is its gate's wire a plus its own tape byte modulo 2, and the closing bytes follow. It
--- reads `wiresOf`, which ballots and list alone decide: no mask alters a wire.
+-- Two calls with one shape and list, on the ballots xs and ys, over wire tables vs, ws and boards bs, ds with any
+-- contents. `Finished`: each shown bit is its gate's wire a plus its own tape byte modulo 2, then the closing bytes.
+-- It reads `wiresOf`, which depends on ballots and list only: no mask changes a wire.
 pub record BoardsHide (s : Shape) (table xs ys : List ℕ) (one other : BoardCall) (vs ws bs ds : List ℕ) : Type 0 where
-  -- under every mask tape the first call answers the list's own G and C, and finishes its board over the same wires
+  -- under every mask tape the first call answers the list's own G and C, and finishes its board over these wires
   pub first-answer : (t : List ℕ) → MaskTape (gatesOf table) t → one t vs bs .answer ≡ accepted (sizeOf (gatesOf table))
   pub first-board : (t : List ℕ) → MaskTape (gatesOf table) t
       → Finished (wiresOf xs (gatesOf table)) (gatesOf table) (s .candidates) t (one t vs bs .board)
@@ -28,16 +28,16 @@ pub record BoardsHide (s : Shape) (table xs ys : List ℕ) (one other : BoardCal
       → other t ws ds .answer ≡ accepted (sizeOf (gatesOf table))
   pub second-board : (t : List ℕ) → MaskTape (gatesOf table) t
       → Finished (wiresOf ys (gatesOf table)) (gatesOf table) (s .candidates) t (other t ws ds .board)
-  -- for each first tape there is one second tape, and no other, under which the boards are the same
+  -- for each first tape there is exactly one second tape that makes the boards equal
   pub same-board : (t : List ℕ) → MaskTape (gatesOf table) t
       → ExactlyOne (λ (u : List ℕ). MaskTape (gatesOf table) u × (one t vs bs .board ≡ other u ws ds .board))
-  -- and that one serves for whatever else may have stood in the wire tables and boards
+  -- the same second tape does so whatever the old contents of wire tables and boards
   pub any-buffers : (t u vs′ ws′ bs′ ds′ : List ℕ) → MaskTape (gatesOf table) t → MaskTape (gatesOf table) u
       → length vs′ ≡ length vs → length ws′ ≡ length ws → length bs′ ≡ length bs → length ds′ ≡ length ds
       → one t vs bs .board ≡ other u ws ds .board → one t vs′ bs′ .board ≡ other u ws′ ds′ .board
 
--- Of all accepted calls of one shape and one list, whoever wrote it, that end with the same closing bytes.
--- `call` is the kind of call, by shape, list and inputs, and `ballotsOf` are the ballots that these inputs hold.
+-- For all accepted calls with one shape and one list, whoever wrote it, and equal closing bytes. `call` is the kind
+-- of call, by shape, list and inputs; `ballotsOf` are the ballots in these inputs.
 abbrev pub BoardTellsNoMore : {Inputs : Type 0}
     → (call : Shape → List ℕ → Inputs → BoardCall) (ballotsOf : Shape → Inputs → List ℕ) → Type 0
 BoardTellsNoMore {Inputs} call ballotsOf =

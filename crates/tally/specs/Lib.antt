@@ -12,3 +12,4 @@ pub mod Examples
 pub mod Write
 pub mod Demands
 pub mod Monotone
+pub mod inner

@@ -20,11 +20,11 @@ pub record Measures : Type 0 where
 unfoldable pub measuresOf : Shape → Measures
 measuresOf s = record { gates = length (ownList s); conditional = conditionalCount (ownList s); inputs = ballotBytes s }
 
--- Only reason 1 concerns a measure.
+-- Only reason 1 concerns measuring.
 unfoldable pub measureOutcome : Shape → Outcome Measures
 measureOutcome s = outcome (firstOf (unless (withinLimits s) 1 ∷ [])) (measuresOf s)
 
--- What each case of the program's enum means, as a number with values.
+-- What each case of the program's enum means.
 unfoldable pub measuredBy : Measured → Outcome Measures
 measuredBy (Accepted gates conditional inputs) =
     accepted (record { gates = gates; conditional = conditional; inputs = inputs })

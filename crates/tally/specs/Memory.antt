@@ -1,5 +1,5 @@
--- The demand [memory], said once for every call: over its answer, and over what each lent table held and holds.
--- That a call ends, and stays inside the lengths of what it is lent, is part of what is proved of every function.
+-- The demand [memory], stated once for every call: about its answer, and about each lent table before and after. That
+-- a call ends, and stays inside what it was lent, is part of what is proved for every function.
 use mathlib.Core.Path.{_≡_}
 use mathlib.Core.List.{List, [], _∷_}
 use Prim.Native.Nat.{ℕ}
@@ -9,7 +9,7 @@ use Rattle.jury.specs.Reason.{Reason}
 use Rattle.tally.specs.Answer.{Outcome, refused, accepted, hasNumberIn}
 use Rattle.tally.specs.Run.{RunResult}
 
--- A table that is lent for writing: what it held when the call began, and what it holds when the call ends.
+-- A table lent for writing: its contents before the call, and after it.
 pub record Lent : Type 0 where
   pub before : List ℕ
   pub after : List ℕ
@@ -27,8 +27,8 @@ Emptied t = t .after ≡ replicate (length (t .before)) 0
 abbrev pub SameLength : Lent → Type 0
 SameLength t = length (t .after) ≡ length (t .before)
 
--- `numbers` are those of the reasons that concern the call, `lent` all tables that it may write to, and `emptied` those
--- of them that held secrets while it ran.
+-- `numbers` are those of the call's reasons, `lent` all tables that it may write to, `emptied` those of them that
+-- held secrets while it ran.
 pub record KeepsMemory {Values : Type 0} (numbers : List ℕ) (answer : Outcome Values) (lent emptied : List Lent)
     : Type 0 where
   pub number : (r : Reason) → answer ≡ refused r → T (hasNumberIn numbers r)
@@ -36,7 +36,7 @@ pub record KeepsMemory {Values : Type 0} (numbers : List ℕ) (answer : Outcome 
   pub empties : (values : Values) → answer ≡ accepted values → Each Emptied emptied
   pub lengths : Each SameLength lent
 
--- A call that leaves a board is lent a wire table and a board. It empties the wire table.
+-- A call that leaves a board is lent a wire table and a board, and empties the wire table.
 abbrev pub BoardKeepsMemory : List ℕ → (wires board : List ℕ) → RunResult → Type 0
 BoardKeepsMemory numbers wires board r =
     let wire-table : Lent = record { before = wires; after = r .wires } in

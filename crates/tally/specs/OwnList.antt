@@ -1,4 +1,4 @@
--- The own list of a shape of either kind, and the bound on its number of gates.
+-- The own list of a shape, graded or ranked, and the bound on its number of gates.
 use mathlib.Core.Bool.{cond}
 use mathlib.Core.List.{List}
 use Prim.Native.Nat.{ℕ}

@@ -15,8 +15,8 @@ use Rattle.jury.specs.Ballots.{ballotReasons}
 use Rattle.tally.specs.Answer.{Outcome, refused, accepted, outcome, Size, sizeOf}
 use Rattle.tally.specs.Test.{testReasons}
 
--- The tests of what is lent besides the list and the ballots, in checking order: 7, 8, 9, 10. A tape byte is due for
--- each conditional gate, a wire for each input and each gate, a board byte for each tape byte and each output.
+-- The tests of tape, wire table and board, in checking order: 7, 8, 9, 10. The tape has a byte for each conditional
+-- gate, the wire table one for each input and gate, the board one for each tape byte and output.
 unfoldable pub bufferReasons : ℕ → ℕ → Size → List ℕ → List ℕ → List ℕ → List (Option Reason)
 bufferReasons i k size tape wires board =
     unless (eqb (length tape) (size .conditional)) 7
@@ -25,7 +25,7 @@ bufferReasons i k size tape wires board =
     ∷ unless (eqb (length board) (size .conditional + k)) 10
     ∷ []
 
--- All reasons of a run in checking order, by the size of the list that is lent.
+-- All reasons of a run in checking order, given the size of the lent list.
 unfoldable pub runReasons : Shape → List ℕ → List ℕ → List ℕ → List ℕ → List ℕ → List (Option Reason)
 runReasons s table ballots tape wires board =
     testReasons s table
@@ -36,18 +36,18 @@ abbrev pub runOutcome : Shape → List ℕ → List ℕ → List ℕ → List �
 runOutcome s table ballots tape wires board =
     outcome (firstOf (runReasons s table ballots tape wires board)) (sizeOf (gatesOf table))
 
--- What a call leaves: its answer, the wire table and the board.
+-- What a run leaves: its answer, the wire table and the board.
 pub record RunResult : Type 0 where
   pub answer : Outcome Size
   pub wires : List ℕ
   pub board : List ℕ
 
--- What a call leaves, by its tape, wire table and board: a call whose shape, list and ballots are settled.
+-- A call whose shape, list and ballots are fixed: what it leaves, given tape, wire table and board.
 abbrev pub BoardCall : Type 0
 BoardCall = (tape wires board : List ℕ) → RunResult
 
--- A refusal alters nothing that is lent. An accepted run leaves zeros in the wire table (request 2.13); on the board,
--- the shown bits and the closing bytes of the wires that the ballots have under the list.
+-- A refusal changes nothing. An accepted run leaves zeros in the wire table (request 2.13), and on the board the
+-- shown bits and the closing bytes of the wires that the list makes of the ballots.
 unfoldable pub runResultAfter : Option Reason → Shape → List Gate → List ℕ → List ℕ → List ℕ → List ℕ → RunResult
 runResultAfter (some r) s gs ballots tape wires board = record { answer = refused r; wires = wires; board = board }
 runResultAfter none s gs ballots tape wires board =

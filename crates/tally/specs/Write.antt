@@ -16,14 +16,14 @@ use Rattle.tally.specs.Rule.{closingFor}
 use Rattle.tally.specs.OwnList.{ownList, gateBound}
 use Rattle.tally.specs.Test.{testOutcome}
 
--- The reasons that concern writing, in checking order: 1, and 2 where the table has no room for all gates of the list.
+-- The reasons of writing, in checking order: 1, and 2 if the table has no room for the whole list.
 unfoldable pub writeReasons : Shape → List ℕ → List (Option Reason)
 writeReasons s table = unless (withinLimits s) 1 ∷ unless (leb (4 * length (ownList s)) (length table)) 2 ∷ []
 
 unfoldable pub writeOutcome : Shape → List ℕ → Outcome Size
 writeOutcome s table = outcome (firstOf (writeReasons s table)) (sizeOf (ownList s))
 
--- The table afterwards: the list's numbers and behind them what stood there; after a refusal all that stood there.
+-- The table afterwards: the list's numbers, then the old contents; after a refusal, only the old contents.
 unfoldable pub writeResultAfter : Option Reason → List ℕ → List ℕ → List ℕ
 writeResultAfter (some r) numbers table = table
 writeResultAfter none numbers table = numbers ++ drop (length numbers) table
@@ -31,20 +31,20 @@ writeResultAfter none numbers table = numbers ++ drop (length numbers) table
 unfoldable pub writeResult : Shape → List ℕ → List ℕ
 writeResult s table = writeResultAfter (firstOf (writeReasons s table)) (numbersOf (ownList s)) table
 
--- What holds of the own list of a shape within its limits.
+-- What holds for the own list of a shape within its limits.
 pub record OwnListHolds (s : Shape) : Type 0 where
-  -- the tester accepts its numbers for that shape, with its own G and C, C being the count of conditional marks in it
+  -- the test accepts it for that shape, with its own G and C; C is its number of conditional gates
   pub passes : testOutcome s (numbersOf (ownList s)) ≡ accepted (sizeOf (ownList s))
-  -- G keeps the bound of [bound] and [judgment-bound], or that of request 2.2
+  -- G keeps the bound: of [bound] with [judgment-bound], or of [ranking-bound]
   pub bounded : length (ownList s) ≤ gateBound s
-  -- its closing bytes are those of the rule, whatever the accepted ballots
+  -- for all accepted ballots its closing bytes are the rule's
   pub closing : (ballots : List ℕ) → AcceptedBallots s ballots
       → outputsOf (s .candidates) (wiresOf ballots (ownList s)) ≡ closingFor s ballots
 
 abbrev pub HoldsWithin : Shape → Type 0
 HoldsWithin s = T (withinLimits s) → OwnListHolds s
 
--- What the entry point promises of its answer and of the table.
+-- What the entry point promises about its answer and the table.
 pub record Writes (s : Shape) (before : List ℕ) (answer : Outcome Size) (after : List ℕ) : Type 0 where
   pub answers : answer ≡ writeOutcome s before
   pub leaves : after ≡ writeResult s before

@@ -1,4 +1,4 @@
-// What writing, testing and running a list answer.
+// What write, test and run answer.
 use jury::reason::Refusal;
 
 // The list's own G and C, or the first reason that applies.

@@ -9,13 +9,13 @@ ghost use Rattle.jury.specs.ClosingBytes.{eightBytes};
 ghost use Rattle.tally.specs.Rule.{closingFor};
 ghost use Rattle.tally.specs.Count.{Counts};
 
-// The outcome of a count, and the closing bytes: those behind the first k are 0, and on a refusal all eight are.
+// The outcome of a count, and the closing bytes: 0 after the first k, and all eight 0 on a refusal.
 pub struct Counted {
     pub verdict: Verdict,
     pub closing: [u8; 8],
 }
 
-// Counts the ballots of a jury of any shape, however it was made.
+// Counts the ballots of a jury. The shape may be any numbers: it is tested.
 pub fn count(shape: Shape, ballots: &[u8]) -> Counted
     ensures { λ r. ⌜ Counts shape (now (ballots .entry)) (refusedFor (r .verdict)) (r .closing) ⌝ }
 {
@@ -40,7 +40,7 @@ pub fn count(shape: Shape, ballots: &[u8]) -> Counted
     }
 }
 
-// The closing bytes of accepted ballots by the rule of their kind.
+// The closing bytes of accepted ballots, by the rule of the shape's kind.
 fn closing_bytes(shape: Shape, ballots: &[u8]) -> [u8; 8]
     requires { ⌜ AcceptedBallots shape (now ballots) ⌝ }
     ensures { λ r. ⌜ r ≡ eightBytes (closingFor shape (now (ballots .entry))) ⌝ }

@@ -14,7 +14,7 @@ pub enum Measured {
     Refused(Refusal),
 }
 
-// Measures the own list of a shape, with no table.
+// Measures the own list of a shape. Nothing is lent.
 pub fn measure(shape: Shape) -> Measured
     ensures { λ r. ⌜ measuredBy r ≡ measureOutcome shape ⌝ }
 {

@@ -1,16 +1,16 @@
-// The own list of a shape of either kind.
+// The own list of a shape, graded or ranked.
 use gate_words::writer::Writer;
 use jury::shape::Shape;
 ghost use mathlib.Core.Path.{_≡_};
 ghost use lib.Dec.{T};
 ghost use lib.ListN.{length};
-ghost use Rattle.gates.specs.Board.{conditionalCount};
 ghost use Rattle.gate_words.specs.Writing.{Wrote};
 ghost use Rattle.jury.specs.Shape.{withinLimits, ballotBytes};
 ghost use Rattle.tally.specs.OwnList.{ownList};
+ghost use Rattle.tally.specs.inner.OwnSize.{OwnSize};
 
-// Writes it from the table's first number on, as far as the table goes. The writer says how many gates the list has,
-// and how many of them are conditional, whatever the table.
+// Writes the list at the front of the table, as far as it fits. The writer counts all gates and all conditional ones,
+// whatever the length of the table.
 pub fn own_list(shape: Shape, table: &mut [u32]) -> Writer
     requires { ⌜ T (withinLimits shape) ⌝ }
     ensures { λ r.
@@ -24,15 +24,15 @@ pub fn own_list(shape: Shape, table: &mut [u32]) -> Writer
     }
 }
 
-// G and C of it: what the writer counts while it writes into a table without a place.
+// G and C of the list: what the writer counts over an empty table.
 pub fn measure(shape: Shape) -> Writer
     requires { ⌜ T (withinLimits shape) ⌝ }
-    ensures { λ r. ⌜ (r .gate ≡ length (ownList shape)) × (r .conditional ≡ conditionalCount (ownList shape)) ⌝ }
+    ensures { λ r. ⌜ OwnSize shape r ⌝ }
 {
     own_list(shape, &mut [])
 }
 
-// G alone: of grades by the spans of the circuit's parts, without writing them.
+// Only G. For grades it is the sum of the sizes of the circuit's parts, and nothing is written.
 pub fn gates(shape: Shape) -> usize
     requires { ⌜ T (withinLimits shape) ⌝ }
     ensures { λ r. ⌜ r ≡ length (ownList shape) ⌝ }

@@ -7,7 +7,7 @@ ghost use mathlib.Core.Path.{_≡_};
 ghost use Rattle.tally.specs.Answer.{outcomeOf};
 ghost use Rattle.tally.specs.Test.{testOutcome};
 
-// Tests anyone's list for a jury of a shape.
+// Tests a list for a shape, whoever wrote it.
 pub fn test(shape: Shape, table: &[u32]) -> Answer
     ensures { λ r. ⌜ outcomeOf r ≡ testOutcome shape (now (table .entry)) ⌝ }
 {

@@ -1,4 +1,4 @@
--- A refused text or list has one of the numbers that concern writing and reading.
+-- A refusal of writing or reading has one of the numbers of that call.
 -- Assumes nothing.
 use mathlib.Core.Path.{_≡_}
 use mathlib.Core.List.{List, [], _∷_}

@@ -24,7 +24,7 @@ use Rattle.text.specs.Text.{textOf, linesOf, firstMalformed, gatesIn}
 use Rattle.text.specs.Write.{textReasons, textOutcome, outputAfter, textWritten}
 use Rattle.text.specs.Read.{readReasons, readOutcome, numbersRead}
 
--- both parts make the result of a call
+-- the result of a call is equal if its two parts are
 pub same-text : {answer answer′ : Outcome ℕ} {output output′ : List ℕ} → (answer ≡ answer′) × (output ≡ output′)
     → _≡_ {A = TextResult} (record { answer = answer; output = output }) (record { answer = answer′; output = output′ })
 same-text {answer} {answer′} {output} {output′} e =
@@ -52,7 +52,7 @@ module _ (s : Shape) (table output : List ℕ) where
   unfolding orElse unless firstOf
   text-good e h = text-by none true e (le-leb (length (textOf (gatesOf table))) (length output) h)
 
-  -- what is left of a refused and of an accepted call
+  -- what a refused and an accepted call leave
   pub text-refused : (r : Reason) → firstOf (textReasons s table output) ≡ some r → (refused r ≡ textOutcome s table output) × (output ≡ textWritten s table output)
   unfolding textOutcome textWritten outcome outputAfter
   text-refused r e = (rw e, rw e)

@@ -1,4 +1,4 @@
--- A text read from line to line: what a line that was read at a place says of the lines from there on.
+-- A text line by line: what the line at a place says about the lines from there on.
 -- Assumes nothing.
 use mathlib.Core.Path.{_≡_, _∙_, refl, sym, ap, subst}
 use mathlib.Core.Bool.{Bool, true, false, cond, _&&_}
@@ -18,23 +18,23 @@ use Rattle.gates.proofs.Reading.{first-bad-nil, first-bad-cons, good-by}
 use Rattle.text_lines.specs.Decimal.{taken}
 use Rattle.text_lines.specs.Line.{gateIn, gateOf}
 use Rattle.text.specs.Text.{inFront, linesOf, malformedAt, firstMalformed, gatesIn}
-use Rattle.text_lines.specs.inner.Found.{lineFound, LineWithin}
+use Rattle.text_lines.specs.inner.Found.{lineFound, LineWithin, LineRead}
 use Rattle.text_lines.specs.declared.line.Line.{Line}
 use Rattle.text_lines.specs.declared.line.Line.the-variants as line
 use Rattle.text.proofs.TextLaws.{gate-first, other-first, other-here, other-later, gates-cons, first-line}
 
--- the numbers of a gate as one
+-- four numbers as a gate
 abbrev pub gate : ℕ → ℕ → ℕ → ℕ → Gate
 gate kind a b c = record { kind = kind; a = a; b = b; c = c }
 
-module _ (text : List ℕ) (at : ℕ) (r : Line) (e : lineFound text r ≡ gateIn (drop at text)) (w : LineWithin text r) where
+module _ (text : List ℕ) (at : ℕ) (r : Line) (read : LineRead text (gateIn (drop at text)) r) where
   module _ (kind a b c next : ℕ) (p : r ≡ line.Gate kind a b c next) where
     pub gate-here : gateIn (drop at text) ≡ taken (gate kind a b c) (drop next text)
     unfolding lineFound
-    gate-here = sym e ∙ ap (lineFound text) p
+    gate-here = sym (read .found) ∙ ap (lineFound text) p
 
     pub next-within : next ≤ length text
-    next-within = subst (LineWithin text) p w
+    next-within = subst (LineWithin text) p (read .within)
 
     pub next-later : at < next
     next-later =
@@ -50,7 +50,7 @@ module _ (text : List ℕ) (at : ℕ) (r : Line) (e : lineFound text r ≡ gateI
     pub later-lines : length (linesOf (drop at text)) ≡ suc (length (linesOf (drop next text)))
     later-lines = ap length (gate-first (drop at text) (record { value = gate kind a b c; behind = drop next text }) gate-here .lines)
 
-    -- a gate that was read is good as all its operands are below its own wire
+    -- a gate that was read is good exactly if all its operands are below its own wire
     pub good-here : (own : ℕ) → 0 < own → goodGate own (gate kind a b c) ≡ (ltb a own && ltb b own && ltb c own)
     good-here own pos =
         let w = gate-first (drop at text) (record { value = gate kind a b c; behind = drop next text }) gate-here .writable in
@@ -71,7 +71,7 @@ module _ (text : List ℕ) (at : ℕ) (r : Line) (e : lineFound text r ≡ gateI
   unfolding lineFound
   here-other p h i =
       let q : drop at text ≡ getD text at 0 ∷ drop (suc at) text = drop-cons text at 0 h in
-      let n : gateIn (getD text at 0 ∷ drop (suc at) text) ≡ none = ap gateIn (sym q) ∙ sym (sym (ap (lineFound text) p) ∙ e) in
+      let n : gateIn (getD text at 0 ∷ drop (suc at) text) ≡ none = ap gateIn (sym q) ∙ sym (sym (ap (lineFound text) p) ∙ read .found) in
       ap (λ (l : List ℕ). firstMalformed i (linesOf l)) q ∙ other-here i (getD text at 0 ∷ drop (suc at) text) (other-first (getD text at 0) (drop (suc at) text) n)
 
 -- past the last character
@@ -91,7 +91,7 @@ module _ (text : List ℕ) (at : ℕ) (h : length text ≤ at) where
 pub not-both : {P : Type 0} (o : Place) (i : ℕ) → o ≡ At i → o ≡ Nowhere → P
 not-both o i p q = let z : _≡_ {A = ℕ} 0 1 = cc in absurd (omega arith)
 
--- no line is another, from whatever number the lines are counted
+-- whether all lines are gates does not depend on the number of the first
 pub nowhere-any : (ls : List (List ℕ)) (i j : ℕ) → firstMalformed i ls ≡ Nowhere → firstMalformed j ls ≡ Nowhere
 unfolding firstMalformed malformedAt
 nowhere-any [] i j e = refl
@@ -101,7 +101,7 @@ nowhere-any (l ∷ ls) i j e = by (gateOf l) e (nowhere-any ls (suc i) (suc j))
     by none e ih = let z : _≡_ {A = ℕ} 0 1 = cc in absurd (omega arith)
     by (some g) e ih = ih e
 
--- The number of lines: the line feeds, and one more where characters stand behind the last of them.
+-- The number of lines: the line feeds, plus one if characters follow the last of them.
 feeds : List ℕ → ℕ
 feeds [] = 0
 feeds (c ∷ cs) = cond (eqb c 10) (suc (feeds cs)) (feeds cs)

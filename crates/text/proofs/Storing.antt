@@ -31,6 +31,6 @@ pub text-end : (t : List ℕ) (g : ℕ) → length (gatesOf t) ≤ g → textOf 
 unfolding textOf
 text-end t g h = rw (drop-of-length-le (gatesOf t) {i = g} h)
 
--- stores from the start on
+-- storing from the start
 pub sets-front : (l vs : List ℕ) → length vs ≤ length l → sets l 0 vs ≡ vs ++ drop (length vs) l
 sets-front l vs h = let z = zero-add (length vs) in sets-eq vs l 0 (omega arith) ∙ ap (λ (k : ℕ). vs ++ drop k l) z

@@ -1,4 +1,4 @@
--- A text and its lines: where a gate stands at the start, it is the first line; where none does, the first line is no gate.
+-- A text and its lines: if it starts with a gate, that is the first line; if not, the first line is malformed.
 -- Assumes nothing.
 use mathlib.Core.Path.{_≡_, _∙_, refl, sym, ap}
 use mathlib.Core.Bool.{Bool, true, false, cond}
@@ -66,7 +66,7 @@ no-feed-front g =
     (no-feed-append (d ++ ta) tb (no-feed-append d ta (no-feed-decimal 10 (g .kind)) (no-feed-operand (ltb 0 n) (g .a))) (no-feed-operand (ltb 1 n) (g .b)))
     (no-feed-operand (ltb 2 n) (g .c))
 
--- characters without a line feed, and the line feed behind them, are a line
+-- characters without a line feed, then a line feed, are a line
 lines-front : (w rest : List ℕ) → NoFeed w → linesOf (w ++ 10 ∷ rest) ≡ (w ++ 10 ∷ []) ∷ linesOf rest
 unfolding linesOf inFront
 lines-front [] rest p = refl
@@ -113,7 +113,7 @@ first-line c cs = by (eqb c 10) refl
     by true e = record { line = c ∷ []; later = linesOf cs; is = rw e }
     by false e = in-front (linesOf cs) (rw e)
 
--- What a reading at the start of some characters says of their lines.
+-- What reading at the start of some characters says about their lines.
 pub record GateFirst (cs : List ℕ) (t : Taken Gate) : Type 0 where
   pub lines : linesOf cs ≡ lineOf (t .value) ∷ linesOf (t .behind)
   pub reads : gateOf (lineOf (t .value)) ≡ some (t .value)
@@ -154,7 +154,7 @@ other-first c cs e = by (gateOf (f .line)) refl
         let whole : c ∷ cs ≡ lineOf g ++ flatten (f .later) = sym (flatten-lines (c ∷ cs)) ∙ ap flatten (f .is) ∙ ap (λ (l : List ℕ). l ++ flatten (f .later)) (w .1) in
         absurd (Option·none-ne-some (record { value = g; behind = flatten (f .later) }) (sym e ∙ ap gateIn whole ∙ read-line g (flatten (f .later)) (w .0)))
 
--- The first line that is no gate, and the gates, line by line.
+-- The first malformed line, and the gates, line by line.
 pub other-here : (i : ℕ) (cs : List ℕ) (o : OtherFirst cs) → firstMalformed i (linesOf cs) ≡ At i
 unfolding firstMalformed malformedAt
 other-here i cs o = ap (firstMalformed i) (o .lines) ∙ rw (o .reads)

@@ -8,8 +8,7 @@ use Rattle.text.specs.declared.answer.TextRefusal.the-variants.{OfList, 
 use Rattle.text.specs.declared.answer.Answer.{Answer}
 use Rattle.text.specs.declared.answer.Answer.the-variants.{Accepted, Refused}
 
--- The number and place of each case: a line of another form is reason 23 at that line, an output that is too short
--- reason 24.
+-- The number and place of each case: 23 at a malformed line, 24 for an output that is too short.
 unfoldable pub textReasonOf : TextRefusal → Reason
 textReasonOf (OfList r) = reasonOf r
 textReasonOf (Line i) = reasonAt 23 i

@@ -1,4 +1,4 @@
--- The demand [memory] for the two calls on a text: each is lent an output.
+-- The demand [memory] for writing and reading a text: each is lent an output.
 use mathlib.Core.Path.{_≡_}
 use mathlib.Core.List.{List, [], _∷_, _++_}
 use Prim.Native.Nat.{ℕ}

@@ -15,7 +15,7 @@ largestText = 52 ∷ 50 ∷ 57 ∷ 52 ∷ 57 ∷ 54 ∷ 55 ∷ 50 ∷ 57 ∷ 53 
 abbrev pub tooLargeText : List ℕ
 tooLargeText = 52 ∷ 50 ∷ 57 ∷ 52 ∷ 57 ∷ 54 ∷ 55 ∷ 50 ∷ 57 ∷ 54 ∷ []
 
--- `2 1` and a line feed: kind 2, whose one operand is wire 1. `02 1` has the same numbers and is none.
+-- `2 1` and a line feed: kind 2 with wire 1. `02 1` stands for the same numbers, and is malformed.
 abbrev pub copyLine : List ℕ
 copyLine = 50 ∷ 32 ∷ 49 ∷ 10 ∷ []
 

@@ -5,3 +5,4 @@ pub mod Read
 pub mod RoundTrip
 pub mod Demands
 pub mod Examples
+pub mod inner

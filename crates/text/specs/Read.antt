@@ -15,8 +15,8 @@ use Rattle.text.specs.Answer.{TextResult}
 use Rattle.text.specs.Text.{linesOf, firstMalformed, gatesIn}
 use Rattle.text.specs.Write.{outputAfter}
 
--- The reasons in checking order: 1; 2, fewer lines than the k candidates or more than 1,048,576; 23, the first line
--- that is no gate, over all lines; 3, the first gate that is not good; 24, an output of fewer than four numbers a line.
+-- The reasons in checking order: 1; 2 for fewer than k lines or more than 1,048,576; 23 at the first malformed line,
+-- over all lines; 3 at the first bad gate; 24 for an output of fewer than four numbers a line.
 unfoldable pub readReasons : Shape → List ℕ → List ℕ → List (Option Reason)
 readReasons s text output =
     unless (withinLimits s) 1

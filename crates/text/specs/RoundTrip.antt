@@ -8,15 +8,15 @@ use Rattle.tally.specs.Answer.{accepted}
 use Rattle.text.specs.Write.{textOutcome, textWritten}
 use Rattle.text.specs.Read.{readOutcome, numbersRead}
 
--- [text]: with room enough in the output, a text is accepted where it is that of some list of the shape, and only
--- there; its numbers come back.
+-- [text]: with enough room in the output, reading accepts exactly the texts of lists for the shape, and gives the
+-- numbers back.
 pub record RoundTrip : Type 0 where
-  -- whatever writing produced is accepted, and read as the list that was written
+  -- what writing produced is accepted, and read as the list that was written
   pub back : (s : Shape) (table output numbers : List ℕ) (n : ℕ)
       → textOutcome s table output ≡ accepted n → length table ≤ length numbers
       → (readOutcome s (take n (textWritten s table output)) numbers ≡ accepted (length table))
       × (numbersRead s (take n (textWritten s table output)) numbers ≡ table ++ drop (length table) numbers)
-  -- whatever reading accepted is what writing produces from the numbers that were read
+  -- what reading accepted is what writing produces from the numbers that were read
   pub forth : (s : Shape) (text numbers output : List ℕ) (n : ℕ)
       → readOutcome s text numbers ≡ accepted n → length text ≤ length output
       → (textOutcome s (take n (numbersRead s text numbers)) output ≡ accepted (length text))

@@ -14,17 +14,17 @@ unfoldable pub textOf : List Gate → List ℕ
 textOf [] = []
 textOf (g ∷ gs) = lineOf g ++ textOf gs
 
--- A character in front of the first line; it is a line by itself where there is none.
+-- Puts a character in front of the first line, or makes it a line if there is none.
 unfoldable pub inFront : ℕ → List (List ℕ) → List (List ℕ)
 inFront c [] = (c ∷ []) ∷ []
 inFront c (line ∷ lines) = (c ∷ line) ∷ lines
 
--- The lines of a text. A line feed ends its line and belongs to it; what stands behind the last one is a line too.
+-- The lines of a text. A line feed ends its line and belongs to it; characters after the last one are a line too.
 unfoldable pub linesOf : List ℕ → List (List ℕ)
 linesOf [] = []
 linesOf (c ∷ cs) = cond (eqb c lineFeed) ((c ∷ []) ∷ linesOf cs) (inFront c (linesOf cs))
 
--- The first line that is no gate, the first line here being line i.
+-- The first malformed line, where the first line here is line i.
 unfoldable pub malformedAt : Option Gate → ℕ → Place → Place
 malformedAt none i later = At i
 malformedAt (some g) i later = later

@@ -12,8 +12,7 @@ use Rattle.tally.specs.Test.{testReasons}
 use Rattle.text.specs.Answer.{TextResult}
 use Rattle.text.specs.Text.{textOf}
 
--- The reasons in checking order: 1, 2 and 3 as for the test of a list, then 24, an output that is too short for the
--- text.
+-- The reasons in checking order: 1, 2 and 3 as in the test of a list, then 24 for an output that is too short.
 unfoldable pub textReasons : Shape → List ℕ → List ℕ → List (Option Reason)
 textReasons s table output =
     testReasons s table ++ unless (leb (length (textOf (gatesOf table))) (length output)) 24 ∷ []
@@ -22,7 +21,7 @@ textReasons s table output =
 unfoldable pub textOutcome : Shape → List ℕ → List ℕ → Outcome ℕ
 textOutcome s table output = outcome (firstOf (textReasons s table output)) (length (textOf (gatesOf table)))
 
--- An output afterwards: what was written and then what stood behind it, or all as it was on a refusal.
+-- An output afterwards: what was written, then the old contents; after a refusal, only the old contents.
 unfoldable pub outputAfter : Option Reason → List ℕ → List ℕ → List ℕ
 outputAfter (some r) new output = output
 outputAfter none new output = new ++ drop (length new) output

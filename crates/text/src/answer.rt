@@ -3,14 +3,14 @@ use jury::reason::Refusal;
 ghost use mathlib.Core.Path.{_≡_};
 ghost use Rattle.text.specs.Answer.{textReasonOf};
 
-// Why a text, or a list that is to be written as one, is turned away. The number in `Line` is the line, from 0.
+// Why a text, or a list to be written as text, is refused. The number in `Line` is the line, counted from 0.
 pub enum TextRefusal {
     OfList(Refusal),
     Line(usize),
     Output,
 }
 
-// How much of the output was written, or the first reason that applies.
+// How many characters or numbers were written, or the first reason that applies.
 pub enum Answer {
     Accepted { length: usize },
     Refused(TextRefusal),
@@ -28,7 +28,7 @@ impl TextRefusal {
         }
     }
 
-    // The place of a reason, 0 where none is named.
+    // The place of a reason, 0 if it has none.
     pub fn place(self) -> usize
         ensures { λ r. ⌜ r ≡ (textReasonOf self) .place ⌝ }
     {

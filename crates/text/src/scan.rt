@@ -1,20 +1,19 @@
-// A text line by line: one pass for each test, and one that puts the numbers.
+// A text line by line: one pass for each test, and one that stores the numbers.
 use gates::place::Place;
 use text_lines::line;
 use text_lines::line::LINE_FEED;
 use text_lines::line::Line;
 ghost use mathlib.Core.Path.{_≡_};
-ghost use Prim.Native.Nat.{_+_, _*_, _≤_, _<_};
 ghost use lib.ListN.{length};
 ghost use lib.Seq.{sets};
 ghost use Rattle.gates.specs.Gate.{numbersOf};
 ghost use lib.Dec.{ltb};
 ghost use mathlib.Core.Bool.{_&&_};
 ghost use Rattle.gates.specs.Test.{firstBad};
-ghost use Rattle.gates.specs.declared.place.Place.the-variants.{Nowhere};
 ghost use Rattle.text.specs.Text.{linesOf, firstMalformed, gatesIn};
+ghost use Rattle.text.specs.inner.Scan.{ScanReady, PutReady};
 
-// How many lines a text has: its line feeds, and one more where characters stand behind the last of them.
+// How many lines a text has: its line feeds, plus one if characters follow the last of them.
 pub(crate) fn line_count(text: &[u8]) -> usize
     ensures { λ r. ⌜ r ≡ length (linesOf (now (text .entry))) ⌝ }
 {
@@ -36,7 +35,7 @@ pub(crate) fn line_count(text: &[u8]) -> usize
     }
 }
 
-// The first line that is no gate.
+// The first malformed line.
 pub(crate) fn first_malformed(text: &[u8]) -> Place
     ensures { λ r. ⌜ r ≡ firstMalformed 0 (linesOf (now (text .entry))) ⌝ }
 {
@@ -59,7 +58,7 @@ pub(crate) fn first_malformed(text: &[u8]) -> Place
     Place::Nowhere
 }
 
-// Whether all operands are below a wire. Those that are not in use are read as 0, which is below every gate's own wire.
+// Whether all operands are below a gate's own wire. Unused ones are read as 0, which is below every gate's wire.
 fn are_below(own: usize, a: u32, b: u32, c: u32) -> bool
     ensures { λ r. ⌜ r ≡ (ltb a own && ltb b own && ltb c own) ⌝ }
 {
@@ -72,11 +71,9 @@ fn are_below(own: usize, a: u32, b: u32, c: u32) -> bool
     (c as usize) < own
 }
 
-// The first gate that is not good, of a text whose lines are all gates.
+// The first bad gate of a text whose lines are all gates.
 pub(crate) fn first_bad(inputs: usize, text: &[u8]) -> Place
-    requires { ⌜ 0 < inputs ⌝ }
-    requires { ⌜ inputs < 4294967296 ⌝ }
-    requires { ⌜ firstMalformed 0 (linesOf (now text)) ≡ Nowhere ⌝ }
+    requires { ⌜ ScanReady inputs (now text) ⌝ }
     ensures { λ r. ⌜ r ≡ firstBad inputs 0 (gatesIn (linesOf (now (text .entry)))) ⌝ }
 {
     let mut at = 0;
@@ -101,10 +98,9 @@ pub(crate) fn first_bad(inputs: usize, text: &[u8]) -> Place
     Place::Nowhere
 }
 
-// Puts the numbers of a text whose lines are all gates.
+// Stores the numbers of a text whose lines are all gates.
 pub(crate) fn put_gates(text: &[u8], output: &mut [u32])
-    requires { ⌜ firstMalformed 0 (linesOf (now text)) ≡ Nowhere ⌝ }
-    requires { ⌜ 4 * length (linesOf (now text)) ≤ length (now output) ⌝ }
+    requires { ⌜ PutReady (now text) (now output) ⌝ }
     ensures { λ _.
         ⌜ now (output .exit)
         ≡ sets (now (output .entry)) 0 (numbersOf (gatesIn (linesOf (now (text .entry))))) ⌝ }

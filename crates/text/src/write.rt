@@ -50,7 +50,7 @@ fn put_text(table: &[u32], output: &mut [u8])
     }
 }
 
-// Writes the text of a list, whoever wrote the list, for a jury of a shape.
+// Writes the text of a list for a shape, whoever wrote the list.
 pub fn write(shape: Shape, table: &[u32], output: &mut [u8]) -> Answer
     ensures { λ r.
         ⌜ record { answer = lengthOutcome r; output = now (output .exit) }

@@ -1,4 +1,4 @@
--- Numbers in decimal: what is written is read back, and what is read is what is written.
+-- Decimal numbers: what is written is read back, and what is read was written.
 -- Assumes nothing.
 use mathlib.Core.Path.{_≡_, _∙_, refl, sym, ap, subst}
 use mathlib.Core.Bool.{Bool, true, false, cond, _&&_}
@@ -51,7 +51,7 @@ more-digits : (f n : ℕ) → 10 ≤ n → decimalWithin (suc f) n ≡ decimalWi
 unfolding decimalWithin
 more-digits f n h = rw (le-ltb n 10 h)
 
--- a number that so many digits hold: a digit less holds its tenth
+-- if suc f digits are enough for a number, f digits are enough for its tenth
 tenth : (f n : ℕ) → n < 10 ^ suc f → n / 10 < 10 ^ f
 tenth f n h = let p = pow-succ' 10 f in omega arith
 
@@ -74,7 +74,7 @@ read-digits (suc f) n rest pos fits few = by (ltb n 10) refl (λ (more : 10 ≤ 
         ∙ digits-more (n / 10) (n % 10) rest (omega arith) (omega arith)
         ∙ ap (λ (m : ℕ). digitsIn m rest) whole
 
--- What is written is read back, where no digit follows.
+-- What is written is read back if no digit follows.
 pub read-decimal : (n : ℕ) (rest : List ℕ) → n ≤ 4294967295 → Apart rest → numberIn (decimal n ++ rest) ≡ taken n rest
 unfolding decimal
 read-decimal zero rest fits a = ap (λ (l : List ℕ). numberIn (l ++ rest)) (one-digit 9 0 (omega arith)) ∙ zero-read
@@ -98,7 +98,7 @@ pub decimal-one : (n : ℕ) → n < 10 → decimal n ≡ (48 + n) ∷ []
 unfolding decimal
 decimal-one n h = one-digit 9 n h
 
--- a digit behind a number above 0
+-- a digit after a number above 0
 pub decimal-more : (n d : ℕ) → 0 < n → d < 10 → 10 * n + d ≤ 4294967295 → decimal (10 * n + d) ≡ decimal n ++ (48 + d) ∷ []
 unfolding decimal
 decimal-more n d pos small fits =
@@ -119,12 +119,12 @@ digit-is c e = by (leb 48 c) (leb c 57) refl refl e
     by true false p q e = let z : _≡_ {A = ℕ} 0 1 = cc in absurd (omega arith)
     by false u p q e = let z : _≡_ {A = ℕ} 0 1 = cc in absurd (omega arith)
 
--- What is read is what is written: the characters are the number's, and those behind it.
+-- What is read was written: the characters are the number's, then the rest.
 pub record Wrote (cs : List ℕ) (n : ℕ) (rest : List ℕ) : Type 0 where
   pub fits : n ≤ 4294967295
   pub is : cs ≡ decimal n ++ rest
 
--- where the reading stopped
+-- where reading stops
 stopped : (n : ℕ) (cs : List ℕ) (m : ℕ) (rest : List ℕ) → n ≤ 4294967295 → taken n cs ≡ taken m rest → Wrote (decimal n ++ cs) m rest
 stopped n cs m rest fits e =
     let p = Option·some-injective (record { value = n; behind = cs }) (record { value = m; behind = rest }) e in
@@ -215,7 +215,7 @@ pub count-is : (j n : ℕ) → n ≤ 4294967295 → n < 10 ^ suc j → Least j n
 unfolding decimal
 count-is j n fits few l = digits-count 9 j n (omega arith) few l
 
--- A reading of digits from a place of a text on.
+-- Reading digits from a place on.
 module _ (n : ℕ) (text : List ℕ) (i : ℕ) where
   pub digits-stop : i < length text → isDigit (getD text i 0) ≡ false → digitsIn n (drop i text) ≡ taken n (drop i text)
   digits-stop h e = digits-end n (drop i text) (subst Apart (sym (drop-cons text i 0 h)) e)

@@ -1,4 +1,4 @@
--- What a reading from a place of a text on found there.
+-- What reading from a place of a text found there.
 -- Assumes nothing.
 use mathlib.Core.Path.{_≡_, _∙_, sym, ap, subst}
 use mathlib.Core.Option.{Option, none, some, bind}

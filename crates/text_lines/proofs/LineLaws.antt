@@ -1,4 +1,4 @@
--- A gate as a line: what is written is read back, and what is read is what is written.
+-- A gate as a line: what is written is read back, and what is read was written.
 -- Assumes nothing.
 use mathlib.Core.Path.{_≡_, _∙_, refl, sym, ap, subst}
 use mathlib.Core.Bool.{Bool, true, false, cond}
@@ -20,7 +20,7 @@ unfolding bind
 bind-some none f y e = absurd (Option·none-ne-some y e)
 bind-some (some a) f y e = (a, refl, e)
 
--- a number that a line can hold: one of 32 bits, and 0 where it is not in use
+-- an operand that a line can hold: a 32-bit number, 0 if unused
 pub record Holds (used : Bool) (x : ℕ) : Type 0 where
   pub fits : x ≤ 4294967295
   pub unused : used ≡ false → x ≡ 0
@@ -101,7 +101,7 @@ read-line g rest w =
     ap gateIn whole
     ∙ rw (read-decimal (g .kind) oa (omega (arith, w .known)) aa, lt-ltb (g .kind) 8 (w .known), read-operand (ltb 0 n) (g .a) ob (w .a-holds) ab, read-operand (ltb 1 n) (g .b) oc (w .b-holds) ac, read-operand (ltb 2 n) (g .c) (10 ∷ rest) (w .c-holds) refl)
 
--- What is read is what is written.
+-- What is read was written.
 pub record WroteLine (cs : List ℕ) (t : Taken Gate) : Type 0 where
   pub writable : Writable (t .value)
   pub is : cs ≡ lineOf (t .value) ++ t .behind
@@ -148,7 +148,7 @@ wrote-line cs t e =
     subst (WroteLine cs) (Option·some-injective _ t (r .2))
     (together cs (k .0) (a .0) (b .0) (c .0) (r .0) (n .1 ∙ ap {B = Option (Taken ℕ)} some (known .0)) (known .1) (a .1) (b .1) (c .1) (r .1))
 
--- The same of a whole line.
+-- The same for a whole line.
 pub line-read : (g : Gate) → Writable g → gateOf (lineOf g) ≡ some g
 unfolding gateOf bind only
 line-read g w = ap (λ (o : Option (Taken Gate)). bind o λ t. only (t .value) (t .behind)) (ap gateIn (sym (append-nil (lineOf g))) ∙ read-line g [] w)

@@ -13,6 +13,7 @@ use Rattle.gates.specs.Kind.{operandsOf}
 use Rattle.gates.specs.Gate.{Gate}
 use Rattle.text_lines.specs.Decimal.{decimalWithin, decimal}
 use Rattle.text_lines.specs.Line.{operandText, lineOf}
+use Rattle.text_lines.specs.inner.Stored.{Stored}
 use Rattle.text_lines.proofs.DecimalLaws.{decimal-one, decimal-more}
 
 -- a first run of stores and then a second
@@ -22,7 +23,7 @@ sets-append l at (x ∷ xs) ys =
     let e : suc at + length xs ≡ at + suc (length xs) = omega arith in
     sets-append (set l at x) (suc at) xs ys ∙ ap (λ (k : ℕ). sets (sets (set l at x) (suc at) xs) k ys) e
 
--- a store behind a run may come before it
+-- a store after a run may come before it
 pub sets-behind : (l : List ℕ) (at : ℕ) (xs : List ℕ) (d : ℕ) → sets (set l (at + length xs) d) at xs ≡ sets l at (xs ++ d ∷ [])
 sets-behind l at [] d = ap (λ (k : ℕ). set l k d) (add-zero at)
 sets-behind l at (x ∷ xs) d =
@@ -31,7 +32,7 @@ sets-behind l at (x ∷ xs) d =
     ∙ ap (λ (k : ℕ). sets (set (set l at x) k d) (suc at) xs) e
     ∙ sets-behind (set l at x) (suc at) xs d
 
--- a number from 10 on: its last digit stands behind its tenth
+-- a number from 10 on is its tenth and then its last digit
 decimal-tenth : (n : ℕ) → 10 ≤ n → n ≤ 4294967295 → decimal n ≡ decimal (n / 10) ++ (48 + n % 10) ∷ []
 decimal-tenth n h fits =
     let e : 10 * (n / 10) + n % 10 ≡ n = omega arith in
@@ -54,19 +55,15 @@ store-first l at i n d h e p =
     let q : i ≡ at = omega (arith, ap length (decimal-one n h)) in
     ap (λ (k : ℕ). set l k d) q ∙ ap (set l at) e ∙ ap (sets l at) (sym (decimal-one n h))
 
--- Characters stored up to a place, whatever was stored there.
-pub record Stored (l : List ℕ) (at : ℕ) (xs r : List ℕ) (e : ℕ) : Type 0 where
-  pub is : r ≡ sets l at xs
-  pub next : e ≡ at + length xs
-
+-- Characters stored up to a place, whatever was there.
 pub stored-long : {l : List ℕ} {at : ℕ} {xs r : List ℕ} {e : ℕ} → Stored l at xs r e → length r ≡ length l
 stored-long {l} {at} {xs} s = ap length (s .is) ∙ length-sets l at xs
 
-pub stored-then : {l : List ℕ} {at : ℕ} {xs r : List ℕ} {e : ℕ} → Stored l at xs r e → (ys r′ : List ℕ) (e′ : ℕ) → r′ ≡ sets r e ys → e′ ≡ e + length ys → Stored l at (xs ++ ys) r′ e′
-stored-then {l} {at} {xs} {r} {e} s ys r′ e′ p q =
+pub stored-then : {l : List ℕ} {at : ℕ} {xs r : List ℕ} {e : ℕ} → Stored l at xs r e → {ys r′ : List ℕ} {e′ : ℕ} → Stored r e ys r′ e′ → Stored l at (xs ++ ys) r′ e′
+stored-then {l} {at} {xs} {r} {e} s {ys} {r′} {e′} more =
     record {
-      is = p ∙ ap (λ (t : List ℕ). sets t e ys) (s .is) ∙ ap (λ (k : ℕ). sets (sets l at xs) k ys) (s .next) ∙ sym (sets-append l at xs ys);
-      next = omega (arith, s .next, length-append xs ys);
+      is = more .is ∙ ap (λ (t : List ℕ). sets t e ys) (s .is) ∙ ap (λ (k : ℕ). sets (sets l at xs) k ys) (s .next) ∙ sym (sets-append l at xs ys);
+      next = omega (arith, s .next, more .next, length-append xs ys);
     }
 
 -- How long a line is.
@@ -96,7 +93,7 @@ unfolding operandText
 operand-most true n = omega (arith, decimal-most n)
 operand-most false n = omega arith
 
--- a line, its kind's number of operands being m
+-- a line whose kind uses m operands
 pub lineWith : ℕ → Gate → List ℕ
 lineWith m g = decimal (g .kind) ++ operandText (ltb 0 m) (g .a) ++ operandText (ltb 1 m) (g .b) ++ operandText (ltb 2 m) (g .c) ++ 10 ∷ []
 

@@ -5,7 +5,7 @@ use mathlib.Core.List.{List, [], _∷_, _++_}
 use Prim.Native.Nat.{ℕ, zero, suc, _+_, _-_, _*_, _/_, _%_}
 use lib.Dec.{leb, ltb, eqb}
 
--- The characters `0` and `9`. The digits between them stand in order.
+-- The characters `0` and `9`; the other digits lie between them, in order.
 abbrev pub zeroCharacter : ℕ
 zeroCharacter = 48
 
@@ -16,20 +16,20 @@ nineCharacter = 57
 abbrev pub largest : ℕ
 largest = 4294967295
 
--- A number in at most so many digits, the first of them being 0 for 0 alone.
+-- A number in decimal, where this many digits are enough. No leading zeros; 0 itself is one digit.
 unfoldable pub decimalWithin : ℕ → ℕ → List ℕ
 decimalWithin zero n = []
 decimalWithin (suc digits) n =
     cond (ltb n 10) ((zeroCharacter + n) ∷ []) (decimalWithin digits (n / 10) ++ (zeroCharacter + n % 10) ∷ [])
 
--- A number of 32 bits in decimal: ten digits hold it.
+-- A 32-bit number in decimal: ten digits are enough.
 unfoldable pub decimal : ℕ → List ℕ
 decimal n = decimalWithin 10 n
 
 unfoldable pub isDigit : ℕ → Bool
 isDigit c = leb zeroCharacter c && leb c nineCharacter
 
--- What the first characters say, and the characters behind them.
+-- What the first characters say, and the characters after them.
 pub record Taken (Values : Type 0) : Type 0 where
   pub value : Values
   pub behind : List ℕ
@@ -37,7 +37,7 @@ pub record Taken (Values : Type 0) : Type 0 where
 abbrev pub taken : {Values : Type 0} → Values → List ℕ → Option (Taken Values)
 taken value behind = some (record { value = value; behind = behind })
 
--- The digits from here on, those before them having come to n: the whole number, or nothing where it is above the
+-- The number that the digits from here on complete, where n is the value of those before; nothing if it is above the
 -- largest.
 unfoldable pub digitsIn : ℕ → List ℕ → Option (Taken ℕ)
 digitsIn n [] = taken n []
@@ -46,7 +46,7 @@ digitsIn n (c ∷ cs) =
     (cond (leb (10 * n + (c - zeroCharacter)) largest) (digitsIn (10 * n + (c - zeroCharacter)) cs) none)
     (taken n (c ∷ cs))
 
--- A number at the start of some characters. A first digit 0 is the whole number: no other begins with it.
+-- The number at the start of some characters. After a first digit 0 nothing follows: no other number begins with 0.
 unfoldable pub numberIn : List ℕ → Option (Taken ℕ)
 numberIn [] = none
 numberIn (c ∷ cs) =

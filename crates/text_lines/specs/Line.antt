@@ -14,7 +14,7 @@ space = 32
 abbrev pub lineFeed : ℕ
 lineFeed = 10
 
--- An operand in use stands behind a space; one that is not in use is not written.
+-- An operand in use is written after a space; an unused one is not written.
 unfoldable pub operandText : Bool → ℕ → List ℕ
 operandText true n = space ∷ decimal n
 operandText false n = []
@@ -27,8 +27,8 @@ lineOf g =
     ++ operandText (ltb 2 (operandsOf (g .kind))) (g .c)
     ++ lineFeed ∷ []
 
--- The same parts at the start of some characters, each of which may be missing: a known kind, an operand, which is 0
--- where it is not in use, and a line feed.
+-- The parts of a line at the start of some characters, each of which may be missing: a known kind; an operand, which
+-- is 0 if unused; a line feed.
 unfoldable pub knownKind : Taken ℕ → Option (Taken ℕ)
 knownKind k = cond (ltb (k .value) 8) (some k) none
 
@@ -51,7 +51,7 @@ gateIn cs =
     bind (endIn (c .behind)) λ rest.
     taken (record { kind = k .value; a = a .value; b = b .value; c = c .value }) rest
 
--- The gate that a whole line is, if it has that form: nothing stands behind it.
+-- The gate of a whole line, if nothing follows it.
 unfoldable pub only : Gate → List ℕ → Option Gate
 only g [] = some g
 only g (c ∷ cs) = none

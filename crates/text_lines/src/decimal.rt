@@ -1,10 +1,10 @@
-// Numbers in decimal: one at a time, out of a text or into one.
+// Decimal numbers, read from a text or put into one.
 ghost use mathlib.Core.Path.{_≡_};
 ghost use Prim.Native.Nat.{_+_, _≤_, _<_};
 ghost use lib.ListN.{length, drop};
-ghost use lib.Seq.{sets};
 ghost use Rattle.text_lines.specs.Decimal.{decimal, isDigit, digitsIn, numberIn};
-ghost use Rattle.text_lines.specs.inner.Found.{numberFound, NumberWithin};
+ghost use Rattle.text_lines.specs.inner.Found.{NumberRead};
+ghost use Rattle.text_lines.specs.inner.Stored.{Stored};
 
 const ZERO: u8 = 48;
 
@@ -13,7 +13,7 @@ const NINE: u8 = 57;
 // The largest number that a gate can hold.
 const LARGEST: u64 = 4294967295;
 
-// A number that was found, with the place behind it, or that there is none.
+// A number with the place after it, or that there is none.
 pub(crate) enum Found {
     Value { value: u32, next: usize },
     Malformed,
@@ -31,12 +31,11 @@ fn wide(byte: u8) -> u64
     byte as u64
 }
 
-// The digits from a place on, those before them having come to `first`. A number above the largest stops the reading
-// before it could wrap.
+// Reads digits from a place on; `first` is the value of those before. It stops above the largest number, so nothing
+// wraps.
 fn digits(text: &[u8], at: usize, first: u32) -> Found
     requires { ⌜ at ≤ length (now text) ⌝ }
-    ensures { λ r. ⌜ numberFound (now (text .entry)) r ≡ digitsIn first (drop at (now (text .entry))) ⌝ }
-    ensures { λ r. ⌜ NumberWithin (now (text .entry)) r ⌝ }
+    ensures { λ r. ⌜ NumberRead (now (text .entry)) (digitsIn first (drop at (now (text .entry)))) r ⌝ }
 {
     let mut value = first as u64;
     let mut i = at;
@@ -63,8 +62,7 @@ fn digits(text: &[u8], at: usize, first: u32) -> Found
 // The number at a place of a text.
 pub(crate) fn number(text: &[u8], at: usize) -> Found
     requires { ⌜ at ≤ length (now text) ⌝ }
-    ensures { λ r. ⌜ numberFound (now (text .entry)) r ≡ numberIn (drop at (now (text .entry))) ⌝ }
-    ensures { λ r. ⌜ NumberWithin (now (text .entry)) r ⌝ }
+    ensures { λ r. ⌜ NumberRead (now (text .entry)) (numberIn (drop at (now (text .entry)))) r ⌝ }
 {
     if text.len() <= at {
         return Found::Malformed;
@@ -103,11 +101,10 @@ fn digit(d: u32) -> u8
     ZERO + d as u8
 }
 
-// Puts a number into a text, from its last digit to its first, and answers the place behind it.
+// Puts a number into a text, from its last digit to its first, and answers the place after it.
 pub(crate) fn put(n: u32, at: usize, output: &mut [u8]) -> usize
     requires { ⌜ at + length (decimal n) ≤ length (now output) ⌝ }
-    ensures { λ r. ⌜ r ≡ at + length (decimal n) ⌝ }
-    ensures { λ _. ⌜ now (output .exit) ≡ sets (now (output .entry)) at (decimal n) ⌝ }
+    ensures { λ r. ⌜ Stored (now (output .entry)) at (decimal n) (now (output .exit)) r ⌝ }
 {
     let end = at + count(n);
     let mut rest = n;

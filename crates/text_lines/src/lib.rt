@@ -1,4 +1,4 @@
-// One gate as a line of a text: its numbers in decimal, out of a text or into one.
+// One gate as a line of text, with its numbers in decimal.
 mod decimal;
 pub mod line;
 pub mod print;

@@ -1,19 +1,18 @@
-// One gate as a line, out of a text.
+// Reads one gate from a line of text.
 use crate::decimal;
 use crate::decimal::Found;
 use gates::kind;
-ghost use mathlib.Core.Path.{_≡_};
 ghost use Prim.Native.Nat.{_≤_};
 ghost use lib.ListN.{length, drop};
 ghost use Rattle.text_lines.specs.Line.{operandIn, gateIn};
-ghost use Rattle.text_lines.specs.inner.Found.{numberFound, NumberWithin, lineFound, LineWithin};
+ghost use Rattle.text_lines.specs.inner.Found.{NumberRead, LineRead};
 
-// What stands before each operand, and what ends a line.
+// What precedes each operand, and what ends a line.
 pub const SPACE: u8 = 32;
 
 pub const LINE_FEED: u8 = 10;
 
-// The gate of a line, with the place behind it, or that the line has another form.
+// The gate of a line with the place after it, or that the line is malformed.
 pub enum Line {
     Gate {
         kind: u32,
@@ -25,11 +24,10 @@ pub enum Line {
     Malformed,
 }
 
-// An operand at a place of a text: a space and a number where it is in use.
+// An operand at a place of a text: a space and a number if it is in use, otherwise nothing.
 fn operand(used: bool, text: &[u8], at: usize) -> Found
     requires { ⌜ at ≤ length (now text) ⌝ }
-    ensures { λ r. ⌜ numberFound (now (text .entry)) r ≡ operandIn used (drop at (now (text .entry))) ⌝ }
-    ensures { λ r. ⌜ NumberWithin (now (text .entry)) r ⌝ }
+    ensures { λ r. ⌜ NumberRead (now (text .entry)) (operandIn used (drop at (now (text .entry)))) r ⌝ }
 {
     if !used {
         return Found::Value { value: 0, next: at };
@@ -46,8 +44,7 @@ fn operand(used: bool, text: &[u8], at: usize) -> Found
 // The line at a place of a text.
 pub fn gate_at(text: &[u8], at: usize) -> Line
     requires { ⌜ at ≤ length (now text) ⌝ }
-    ensures { λ r. ⌜ lineFound (now (text .entry)) r ≡ gateIn (drop at (now (text .entry))) ⌝ }
-    ensures { λ r. ⌜ LineWithin (now (text .entry)) r ⌝ }
+    ensures { λ r. ⌜ LineRead (now (text .entry)) (gateIn (drop at (now (text .entry)))) r ⌝ }
 {
     let Found::Value {
         value: kind,

@@ -1,4 +1,4 @@
-// One gate as a line, put into a text.
+// Puts one gate into a text, as a line.
 use crate::decimal;
 use crate::line::LINE_FEED;
 use crate::line::SPACE;
@@ -6,8 +6,8 @@ use gates::kind;
 ghost use mathlib.Core.Path.{_≡_};
 ghost use Prim.Native.Nat.{_+_, _≤_};
 ghost use lib.ListN.{length};
-ghost use lib.Seq.{sets};
 ghost use Rattle.text_lines.specs.Line.{operandText, lineOf};
+ghost use Rattle.text_lines.specs.inner.Stored.{Stored, LineLength};
 
 // How many characters an operand takes.
 fn operand_length(used: bool, n: u32) -> usize
@@ -18,8 +18,7 @@ fn operand_length(used: bool, n: u32) -> usize
 
 // How many characters a gate's line takes.
 pub fn line_length(kind: u32, a: u32, b: u32, c: u32) -> usize
-    ensures { λ r. ⌜ r ≡ length (lineOf (record { kind = kind; a = a; b = b; c = c })) ⌝ }
-    ensures { λ r. ⌜ r ≤ 44 ⌝ }
+    ensures { λ r. ⌜ LineLength (record { kind = kind; a = a; b = b; c = c }) r ⌝ }
 {
     let counts = kind::OPERANDS;
     let count = kind::operands(&counts, kind);
@@ -30,11 +29,10 @@ pub fn line_length(kind: u32, a: u32, b: u32, c: u32) -> usize
     kind_length + a_length + b_length + c_length + 1
 }
 
-// Puts an operand, behind a space, where it is in use, and answers the place behind it.
+// Puts a space and the operand if it is in use, and answers the place after it.
 fn put_operand(used: bool, n: u32, at: usize, output: &mut [u8]) -> usize
     requires { ⌜ at + length (operandText used n) ≤ length (now output) ⌝ }
-    ensures { λ r. ⌜ r ≡ at + length (operandText used n) ⌝ }
-    ensures { λ _. ⌜ now (output .exit) ≡ sets (now (output .entry)) at (operandText used n) ⌝ }
+    ensures { λ r. ⌜ Stored (now (output .entry)) at (operandText used n) (now (output .exit)) r ⌝ }
 {
     if !used {
         return at;
@@ -43,13 +41,12 @@ fn put_operand(used: bool, n: u32, at: usize, output: &mut [u8]) -> usize
     decimal::put(n, at + 1, output)
 }
 
-// Puts a gate's line, and answers the place behind it.
+// Puts a gate's line, and answers the place after it.
 pub fn put_line(kind: u32, a: u32, b: u32, c: u32, at: usize, output: &mut [u8]) -> usize
     requires { ⌜ at + length (lineOf (record { kind = kind; a = a; b = b; c = c })) ≤ length (now output) ⌝ }
-    ensures { λ r. ⌜ r ≡ at + length (lineOf (record { kind = kind; a = a; b = b; c = c })) ⌝ }
-    ensures { λ _.
-        ⌜ now (output .exit)
-        ≡ sets (now (output .entry)) at (lineOf (record { kind = kind; a = a; b = b; c = c })) ⌝ }
+    ensures { λ r. ⌜
+        Stored (now (output .entry)) at (lineOf (record { kind = kind; a = a; b = b; c = c })) (now (output .exit)) r
+        ⌝ }
 {
     let counts = kind::OPERANDS;
     let count = kind::operands(&counts, kind);

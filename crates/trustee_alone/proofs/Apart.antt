@@ -1,4 +1,5 @@
--- The calls of trustees apart, in an election that the one call accepts: each is accepted, and leaves what they together hold.
+-- The calls of trustees apart, in an election that the single call accepts: each is accepted, and leaves what the
+-- trustees hold together.
 -- Assumes nothing.
 use mathlib.Core.Path.{_≡_, _∙_, refl, sym, ap}
 use mathlib.Core.Bool.{true}

@@ -1,5 +1,5 @@
--- Trustees apart end as the one call does, so its demands are theirs; they send what follows from their own tables and the
--- sums.
+-- Trustees apart end as the single call does, so its demands hold for them; they send only what follows from their own
+-- tables and the sums.
 -- Assumes nothing.
 use mathlib.Core.Path.{_≡_, _∙_, refl, sym, ap, subst}
 use mathlib.Core.Logic.{_≢_}

@@ -1,4 +1,4 @@
--- Numbers of reasons, that a refusal alters nothing, and that no call changes a length.
+-- The numbers of reasons, that a refusal changes nothing, and that no call changes a length.
 -- Assumes nothing.
 use mathlib.Core.Path.{_≡_, _∙_, refl, sym, ap}
 use mathlib.Core.Bool.{Bool, true, false, cond}

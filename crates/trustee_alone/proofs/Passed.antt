@@ -1,4 +1,4 @@
--- What is known of a round that no reason turns away.
+-- What is known of a round that no reason refuses.
 -- Assumes nothing.
 use mathlib.Core.Path.{_≡_, _∙_, refl, sym, ap}
 use mathlib.Core.Option.{none}

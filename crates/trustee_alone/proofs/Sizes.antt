@@ -74,7 +74,7 @@ fit inputs k gs dealt wireParts published e =
       published-length = eqb-true (length published) (2 * conditionalCount gs + k) (and-second (a && b) c e);
     }
 
--- what comparing levels tells
+-- what comparing levels says
 pub own-same : (inputs : ℕ) (gs : List Gate) (levels : List ℕ) (rounds : ℕ) → compared inputs gs levels ≡ Own rounds → (sameNumbers levels (levelsOf inputs gs) ≡ true) × (rounds ≡ roundsOf inputs gs)
 unfolding compared
 own-same inputs gs levels rounds e = go (sameNumbers levels (levelsOf inputs gs)) refl e

@@ -1,4 +1,4 @@
--- Lists of tests, test by test, and what a call says and leaves by the first reason.
+-- Lists of tests, test by test, and what a call answers and leaves by the first reason.
 -- Assumes nothing.
 use mathlib.Core.Path.{_≡_, _∙_, refl, sym, ap}
 use mathlib.Core.Bool.{Bool, true, false, _&&_}
@@ -7,9 +7,11 @@ use mathlib.Core.List.{List, [], _∷_, _++_}
 use Prim.Native.Nat.{ℕ}
 use native.Mathlib.Omega.{arith}
 use Rattle.jury.specs.Reason.{Reason, reasonAt, unless, firstOf}
-use Rattle.tally.specs.Answer.{refused, accepted, outcome}
+use Rattle.tally.specs.Answer.{Outcome, refused, accepted, outcome, Size}
 use Rattle.tally.proofs.TestReasons.{orElse, first-append}
 use Rattle.levels.specs.Levels.{afterwards}
+use Rattle.trustee_alone.specs.Own.{OwnResult}
+use Rattle.trustee_alone.specs.Finish.{FinishResult}
 
 -- one test
 pub pass : (b : Bool) (n : ℕ) (rest : List (Option Reason)) → b ≡ true → firstOf (unless b n ∷ rest) ≡ firstOf rest
@@ -28,7 +30,7 @@ passed false n rest e = let z : _≡_ {A = ℕ} 0 1 = cc in absurd (omega arith)
 pub end : firstOf [] ≡ none
 end = unfold firstOf in refl
 
--- tests one after the other
+-- tests in order
 pub before : (xs ys : List (Option Reason)) (r : Reason) → firstOf xs ≡ some r → firstOf (xs ++ ys) ≡ some r
 unfolding orElse
 before xs ys r e = first-append xs ys ∙ ap (λ (o : Option Reason). orElse o (firstOf ys)) e
@@ -49,7 +51,7 @@ both-passed xs ys e = go (firstOf xs) refl
 pub and-both : (a b c : Bool) → a ≡ true → b ≡ c → (a && b) ≡ c
 and-both a b c e f = rw (e, f) refl
 
--- what is said and left
+-- what is answered and left
 pub outcome-some : {A : Type 0} (o : Option Reason) (v : A) (r : Reason) → o ≡ some r → refused r ≡ outcome o v
 unfolding outcome
 outcome-some o v r e = rw e
@@ -65,3 +67,12 @@ left-old o new old r e = rw e
 pub left-new : (o : Option Reason) (new old : List ℕ) → o ≡ none → new ≡ afterwards o new old
 unfolding afterwards
 left-new o new old e = rw e
+
+-- the parts of what a call leaves
+pub same-own : {Values : Type 0} {a a′ : Outcome Values} {w w′ q q′ : List ℕ} → a ≡ a′ → w ≡ w′ → q ≡ q′
+    → _≡_ {A = OwnResult Values} (record { answer = a; wires = w; published = q }) (record { answer = a′; wires = w′; published = q′ })
+same-own e f g = rw (e, f, g) refl
+
+pub same-finish : {a a′ : Outcome Size} {w w′ : List ℕ} → a ≡ a′ → w ≡ w′
+    → _≡_ {A = FinishResult} (record { answer = a; wires = w }) (record { answer = a′; wires = w′ })
+same-finish e f = rw (e, f) refl

@@ -1,5 +1,4 @@
--- What is shown of a trustee's calls, over the definitions that their contracts equate with the program's answers and
--- tables.
+-- What is shown of a trustee's calls, about the definitions that their contracts equate with answers and tables.
 use mathlib.Core.Path.{_≡_}
 use mathlib.Core.List.{List, [], _∷_}
 use Prim.Native.Nat.{ℕ, suc, _+_, _*_, _≤_, _<_}
@@ -28,7 +27,7 @@ use Rattle.trustee_alone.specs.Finish.{finishOutcome, finishedWires}
 abbrev pub lent : (before after : List ℕ) → Lent
 lent before after = record { before = before; after = after }
 
--- Demand 1. Start and rounds may write to the wire parts and to the published bits; the finish empties the wire parts.
+-- Demand 1. Start and rounds may write to the wire parts and the published bits; finish empties the wire parts.
 pub record Memory : Type 0 where
   pub start : (s : Shape) (table : List ℕ) (t p : ℕ) (parts dealt ws published : List ℕ)
       → KeepsMemory (1 ∷ 2 ∷ 3 ∷ 16 ∷ 17 ∷ 18 ∷ []) (startOutcome s table t p parts dealt ws published)
@@ -43,7 +42,7 @@ pub record Memory : Type 0 where
       → KeepsMemory (1 ∷ 2 ∷ 3 ∷ 17 ∷ []) (finishOutcome s table ws) (lent ws (finishedWires s table ws) ∷ [])
       (lent ws (finishedWires s table ws) ∷ [])
 
--- The sizes of the one call's list, and what the trustees of that call hold before round r when each is on its own.
+-- The sizes of the single call's list, and what its trustees hold before round r if each is on its own.
 abbrev pub inputsIn : Call → ℕ
 inputsIn c = ballotBytes (c .shape)
 
@@ -72,7 +71,7 @@ partsAtEnd c = holdingsIn c (suc (roundsIn c)) .wireParts
 abbrev pub publishedAtEnd : Call → List ℕ
 publishedAtEnd c = joined (c .trustees) (holdingsIn c (suc (roundsIn c)) .published)
 
--- The closing bytes, which whoever has the published bits can form: the sums of the last k bits of each trustee's
+-- The closing bytes, which anyone can compute from the published bits: the sums of the last k bits of each trustee's
 -- piece.
 unfoldable pub closingHeard : Call → List ℕ
 closingHeard c =
@@ -81,7 +80,7 @@ closingHeard c =
     let bit : ℕ → ℕ → ℕ = λ j p. part (piece (factors + k) (publishedAtEnd c) p) (factors + j) in
     eightBytes (tabulate k (λ j. opened (c .trustees) (bit j)))
 
--- What the trustees but q hold and see before round r: what is theirs, and every bit published so far.
+-- What the trustees except q hold and see before round r: their own tables, and every bit published so far.
 abbrev pub viewBefore : (r q : ℕ) → Call → View
 viewBefore r q c =
     record {
@@ -91,7 +90,7 @@ viewBefore r q c =
       published = joined (c .trustees) (holdingsIn c r .published);
     }
 
--- Trustees apart, as a way to tally: views are taken when the rounds are done.
+-- Trustees apart, as a way to tally. A view is taken when the rounds are done.
 abbrev pub apart : Way
 apart =
     record {
@@ -101,7 +100,7 @@ apart =
       view = λ q c. viewBefore (suc (roundsIn c)) q c;
     }
 
--- Whoever cannot tell two elections apart in the end could not before any round.
+-- Trustees who see the same at the end of two elections saw the same before every round.
 abbrev pub NoEarlierView : Type 0
 NoEarlierView =
     (c c′ : Call) (first second : Size)
@@ -110,14 +109,15 @@ NoEarlierView =
     → (q : ℕ) → apart .view q c ≡ apart .view q c′
     → (r : ℕ) → r ≤ roundsIn c → viewBefore r q c ≡ viewBefore r q c′
 
--- They end as the one call of request 2.7 does on the joined tables: after the rounds 0 to R each holds the wire parts
--- of that call, what they published is what it leaves, and the closing bytes are its eight.
+-- Trustees apart end as the single call of request 2.7 does on the joined tables: after the rounds 0 to R each holds
+-- the wire parts of that call, they have published what it leaves, and the closing bytes are its eight.
 pub record AsTheOneCall (c : Call) : Type 0 where
   pub same-parts : (p : ℕ) → p < c .trustees → partsAtEnd c p ≡ wirePartsIn c p
   pub same-published : publishedAtEnd c ≡ trusteesResult c .published
   pub same-closing : closingHeard c ≡ trusteesResult c .closing
 
--- The start of trustee p on these tables, and its round r, are accepted and leave what the trustees together hold.
+-- The start of trustee p on these tables, and its round r, are accepted and leave what it holds when all run
+-- together.
 pub record StartOf (c : Call) (p : ℕ) (ws published : List ℕ) : Type 0 where
   pub answer : startOutcome (c .shape) (c .table) (c .trustees) p (partsIn c p) (dealtIn c p) ws published
       ≡ accepted (sizeOf (gatesOf (c .table)))
@@ -137,14 +137,14 @@ pub record RoundOf (c : Call) (p r : ℕ) : Type 0 where
       (dealtIn c p) (heardBefore c r) (holdingsIn c r .wireParts p) (holdingsIn c r .published p)
       ≡ holdingsIn c (suc r) .published p
 
--- Trustee p of such an election: its start, on any tables of its lengths, and every round up to R. So the program's
--- calls are the rounds that are spoken of here.
+-- Trustee p in such an election: its start, on any tables of the right lengths, and every round up to R. This ties
+-- the program's calls to the rounds that are spoken of here.
 pub record CallsOf (c : Call) (p : ℕ) : Type 0 where
   pub start : (ws published : List ℕ) → length ws ≡ inputsIn c + length (gatesOf (c .table))
       → length published ≡ 2 * conditionalCount (gatesOf (c .table)) + c .shape .candidates → StartOf c p ws published
   pub round : (r : ℕ) → r ≤ roundsIn c → RoundOf c p r
 
--- What a trustee sends depends on its own tables and on the sums that were heard, and on nothing else: over any two
+-- What a trustee sends depends on its own tables and on the sums it heard, and on nothing else: it is equal in two
 -- elections that agree on these.
 abbrev pub OwnTablesOnly : Type 0
 OwnTablesOnly =

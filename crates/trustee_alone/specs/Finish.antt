@@ -12,7 +12,7 @@ use Rattle.tally.specs.Answer.{Outcome, outcome, Size, sizeOf}
 use Rattle.tally.specs.Test.{testReasons}
 use Rattle.levels.specs.Levels.{afterwards}
 
--- The reasons in checking order: 1, 2 and 3 of the list, then 17, wire parts of another length.
+-- The reasons in checking order: 1, 2 and 3 of the list, then 17 if the wire parts have the wrong length.
 unfoldable pub finishReasons : Shape → List ℕ → List ℕ → List (Option Reason)
 finishReasons s table wireParts =
     testReasons s table ++ unless (eqb (length wireParts) (ballotBytes s + length (gatesOf table))) 17 ∷ []
@@ -23,3 +23,12 @@ finishOutcome s table wireParts = outcome (firstOf (finishReasons s table wirePa
 unfoldable pub finishedWires : Shape → List ℕ → List ℕ → List ℕ
 finishedWires s table wireParts =
     afterwards (firstOf (finishReasons s table wireParts)) (replicate (length wireParts) 0) wireParts
+
+-- What a call leaves: its answer and the wire parts.
+pub record FinishResult : Type 0 where
+  pub answer : Outcome Size
+  pub wires : List ℕ
+
+abbrev pub finishResult : Shape → List ℕ → List ℕ → FinishResult
+finishResult s table wireParts =
+    record { answer = finishOutcome s table wireParts; wires = finishedWires s table wireParts }

@@ -4,9 +4,9 @@ use mathlib.Core.List.{List}
 use Prim.Native.Nat.{ℕ, _+_, _*_}
 use lib.Dec.{eqb, leb, ltb}
 use lib.ListN.{length}
-use Rattle.tally.specs.Answer.{Size}
+use Rattle.tally.specs.Answer.{Outcome, Size}
 
--- Trustee p, counted from 0, of t, of whom there are 2 to 5.
+-- Trustee p, counted from 0, of t trustees, where t is 2 to 5.
 unfoldable pub isTrustee : ℕ → ℕ → Bool
 isTrustee t p = leb 2 t && leb t 5 && ltb p t
 
@@ -15,3 +15,9 @@ unfoldable pub tablesFit : ℕ → ℕ → Size → List ℕ → List ℕ → Li
 tablesFit inputs k size dealt wireParts published =
     eqb (length dealt) (3 * size .conditional) && eqb (length wireParts) (inputs + size .gates)
     && eqb (length published) (2 * size .conditional + k)
+
+-- What a call leaves: its answer, the wire parts and what is published.
+pub record OwnResult (Values : Type 0) : Type 0 where
+  pub answer : Outcome Values
+  pub wires : List ℕ
+  pub published : List ℕ

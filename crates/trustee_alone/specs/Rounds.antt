@@ -18,10 +18,10 @@ use Rattle.levels.specs.Answer.{Depths, depthsOf}
 use Rattle.levels.specs.Levels.{afterwards}
 use Rattle.trustee_gates.specs.Dealing.{onlyBits}
 use Rattle.trustee_rounds.specs.Rounds.{Turn, enters, publishes, closes}
-use Rattle.trustee_alone.specs.Own.{isTrustee, tablesFit}
+use Rattle.trustee_alone.specs.Own.{isTrustee, tablesFit, OwnResult}
 
--- The tests in checking order: 16, 17 and 18 of what the trustee brings; 200, the level table is not the list's own;
--- 201, a round above R; 202, the sums are not two bits for each conditional gate.
+-- The tests in checking order: 16, 17 and 18 of what the trustee brings; 200 if the level table is not the list's
+-- own; 201 for a round above R; 202 if the sums are not two bits for each conditional gate.
 unfoldable pub tableReasons : ℕ → ℕ → List Gate → ℕ → ℕ → ℕ → List ℕ → List ℕ → List ℕ → List ℕ → List ℕ
     → List (Option Reason)
 tableReasons inputs k gs t p round levels dealt heard wireParts published =
@@ -40,13 +40,13 @@ roundReasons s table t p round levels dealt heard wireParts published =
     ++ tableReasons (ballotBytes s) (s .candidates) (gatesOf table) t p round levels dealt heard wireParts
     published
 
--- An accepted call answers G, C and R.
+-- The answer: a reason, or G, C and R.
 unfoldable pub roundOutcome : Shape → List ℕ → ℕ → ℕ → ℕ → List ℕ → List ℕ → List ℕ → List ℕ → List ℕ → Outcome Depths
 roundOutcome s table t p round levels dealt heard wireParts published =
     outcome (firstOf (roundReasons s table t p round levels dealt heard wireParts published))
     (depthsOf (ballotBytes s) (gatesOf table))
 
--- The trustee's turn, by its own tables and the sums alone.
+-- The trustee's turn, from its own tables and the sums.
 unfoldable pub ownTurn : Shape → ℕ → ℕ → List ℕ → List ℕ → List ℕ → Turn
 ownTurn s p round levels dealt heard =
     record { trustee = p; round = round; inputs = ballotBytes s; levels = levels; dealt = dealt; heard = heard }
@@ -63,7 +63,7 @@ publishedMade s table p round levels dealt heard wireParts published =
     (publishes (ownTurn s p round levels dealt heard) (wiresMade s table p round levels dealt heard wireParts)
     (gatesOf table) 0 0 published)
 
--- Both tables afterwards; a refusal alters nothing.
+-- Both tables afterwards; a refusal changes nothing.
 unfoldable pub roundedWires : Shape → List ℕ → ℕ → ℕ → ℕ → List ℕ → List ℕ → List ℕ → List ℕ → List ℕ → List ℕ
 roundedWires s table t p round levels dealt heard wireParts published =
     afterwards (firstOf (roundReasons s table t p round levels dealt heard wireParts published))
@@ -73,3 +73,11 @@ unfoldable pub roundedPublished : Shape → List ℕ → ℕ → ℕ → ℕ →
 roundedPublished s table t p round levels dealt heard wireParts published =
     afterwards (firstOf (roundReasons s table t p round levels dealt heard wireParts published))
     (publishedMade s table p round levels dealt heard wireParts published) published
+
+abbrev pub roundResult : Shape → List ℕ → ℕ → ℕ → ℕ → List ℕ → List ℕ → List ℕ → List ℕ → List ℕ → OwnResult Depths
+roundResult s table t p round levels dealt heard wireParts published =
+    record {
+      answer = roundOutcome s table t p round levels dealt heard wireParts published;
+      wires = roundedWires s table t p round levels dealt heard wireParts published;
+      published = roundedPublished s table t p round levels dealt heard wireParts published;
+    }

@@ -15,9 +15,9 @@ use Rattle.tally.specs.Test.{testReasons}
 use Rattle.levels.specs.Levels.{afterwards}
 use Rattle.trustee_gates.specs.Dealing.{onlyBits}
 use Rattle.trustee_rounds.specs.Rounds.{startWires, startPublished}
-use Rattle.trustee_alone.specs.Own.{isTrustee, tablesFit}
+use Rattle.trustee_alone.specs.Own.{isTrustee, tablesFit, OwnResult}
 
--- The tests of what one trustee brings, in checking order: 16, 17, 18. Whether parts add up only all trustees
+-- The tests of what one trustee brings, in checking order: 16, 17, 18. Whether parts add up, only all trustees
 -- together could tell.
 unfoldable pub ownReasons : ℕ → ℕ → Size → ℕ → ℕ → List ℕ → List ℕ → List ℕ → List ℕ → List (Option Reason)
 ownReasons inputs k size t p parts dealt wireParts published =
@@ -32,12 +32,12 @@ startReasons s table t p parts dealt wireParts published =
     testReasons s table
     ++ ownReasons (ballotBytes s) (s .candidates) (sizeOf (gatesOf table)) t p parts dealt wireParts published
 
--- An accepted call answers G and C.
+-- The answer: a reason, or G and C.
 unfoldable pub startOutcome : Shape → List ℕ → ℕ → ℕ → List ℕ → List ℕ → List ℕ → List ℕ → Outcome Size
 startOutcome s table t p parts dealt wireParts published =
     outcome (firstOf (startReasons s table t p parts dealt wireParts published)) (sizeOf (gatesOf table))
 
--- Both tables afterwards; a refusal alters nothing.
+-- Both tables afterwards; a refusal changes nothing.
 unfoldable pub startedWires : Shape → List ℕ → ℕ → ℕ → List ℕ → List ℕ → List ℕ → List ℕ → List ℕ
 startedWires s table t p parts dealt wireParts published =
     afterwards (firstOf (startReasons s table t p parts dealt wireParts published))
@@ -47,3 +47,11 @@ unfoldable pub startedPublished : Shape → List ℕ → ℕ → ℕ → List �
 startedPublished s table t p parts dealt wireParts published =
     afterwards (firstOf (startReasons s table t p parts dealt wireParts published))
     (startPublished (conditionalCount (gatesOf table)) (s .candidates)) published
+
+abbrev pub startResult : Shape → List ℕ → ℕ → ℕ → List ℕ → List ℕ → List ℕ → List ℕ → OwnResult Size
+startResult s table t p parts dealt wireParts published =
+    record {
+      answer = startOutcome s table t p parts dealt wireParts published;
+      wires = startedWires s table t p parts dealt wireParts published;
+      published = startedPublished s table t p parts dealt wireParts published;
+    }

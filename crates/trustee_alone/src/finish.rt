@@ -4,12 +4,13 @@ use jury::shape::Shape;
 use tally::answer::Answer;
 ghost use mathlib.Core.Path.{_≡_};
 ghost use Rattle.tally.specs.Answer.{outcomeOf};
-ghost use Rattle.trustee_alone.specs.Finish.{finishOutcome, finishedWires};
+ghost use Rattle.trustee_alone.specs.Finish.{finishResult};
 
-// Empties a trustee's wire parts, which tell its part of every wire (request 2.13).
+// Empties a trustee's wire parts, which together with the other trustees' would give every wire away (request 2.13).
 pub fn finish(shape: Shape, table: &[u32], wires: &mut [u8]) -> Answer
-    ensures { λ r. ⌜ outcomeOf r ≡ finishOutcome shape (now (table .entry)) (now (wires .entry)) ⌝ }
-    ensures { λ _. ⌜ now (wires .exit) ≡ finishedWires shape (now (table .entry)) (now (wires .entry)) ⌝ }
+    ensures { λ r.
+        ⌜ record { answer = outcomeOf r; wires = now (wires .exit) }
+        ≡ finishResult shape (now (table .entry)) (now (wires .entry)) ⌝ }
 {
     let answer = tally::test::test(shape, table);
     let Answer::Accepted {

@@ -1,4 +1,4 @@
-// A trustee on a machine of its own: it holds its own tables, hears the opened sums, and sees nothing else.
+// A trustee on its own machine: it holds its own tables, hears the opened sums, and sees nothing else.
 pub mod finish;
 pub mod own;
 pub mod round;

@@ -5,7 +5,7 @@ ghost use mathlib.Core.Path.{_≡_};
 ghost use Rattle.trustees.specs.inner.Sizes.{SmallSizes};
 ghost use Rattle.trustee_alone.specs.Own.{isTrustee, tablesFit};
 
-// Whether p is one of t trustees, counted from 0, and there may be so many.
+// Whether t is 2 to 5, and p, counted from 0, is one of the t trustees.
 pub(crate) fn is_trustee(t: usize, p: usize) -> bool
     ensures { λ r. ⌜ r ≡ isTrustee t p ⌝ }
 {
@@ -18,7 +18,7 @@ pub(crate) fn is_trustee(t: usize, p: usize) -> bool
     p < t
 }
 
-// Whether its triples, wire parts and published bits have the lengths that list and shape need.
+// Whether triples, wire parts and published bits have the lengths that list and shape need.
 pub(crate) fn tables_fit(
     inputs: usize,
     k: usize,

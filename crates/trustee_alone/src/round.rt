@@ -14,8 +14,7 @@ ghost use Rattle.gates.specs.Gate.{gatesOf};
 ghost use Rattle.tally.specs.Answer.{outcome};
 ghost use Rattle.levels.specs.Answer.{depthsOf, depthsOutcome};
 ghost use Rattle.trustee_alone.specs.inner.Ready.{TablesReady};
-ghost use Rattle.trustee_alone.specs.Rounds.{tableReasons, roundReasons};
-ghost use Rattle.trustee_alone.specs.Rounds.{roundOutcome, roundedWires, roundedPublished};
+ghost use Rattle.trustee_alone.specs.Rounds.{tableReasons, roundReasons, roundResult};
 ghost use Rattle.jury.specs.Shape.{ballotBytes};
 
 // Reasons 16 to 18 and 200 to 202, for a list that passed its test.
@@ -117,8 +116,8 @@ fn test_round(
     }
 }
 
-// Round r of trustee p of t: the gates of level r get their parts, the conditional gates of level r + 1 publish, and
-// after the last level the closing bits are published.
+// Round r of trustee p of t: gates of level r get their parts, conditional gates of level r + 1 publish, and after
+// the last level the closing bits are published.
 pub fn round(
     shape: Shape,
     table: &[u32],
@@ -131,21 +130,10 @@ pub fn round(
     wires: &mut [u8],
     published: &mut [u8],
 ) -> Answer
-    ensures { λ r. ⌜
-        depthsOutcome r
-        ≡ roundOutcome shape (now (table .entry)) t p round (now (levels .entry)) (now (dealt .entry))
-        (now (heard .entry)) (now (wires .entry)) (now (published .entry))
-        ⌝ }
-    ensures { λ _. ⌜
-        now (wires .exit)
-        ≡ roundedWires shape (now (table .entry)) t p round (now (levels .entry)) (now (dealt .entry))
-        (now (heard .entry)) (now (wires .entry)) (now (published .entry))
-        ⌝ }
-    ensures { λ _. ⌜
-        now (published .exit)
-        ≡ roundedPublished shape (now (table .entry)) t p round (now (levels .entry)) (now (dealt .entry))
-        (now (heard .entry)) (now (wires .entry)) (now (published .entry))
-        ⌝ }
+    ensures { λ r.
+        ⌜ record { answer = depthsOutcome r; wires = now (wires .exit); published = now (published .exit) }
+        ≡ roundResult shape (now (table .entry)) t p round (now (levels .entry)) (now (dealt .entry))
+        (now (heard .entry)) (now (wires .entry)) (now (published .entry)) ⌝ }
 {
     let answer = test_round(
         shape,

@@ -9,7 +9,7 @@ ghost use mathlib.Core.Path.{_≡_};
 ghost use Rattle.jury.specs.Reason.{refusedFor, firstOf};
 ghost use Rattle.tally.specs.Answer.{outcomeOf};
 ghost use Rattle.trustees.specs.inner.Sizes.{SmallSizes};
-ghost use Rattle.trustee_alone.specs.Start.{ownReasons, startOutcome, startedWires, startedPublished};
+ghost use Rattle.trustee_alone.specs.Start.{ownReasons, startResult};
 
 // Reasons 16 to 18.
 fn test_own(
@@ -50,7 +50,7 @@ fn test_own(
     Verdict::Accepted
 }
 
-// Trustee p of t starts: its wire parts are its ballot parts and zeros, and nothing is published yet.
+// Trustee p of t starts: its wire parts are its ballot parts, then zeros; nothing is published yet.
 pub fn start(
     shape: Shape,
     table: &[u32],
@@ -61,21 +61,10 @@ pub fn start(
     wires: &mut [u8],
     published: &mut [u8],
 ) -> Answer
-    ensures { λ r. ⌜
-        outcomeOf r
-        ≡ startOutcome shape (now (table .entry)) t p (now (parts .entry)) (now (dealt .entry)) (now (wires .entry))
-        (now (published .entry))
-        ⌝ }
-    ensures { λ _. ⌜
-        now (wires .exit)
-        ≡ startedWires shape (now (table .entry)) t p (now (parts .entry)) (now (dealt .entry)) (now (wires .entry))
-        (now (published .entry))
-        ⌝ }
-    ensures { λ _. ⌜
-        now (published .exit)
-        ≡ startedPublished shape (now (table .entry)) t p (now (parts .entry)) (now (dealt .entry))
-        (now (wires .entry)) (now (published .entry))
-        ⌝ }
+    ensures { λ r.
+        ⌜ record { answer = outcomeOf r; wires = now (wires .exit); published = now (published .exit) }
+        ≡ startResult shape (now (table .entry)) t p (now (parts .entry)) (now (dealt .entry)) (now (wires .entry))
+        (now (published .entry)) ⌝ }
 {
     let answer = tally::test::test(shape, table);
     let Answer::Accepted { gates, conditional } = answer else {

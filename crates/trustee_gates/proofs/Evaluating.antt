@@ -20,7 +20,7 @@ use Rattle.trustee_gates.proofs.Running.{parts-cong, length-parts}
 take-sets : (l vs : List ℕ) (n : ℕ) → length vs ≡ n → n ≤ length l → take n (sets l 0 vs) ≡ vs
 take-sets l vs n e h = ap (take n) (sets-eq vs l 0 (omega arith)) ∙ take-at vs (drop (0 + length vs) l) n e
 
--- first entries, and entries behind them to the end
+-- entries at the front, and entries after them to the end
 sets-both : (l us vs : List ℕ) (m : ℕ) → length us ≡ m → m + length vs ≡ length l → sets (sets l 0 us) m vs ≡ us ++ vs
 sets-both l us vs m e h =
     let r = sets l 0 us in
@@ -95,7 +95,7 @@ module _ (t inputs : ℕ) (gs : List Gate) (k : ℕ) (d : Dealing) (ws published
       pub published-long : length published₂ ≡ t * sizeP
       published-long = ap length published-are ∙ length-joined sizeP (λ p. sets (piece sizeP published p) 0 (factors p)) t set-long
 
-      -- the closing bits behind the factors
+      -- the closing bits after the factors
       closing-is : (p : ℕ) → p < t → take k (drop (sizeW - k) (piece sizeW ws₂ p)) ≡ closingParts k (wirePartsOf t inputs gs d p)
       unfolding closingParts
       closing-is p h =

@@ -7,7 +7,7 @@ use native.Mathlib.Omega.{arith}
 use Rattle.trustee_shares.specs.Shares.{entered, opened, sumOf}
 use Rattle.trustee_shares.proofs.Exchange.{reduced}
 
--- an even number times any is even, an odd one keeps what it is multiplied with
+-- an even factor makes a product even; an odd one keeps the parity of the other
 even-times : (h b : ℕ) → 2 * h * b % 2 ≡ 0
 even-times h zero = omega arith
 even-times h (suc b) = omega (arith, even-times h b)
@@ -32,7 +32,7 @@ unfolding entered
 entered-mod zero x = omega arith
 entered-mod (suc p) x = refl
 
--- summands may be taken modulo 2
+-- terms may be taken modulo 2
 pub plus-mod : (r m x s a : ℕ) → m % 2 ≡ s % 2 → x % 2 ≡ a % 2 → r ≡ (m + x) % 2 → r ≡ (s + a) % 2
 plus-mod r m x s a e f h = omega arith
 
@@ -52,7 +52,7 @@ product-sum p s a b c x y z e d m r hx hy hz hd hm he hr =
     let g : m ≡ (s + a + b) % 2 = plus-mod m d y (s + a) b (reduced d (s + a) f) (reduced y b hy) hm in
     plus-mod r m e (s + a + b) (entered p c) (reduced m (s + a + b) g) k hr
 
--- one more summand
+-- one more term
 pub opened-more : (t : ℕ) (f : ℕ → ℕ) (sum v r : ℕ) → sum ≡ opened t f → v ≡ f t → r ≡ (sum + v) % 2 → r ≡ opened (suc t) f
 unfolding opened sumOf
 opened-more t f sum v r e h k = omega arith

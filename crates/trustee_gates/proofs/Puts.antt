@@ -70,7 +70,7 @@ length-puts zero size x f table = refl
 length-puts (suc t) size x f table = length-sets (eachPuts t size x f table) (t * size + x) (f t) ∙ length-puts t size x f table
 
 module _ (size x : ℕ) (f : Held) (table : List ℕ) where
-  -- pieces from t on are as they were
+  -- pieces from t on are unchanged
   pub puts-later : (t q : ℕ) → t ≤ q → ((p : ℕ) → p < t → x + length (f p) ≤ size) → piece size (eachPuts t size x f table) q ≡ piece size table q
   unfolding eachPuts
   puts-later zero q h fits = refl
@@ -123,7 +123,7 @@ pub puts-two : (f g : ℕ → ℕ) (now before : List ℕ) (p size x v w : ℕ) 
 unfolding eachPuts
 puts-two f g now before p size x v w e h k = rw (e, h, k, add-one p, add-one (p * size + x))
 
--- its own piece is as it was before
+-- its own piece is unchanged until then
 pub own-piece : (f : ℕ → ℕ) (now before : List ℕ) (p size x : ℕ) → x < size → now ≡ eachPuts p size x (λ q. f q ∷ []) before → piece size now p ≡ piece size before p
 own-piece f now before p size x h e =
     ap (λ (l : List ℕ). piece size l p) e ∙ puts-later size x (λ q. f q ∷ []) before p p (omega arith) (λ (q : ℕ) l. omega arith)

@@ -1,4 +1,4 @@
--- One turn of the trustees' evaluation: what is left after a gate is what was left before it.
+-- One turn of the trustees' evaluation: doing a gate and then the rest is doing all that was left.
 -- Assumes nothing.
 use mathlib.Core.Path.{_≡_, _∙_, refl, sym, ap, subst}
 use mathlib.Core.Bool.{Bool, true, false, cond}
@@ -31,7 +31,7 @@ use Rattle.trustee_gates.specs.Gate.{gateOf, GateReady}
 use Rattle.trustee_gates.proofs.Puts.{length-puts, puts-at}
 use Rattle.trustee_shares.proofs.Publishing.{mark-none}
 
--- equal parts of the operands, equal bits
+-- equal parts of the operands give equal bits
 pub record SameParts (t : ℕ) (held held′ : Held) (g : Gate) : Type 0 where
   pub a-same : (p : ℕ) → p < t → part (held p) (g .a) ≡ part (held′ p) (g .a)
   pub b-same : (p : ℕ) → p < t → part (held p) (g .b) ≡ part (held′ p) (g .b)
@@ -87,7 +87,8 @@ length-parts t dealt (g ∷ gs) held i n p e =
     omega (arith, length-parts t dealt gs (λ q. held q ++ (newPart t dealt held i g q ∷ [])) (i + markOf g) (suc n) p (omega (arith, length-append (held p) (v ∷ []))))
 
 module _ (t sizeW sizeP inputs : ℕ) (dealt : Held) (table : List ℕ) (final finalPublished : Held) where
-  -- The invariant: gates g and on are left, and what they will make of wire parts and published bits is what the whole list makes.
+  -- The invariant: gates from g on are left, and with what is there they make the wire parts and published bits of
+  -- the whole list.
   pub record Left (ws published : List ℕ) (i g : ℕ) : Type 0 where
     pub order : g ≤ length (gatesOf table)
     pub wires-left : (p : ℕ) → p < t → partsOf t dealt (λ q. take (inputs + g) (piece sizeW ws q)) i (drop g (gatesOf table)) p ≡ final p
@@ -304,7 +305,7 @@ module _ (t inputs : ℕ) (pieces : Pieces) (table dealt : List ℕ) (final fina
         published-length = left .published-long;
       }
 
-  -- and what is left after it
+  -- what is left after it
   pub turn-by : (ws′ published′ : List ℕ) (i′ g′ : ℕ) → i′ ≡ i + markOf (gateOf r)
       → ws′ ≡ eachPuts t (pieces .wires) (inputs + g) (λ p. newPart t (piece (pieces .dealt) dealt) (piece (pieces .wires) ws) i (gateOf r) p ∷ []) ws
       → published′ ≡ cond (conditionalOf (r .kind)) (eachPuts t (pieces .published) (2 * i) (λ p. maskedFirst (piece (pieces .wires) ws p) (piece (pieces .dealt) dealt p) i (gateOf r) ∷ maskedSecond (piece (pieces .wires) ws p) (piece (pieces .dealt) dealt p) i (gateOf r) ∷ []) published) published

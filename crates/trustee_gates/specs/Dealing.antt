@@ -1,7 +1,8 @@
--- The tests of a dealing: request 2.7, reason 18.
+-- The tests of a dealing: reason 18 (request 2.7).
+use mathlib.Core.Path.{_≡_}
 use mathlib.Core.Bool.{Bool, _&&_}
 use mathlib.Core.List.{List}
-use Prim.Native.Nat.{ℕ, _*_}
+use Prim.Native.Nat.{ℕ, _*_, _<_}
 use lib.Dec.{eqb, leb}
 use lib.ListN.{length, getD}
 use Rattle.trustee_shares.specs.Shares.{opened, part, uOf, vOf, productOf, Held}
@@ -12,7 +13,7 @@ use Rattle.basics.specs.Below.{allBelow}
 unfoldable pub onlyBits : List ℕ → Bool
 onlyBits parts = allBelow (length parts) (λ i. leb (getD parts i 0) 1)
 
--- Modulo 2, each ballot byte is the sum of its parts.
+-- The parts of each ballot byte add up to it modulo 2.
 unfoldable pub addsUp : ℕ → List ℕ → List ℕ → Bool
 addsUp t ballots parts = allBelow (length ballots)
     (λ x. eqb (opened t (λ p. part (piece (length ballots) parts p) x)) (getD ballots x 0))
@@ -25,8 +26,13 @@ productAddsUp t dealt i = eqb (opened t (λ p. productOf (dealt p) i))
 unfoldable pub productsAddUp : ℕ → ℕ → List ℕ → Bool
 productsAddUp t conditional dealt = allBelow conditional (productAddsUp t (piece (3 * conditional) dealt))
 
--- A dealing of these ballots for so many conditional gates: all parts are bits, and they add up.
+-- A good dealing of these ballots for this many conditional gates: all parts are bits, and they add up.
 unfoldable pub dealtWell : ℕ → ℕ → List ℕ → Dealing → Bool
 dealtWell t conditional ballots d =
     onlyBits (d .ballotParts) && onlyBits (d .dealerParts) && addsUp t ballots (d .ballotParts)
     && productsAddUp t conditional (d .dealerParts)
+
+-- What testing the products of the triples asks for.
+pub record ProductsReady (t conditional : ℕ) (dealt : List ℕ) : Type 0 where
+  pub few : conditional < 1073741824
+  pub long : length dealt ≡ t * (3 * conditional)

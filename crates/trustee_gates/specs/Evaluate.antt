@@ -1,12 +1,15 @@
--- What the evaluation asks of its caller.
+-- What the evaluation asks of its caller, and leaves.
 use mathlib.Core.Path.{_≡_}
 use mathlib.Core.List.{List}
 use Prim.Native.Nat.{ℕ, _+_, _*_, _≤_, _<_}
-use lib.ListN.{length}
+use lib.ListN.{length, take}
+use lib.Seq.{sets}
 use Rattle.gates.specs.Gate.{gatesOf}
 use Rattle.gates.specs.Board.{conditionalCount}
 use Rattle.gates.specs.Test.{firstBad}
 use Rattle.gates.specs.declared.place.Place.the-variants.{Nowhere}
+use Rattle.trustee_shares.specs.Shares.{partsOf}
+use Rattle.trustee_shares.specs.Views.{Dealing, piece, joined, maskedFactors, wirePartsOf, publishedOf}
 use Rattle.trustee_gates.specs.declared.gate.Pieces.{Pieces}
 
 -- A list of good gates over at least one input, and room for all parts, triples and factors of t trustees.
@@ -21,7 +24,7 @@ pub record RunReady (t : ℕ) (pieces : Pieces) (inputs : ℕ) (table dealt wire
   pub dealt-length : length dealt ≡ t * pieces .dealt
   pub published-length : length published ≡ t * pieces .published
 
--- Besides: tables of exactly the lengths of request 2.7, and at least k gates.
+-- Also: tables of exactly the lengths of request 2.7, and at least k gates.
 pub record EvaluateReady (t inputs : ℕ) (table : List ℕ) (conditional k : ℕ)
     (ballotParts dealt wires published : List ℕ) : Type 0 where
   pub some-input : 1 ≤ inputs
@@ -33,3 +36,17 @@ pub record EvaluateReady (t inputs : ℕ) (table : List ℕ) (conditional k : �
   pub dealt-length : length dealt ≡ t * (3 * conditional)
   pub wires-length : length wires ≡ t * (inputs + length (gatesOf table))
   pub published-length : length published ≡ t * (2 * conditional + k)
+
+-- After all gates, over the inputs at the front of each trustee's wire parts.
+pub record GatesRan (t : ℕ) (pieces : Pieces) (inputs : ℕ) (table dealt wires published wires′ published′ : List ℕ) :
+    Type 0 where
+  pub parts : wires′ ≡ joined t (partsOf t (piece (pieces .dealt) dealt)
+      (λ p. take inputs (piece (pieces .wires) wires p)) 0 (gatesOf table))
+  pub shown : published′ ≡ joined t (λ p. sets (piece (pieces .published) published p) 0
+      (maskedFactors (partsOf t (piece (pieces .dealt) dealt) (λ q. take inputs (piece (pieces .wires) wires q)) 0
+      (gatesOf table) p) (piece (pieces .dealt) dealt p) 0 (gatesOf table)))
+
+-- After the whole evaluation.
+pub record Evaluated (t inputs : ℕ) (table : List ℕ) (k : ℕ) (d : Dealing) (wires′ published′ : List ℕ) : Type 0 where
+  pub parts : wires′ ≡ joined t (wirePartsOf t inputs (gatesOf table) d)
+  pub shown : published′ ≡ joined t (publishedOf t inputs (gatesOf table) k d)

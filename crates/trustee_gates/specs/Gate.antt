@@ -1,13 +1,17 @@
--- What the functions on one gate ask.
+-- What the functions on one gate ask for and leave.
 use mathlib.Core.Path.{_≡_}
-use mathlib.Core.Bool.{true}
-use mathlib.Core.List.{List}
+use mathlib.Core.Bool.{true, cond}
+use mathlib.Core.List.{List, [], _∷_}
 use Prim.Native.Nat.{ℕ, _+_, _*_, _≤_, _<_}
 use lib.ListN.{length}
 use Rattle.gates.specs.Kind.{conditionalOf}
 use Rattle.gates.specs.Gate.{Gate}
+use Rattle.trustee_shares.specs.Shares.{maskedFirst, maskedSecond, openedFirst, openedSecond, newPart, markOf}
+use Rattle.trustee_shares.specs.Views.{piece}
 use Rattle.trustee_gates.specs.declared.gate.Numbers.{Numbers}
 use Rattle.trustee_gates.specs.declared.gate.Pieces.{Pieces}
+use Rattle.trustee_gates.specs.declared.gate.Opened.{Opened}
+use Rattle.trustee_gates.specs.Tables.{eachPuts}
 
 -- The gate of these numbers.
 abbrev pub gateOf : Numbers → Gate
@@ -20,10 +24,15 @@ pub record InWires (size : ℕ) (g : Numbers) (p : ℕ) (wires : List ℕ) : Typ
   pub c-in : g .c < size
   pub wires-reach : p * size + size ≤ length wires
 
--- And so are its bits of the i-th triple.
+-- So are its bits of the i-th triple.
 pub record InDealt (size i p : ℕ) (dealt : List ℕ) : Type 0 where
   pub triple-in : 3 * i + 2 < size
   pub dealt-reach : p * size + size ≤ length dealt
+
+-- Operands and triple are both in the tables.
+pub record FactorReady (pieces : Pieces) (g : Numbers) (i p : ℕ) (dealt wires : List ℕ) : Type 0 where
+  pub operands : InWires (pieces .wires) g p wires
+  pub triple : InDealt (pieces .dealt) i p dealt
 
 -- The operands and the own wire of a gate, in tables for t trustees.
 pub record FreeReady (t size : ℕ) (g : Numbers) (own : ℕ) (wires : List ℕ) : Type 0 where
@@ -48,7 +57,7 @@ pub record ProductReady (t : ℕ) (pieces : Pieces) (g : Numbers) (own i : ℕ) 
   pub triple-in : 3 * i + 2 < pieces .dealt
   pub dealt-length : length dealt ≡ t * pieces .dealt
 
--- A gate of either sort: triple and factors have their places where it is conditional.
+-- A gate, conditional or free: if it is conditional, the tables have places for its triple and its factors.
 pub record GateReady (t : ℕ) (pieces : Pieces) (g : Numbers) (own i : ℕ) (dealt wires published : List ℕ) : Type 0 where
   pub free : FreeReady t (pieces .wires) g own wires
   pub known : g .kind < 8
@@ -57,3 +66,26 @@ pub record GateReady (t : ℕ) (pieces : Pieces) (g : Numbers) (own i : ℕ) (de
   pub factors-in : conditionalOf (g .kind) ≡ true → 2 * i + 1 < pieces .published
   pub dealt-length : length dealt ≡ t * pieces .dealt
   pub published-length : length published ≡ t * pieces .published
+
+-- What trustee p publishes for a gate: both factors, masked.
+abbrev pub bothMasked : Pieces → Numbers → ℕ → List ℕ → List ℕ → ℕ → List ℕ
+bothMasked pieces g i dealt wires p =
+    maskedFirst (piece (pieces .wires) wires p) (piece (pieces .dealt) dealt p) i (gateOf g)
+    ∷ maskedSecond (piece (pieces .wires) wires p) (piece (pieces .dealt) dealt p) i (gateOf g)
+    ∷ []
+
+-- After all have published: the opened factors, and the table with what they published.
+pub record Published (t : ℕ) (pieces : Pieces) (g : Numbers) (i : ℕ) (dealt wires old : List ℕ) (r : Opened)
+    (new : List ℕ) : Type 0 where
+  pub first : r .first ≡ openedFirst t (piece (pieces .dealt) dealt) (piece (pieces .wires) wires) i (gateOf g)
+  pub second : r .second ≡ openedSecond t (piece (pieces .dealt) dealt) (piece (pieces .wires) wires) i (gateOf g)
+  pub shown : new ≡ eachPuts t (pieces .published) (2 * i) (λ p. bothMasked pieces g i dealt wires p) old
+
+-- After one gate: how many conditional ones there are, each trustee's part of its wire, and what was published.
+pub record GateRan (t : ℕ) (pieces : Pieces) (g : Numbers) (own i : ℕ) (dealt wires old : List ℕ) (r : ℕ)
+    (wires′ new : List ℕ) : Type 0 where
+  pub next : r ≡ i + markOf (gateOf g)
+  pub parts : wires′ ≡ eachPuts t (pieces .wires) own
+      (λ p. newPart t (piece (pieces .dealt) dealt) (piece (pieces .wires) wires) i (gateOf g) p ∷ []) wires
+  pub shown : new ≡ cond (conditionalOf (g .kind))
+      (eachPuts t (pieces .published) (2 * i) (λ p. bothMasked pieces g i dealt wires p) old) old

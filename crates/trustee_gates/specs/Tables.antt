@@ -1,13 +1,13 @@
 -- What is put into tables that go trustee after trustee.
 use mathlib.Core.Path.{_≡_}
 use mathlib.Core.List.{List}
-use Prim.Native.Nat.{ℕ, zero, suc, _+_, _*_, _≤_}
+use Prim.Native.Nat.{ℕ, zero, suc, _+_, _*_, _≤_, _<_}
 use lib.ListN.{length}
 use lib.Seq.{sets}
 use Rattle.trustee_shares.specs.Shares.{Held}
 
--- A table with pieces of one size after each of the first t trustees has put its entries into its piece, from an index
--- on.
+-- A table with pieces of one size, after each of the first t trustees has put its entries into its piece from an
+-- index on.
 unfoldable pub eachPuts : ℕ → ℕ → ℕ → Held → List ℕ → List ℕ
 eachPuts zero size index entries table = table
 eachPuts (suc t) size index entries table = sets (eachPuts t size index entries table) (t * size + index) (entries t)
@@ -19,3 +19,12 @@ pub record CopyReady (t count : ℕ) (source : List ℕ) (sourceSize at : ℕ) (
   pub source-fits : at + count ≤ sourceSize
   pub target-length : length target ≡ t * targetSize
   pub target-fits : into + count ≤ targetSize
+
+-- What reading trustee p's entry, and opening an entry of all t trustees, ask for.
+pub record EntryReady (size p index : ℕ) (table : List ℕ) : Type 0 where
+  pub inside : index < size
+  pub reach : p * size + size ≤ length table
+
+pub record OpenReady (size t index : ℕ) (table : List ℕ) : Type 0 where
+  pub inside : index < size
+  pub long : length table ≡ t * size

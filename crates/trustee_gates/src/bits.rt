@@ -17,14 +17,14 @@ pub(crate) fn times(a: u8, b: u8) -> u8
     if a % 2 == 0 { 0 } else { b % 2 }
 }
 
-// What trustee p enters of a public bit: the first trustee alone enters it.
+// What trustee p enters for a public bit: the first trustee the bit, the others 0.
 pub(crate) fn enter_once(p: usize, x: u8) -> u8
     ensures { λ r. ⌜ r ≡ entered p x ⌝ }
 {
     if p == 0 { x } else { 0 }
 }
 
-// Trustee p's bit of a product, from its bits of the dealt triple and both opened sums.
+// Trustee p's bit of a product, from its bits of the triple and both opened sums.
 pub fn product_bit(p: usize, u: u8, v: u8, product: u8, first: u8, second: u8) -> u8
     ensures { λ r. ⌜ r ≡ (product + first * v + second * u + entered p (first * second)) % 2 ⌝ }
 {
@@ -33,7 +33,7 @@ pub fn product_bit(p: usize, u: u8, v: u8, product: u8, first: u8, second: u8) -
     plus(masked, enter_once(p, times(first, second)))
 }
 
-// Trustee p's bit of a gate's wire from its bits of the operands and z, its bit of the product.
+// Trustee p's bit of a gate's wire, from its bits of the operands and its bit z of the product.
 pub fn part_of_kind(p: usize, kind: u32, a: u8, b: u8, c: u8, z: u8) -> u8
     ensures { λ r. ⌜ r ≡ partOfKind p kind a b c z ⌝ }
 {

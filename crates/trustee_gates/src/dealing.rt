@@ -5,7 +5,7 @@ ghost use mathlib.Core.Path.{_≡_};
 ghost use Prim.Native.Nat.{_+_, _*_, _<_};
 ghost use lib.ListN.{length};
 ghost use Rattle.trustee_shares.specs.Views.{piece};
-ghost use Rattle.trustee_gates.specs.Dealing.{onlyBits, addsUp, productAddsUp, productsAddUp};
+ghost use Rattle.trustee_gates.specs.Dealing.{onlyBits, addsUp, productAddsUp, productsAddUp, ProductsReady};
 
 // Whether all parts are 0 or 1.
 pub fn only_bits(parts: &[u8]) -> bool
@@ -46,9 +46,9 @@ fn product_adds_up(t: usize, size: usize, i: usize, dealt: &[u8]) -> bool
     table::open(dealt, size, t, 3 * i + 2) == bits::times(u, v)
 }
 
-// Whether the parts of the product of each of so many triples add up to it.
+// Whether the parts of each triple's product add up to it.
 pub fn products_add_up(t: usize, conditional: usize, dealt: &[u8]) -> bool
-    requires { ⌜ (conditional < 1073741824) × (length (now dealt) ≡ t * (3 * conditional)) ⌝ }
+    requires { ⌜ ProductsReady t conditional (now dealt) ⌝ }
     ensures { λ r. ⌜ r ≡ productsAddUp t conditional (now (dealt .entry)) ⌝ }
 {
     let size = 3 * conditional;

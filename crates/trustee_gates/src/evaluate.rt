@@ -1,4 +1,5 @@
-// The evaluation of a whole list by trustees. It is no entry point: its `requires` is what the tests establish.
+// The evaluation of a whole list by trustees. Nothing here is an entry point: what a `requires` asks, the tests
+// establish.
 use crate::gate;
 use crate::gate::Numbers;
 use crate::gate::Pieces;
@@ -6,14 +7,10 @@ use crate::table;
 use gates::kind;
 ghost use mathlib.Core.Path.{_≡_};
 ghost use Prim.Native.Nat.{_+_, _*_, _<_};
-ghost use lib.ListN.{length, take};
-ghost use lib.Seq.{sets};
-ghost use Rattle.gates.specs.Gate.{gatesOf};
+ghost use lib.ListN.{length};
 ghost use Rattle.gates.specs.inner.Step.{gateAt};
-ghost use Rattle.trustee_shares.specs.Shares.{partsOf};
-ghost use Rattle.trustee_shares.specs.Views.{piece, joined, maskedFactors, wirePartsOf, publishedOf};
 ghost use Rattle.trustee_gates.specs.Gate.{gateOf};
-ghost use Rattle.trustee_gates.specs.Evaluate.{RunReady, EvaluateReady};
+ghost use Rattle.trustee_gates.specs.Evaluate.{RunReady, EvaluateReady, GatesRan, Evaluated};
 
 // Gate g of a table.
 pub fn numbers_at(table: &[u32], g: usize) -> Numbers
@@ -29,7 +26,7 @@ pub fn numbers_at(table: &[u32], g: usize) -> Numbers
     }
 }
 
-// All gates in turn, over wire parts of which the inputs are there already.
+// All gates in order. The inputs are in the wire parts already.
 fn run_gates(
     t: usize,
     pieces: Pieces,
@@ -40,14 +37,10 @@ fn run_gates(
     published: &mut [u8],
 )
     requires { ⌜ RunReady t pieces inputs (now table) (now dealt) (now wires) (now published) ⌝ }
-    ensures { λ _.
-        ⌜ now (wires .exit) ≡ joined t (partsOf t (piece (pieces .dealt) (now (dealt .entry)))
-        (λ p. take inputs (piece (pieces .wires) (now (wires .entry)) p)) 0 (gatesOf (now (table .entry)))) ⌝ }
-    ensures { λ _.
-        ⌜ now (published .exit) ≡ joined t (λ p. sets (piece (pieces .published) (now (published .entry)) p) 0
-        (maskedFactors (partsOf t (piece (pieces .dealt) (now (dealt .entry)))
-        (λ q. take inputs (piece (pieces .wires) (now (wires .entry)) q)) 0 (gatesOf (now (table .entry))) p)
-        (piece (pieces .dealt) (now (dealt .entry)) p) 0 (gatesOf (now (table .entry))))) ⌝ }
+    ensures { λ _. ⌜
+        GatesRan t pieces inputs (now (table .entry)) (now (dealt .entry)) (now (wires .entry))
+        (now (published .entry)) (now (wires .exit)) (now (published .exit))
+        ⌝ }
 {
     let marks = kind::CONDITIONAL;
     let gates = table.len() / 4;
@@ -70,8 +63,8 @@ fn run_gates(
     }
 }
 
-// The inputs go to the front of each trustee's wire parts, the gates follow, and in the end each trustee publishes its
-// parts of the last k wires.
+// Copies the inputs to the front of each trustee's wire parts, does the gates, and publishes each trustee's parts of
+// the last k wires.
 pub fn evaluate(
     t: usize,
     inputs: usize,
@@ -85,12 +78,11 @@ pub fn evaluate(
 )
     requires { ⌜ EvaluateReady t inputs (now table) conditional k (now parts) (now dealt) (now wires)
         (now published) ⌝ }
-    ensures { λ _.
-        ⌜ now (wires .exit) ≡ joined t (wirePartsOf t inputs (gatesOf (now (table .entry)))
-        (record { ballotParts = now (parts .entry); dealerParts = now (dealt .entry) })) ⌝ }
-    ensures { λ _.
-        ⌜ now (published .exit) ≡ joined t (publishedOf t inputs (gatesOf (now (table .entry))) k
-        (record { ballotParts = now (parts .entry); dealerParts = now (dealt .entry) })) ⌝ }
+    ensures { λ _. ⌜
+        Evaluated t inputs (now (table .entry)) k
+        (record { ballotParts = now (parts .entry); dealerParts = now (dealt .entry) }) (now (wires .exit))
+        (now (published .exit))
+        ⌝ }
 {
     let size = inputs + table.len() / 4;
     let factors = 2 * conditional;

@@ -3,16 +3,15 @@ use crate::bits;
 use crate::table;
 use gates::kind;
 ghost use mathlib.Core.Path.{_≡_};
-ghost use mathlib.Core.Bool.{cond};
 ghost use mathlib.Core.List.{_∷_, []};
-ghost use Prim.Native.Nat.{_+_, _*_, _<_};
-ghost use Rattle.gates.specs.Kind.{conditionalMarks, conditionalOf};
-ghost use Rattle.trustee_shares.specs.Shares.{secondFactor, maskedFirst, maskedSecond, productPart, partOfKind, part, openedFirst, openedSecond, newPart, markOf};
+ghost use Rattle.trustee_shares.specs.Shares.{secondFactor, maskedFirst, maskedSecond, productPart, partOfKind, part};
 ghost use Rattle.trustee_shares.specs.Views.{piece};
 ghost use Rattle.trustee_gates.specs.Tables.{eachPuts};
 ghost use Rattle.trustee_gates.specs.Gate.{gateOf, InWires, InDealt, PublishReady, ProductReady, FreeReady, GateReady};
+ghost use Rattle.trustee_gates.specs.Gate.{FactorReady, Published, GateRan};
+ghost use Rattle.gates.specs.inner.Marked.{Marked};
 
-// How much of each table belongs to one trustee.
+// How many entries of each table belong to one trustee.
 pub struct Pieces {
     pub wires: usize,
     pub dealt: usize,
@@ -54,8 +53,7 @@ pub fn masked_first(
     dealt: &[u8],
     wires: &[u8],
 ) -> u8
-    requires { ⌜ InWires (pieces .wires) gate p (now wires) ⌝ }
-    requires { ⌜ InDealt (pieces .dealt) i p (now dealt) ⌝ }
+    requires { ⌜ FactorReady pieces gate i p (now dealt) (now wires) ⌝ }
     ensures { λ r.
         ⌜ r ≡ maskedFirst (piece (pieces .wires) (now (wires .entry)) p)
         (piece (pieces .dealt) (now (dealt .entry)) p) i (gateOf gate) ⌝ }
@@ -73,8 +71,7 @@ pub fn masked_second(
     dealt: &[u8],
     wires: &[u8],
 ) -> u8
-    requires { ⌜ InWires (pieces .wires) gate p (now wires) ⌝ }
-    requires { ⌜ InDealt (pieces .dealt) i p (now dealt) ⌝ }
+    requires { ⌜ FactorReady pieces gate i p (now dealt) (now wires) ⌝ }
     ensures { λ r.
         ⌜ r ≡ maskedSecond (piece (pieces .wires) (now (wires .entry)) p)
         (piece (pieces .dealt) (now (dealt .entry)) p) i (gateOf gate) ⌝ }
@@ -83,7 +80,7 @@ pub fn masked_second(
     bits::plus(factor, table::entry(dealt, pieces.dealt, p, 3 * i + 1))
 }
 
-// Each trustee publishes its bits of both factors, masked; both are opened on the way.
+// Each trustee publishes its masked bits of both factors; their sums are opened on the way.
 fn publish(
     t: usize,
     pieces: Pieces,
@@ -94,18 +91,10 @@ fn publish(
     published: &mut [u8],
 ) -> Opened
     requires { ⌜ PublishReady t pieces gate i (now dealt) (now wires) (now published) ⌝ }
-    ensures { λ r.
-        ⌜ r .first ≡ openedFirst t (piece (pieces .dealt) (now (dealt .entry)))
-        (piece (pieces .wires) (now (wires .entry))) i (gateOf gate) ⌝ }
-    ensures { λ r.
-        ⌜ r .second ≡ openedSecond t (piece (pieces .dealt) (now (dealt .entry)))
-        (piece (pieces .wires) (now (wires .entry))) i (gateOf gate) ⌝ }
-    ensures { λ _.
-        ⌜ now (published .exit) ≡ eachPuts t (pieces .published) (2 * i)
-        (λ p. maskedFirst (piece (pieces .wires) (now (wires .entry)) p)
-        (piece (pieces .dealt) (now (dealt .entry)) p) i (gateOf gate)
-        ∷ maskedSecond (piece (pieces .wires) (now (wires .entry)) p) (piece (pieces .dealt) (now (dealt .entry)) p) i
-        (gateOf gate) ∷ []) (now (published .entry)) ⌝ }
+    ensures { λ r. ⌜
+        Published t pieces gate i (now (dealt .entry)) (now (wires .entry)) (now (published .entry)) r
+        (now (published .exit))
+        ⌝ }
 {
     let size = pieces.published;
     let mut first = 0;
@@ -177,7 +166,7 @@ fn enter_products(
     }
 }
 
-// Each trustee enters its part of a free gate's wire, for which no product is needed.
+// Each trustee enters its part of a free gate's wire, which needs no product.
 fn enter_free(t: usize, size: usize, gate: Numbers, own: usize, wires: &mut [u8])
     requires { ⌜ FreeReady t size gate own (now wires) ⌝ }
     ensures { λ _.
@@ -192,7 +181,7 @@ fn enter_free(t: usize, size: usize, gate: Numbers, own: usize, wires: &mut [u8]
     }
 }
 
-// One gate, i conditional ones having been before it. Answers how many there are after it.
+// One gate, which i conditional gates precede. Answers their number after it.
 pub(crate) fn run_gate(
     marks: &[bool; 8],
     t: usize,
@@ -204,19 +193,11 @@ pub(crate) fn run_gate(
     wires: &mut [u8],
     published: &mut [u8],
 ) -> usize
-    requires { ⌜ now marks ≡ conditionalMarks ⌝ }
-    requires { ⌜ GateReady t pieces gate own i (now dealt) (now wires) (now published) ⌝ }
-    ensures { λ r. ⌜ r ≡ i + markOf (gateOf gate) ⌝ }
-    ensures { λ _.
-        ⌜ now (wires .exit) ≡ eachPuts t (pieces .wires) own
-        (λ p. newPart t (piece (pieces .dealt) (now (dealt .entry))) (piece (pieces .wires) (now (wires .entry))) i
-        (gateOf gate) p ∷ []) (now (wires .entry)) ⌝ }
-    ensures { λ _.
-        ⌜ now (published .exit) ≡ cond (conditionalOf (gate .kind))
-        (eachPuts t (pieces .published) (2 * i) (λ p. maskedFirst (piece (pieces .wires) (now (wires .entry)) p)
-        (piece (pieces .dealt) (now (dealt .entry)) p) i (gateOf gate)
-        ∷ maskedSecond (piece (pieces .wires) (now (wires .entry)) p) (piece (pieces .dealt) (now (dealt .entry)) p) i
-        (gateOf gate) ∷ []) (now (published .entry))) (now (published .entry)) ⌝ }
+    requires { ⌜ Marked (now marks) (GateReady t pieces gate own i (now dealt) (now wires) (now published)) ⌝ }
+    ensures { λ r. ⌜
+        GateRan t pieces gate own i (now (dealt .entry)) (now (wires .entry)) (now (published .entry)) r
+        (now (wires .exit)) (now (published .exit))
+        ⌝ }
 {
     if kind::conditional(marks, gate.kind) {
         let opened = publish(t, pieces, gate, i, dealt, wires, published);

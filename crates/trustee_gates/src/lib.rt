@@ -1,4 +1,4 @@
-// A gate list evaluated by trustees of whom each holds one part of every wire, over tables that go trustee after
+// A gate list evaluated by trustees, each of whom holds one part of every wire, over tables that go trustee after
 // trustee. This crate knows gates and parts, and nothing of juries.
 pub mod bits;
 pub mod dealing;

@@ -1,16 +1,16 @@
-// Tables that go trustee after trustee, with a piece of one size for each.
+// Tables that go trustee after trustee, with pieces of one size.
 use crate::bits;
 ghost use mathlib.Core.Path.{_≡_};
-ghost use Prim.Native.Nat.{_+_, _*_, _≤_, _<_};
+ghost use Prim.Native.Nat.{_+_, _≤_};
 ghost use lib.ListN.{length, take, drop};
 ghost use lib.Seq.{sets};
 ghost use Rattle.trustee_shares.specs.Shares.{opened, part};
 ghost use Rattle.trustee_shares.specs.Views.{piece};
-ghost use Rattle.trustee_gates.specs.Tables.{eachPuts, CopyReady};
+ghost use Rattle.trustee_gates.specs.Tables.{eachPuts, CopyReady, EntryReady, OpenReady};
 
 // Trustee p's entry at an index of its piece.
 pub(crate) fn entry(table: &[u8], size: usize, p: usize, index: usize) -> u8
-    requires { ⌜ (index < size) × (p * size + size ≤ length (now table)) ⌝ }
+    requires { ⌜ EntryReady size p index (now table) ⌝ }
     ensures { λ r. ⌜ r ≡ part (piece size (now (table .entry)) p) index ⌝ }
 {
     table[p * size + index]
@@ -18,7 +18,7 @@ pub(crate) fn entry(table: &[u8], size: usize, p: usize, index: usize) -> u8
 
 // Opens the bit that t trustees hold at an index of their pieces: the sum of their entries modulo 2.
 pub fn open(table: &[u8], size: usize, t: usize, index: usize) -> u8
-    requires { ⌜ (index < size) × (length (now table) ≡ t * size) ⌝ }
+    requires { ⌜ OpenReady size t index (now table) ⌝ }
     ensures { λ r. ⌜ r ≡ opened t (λ p. part (piece size (now (table .entry)) p) index) ⌝ }
 {
     let mut sum = 0;
@@ -30,7 +30,7 @@ pub fn open(table: &[u8], size: usize, t: usize, index: usize) -> u8
     sum
 }
 
-// Copies so many bytes from one place to another.
+// Copies `count` bytes from one place to another.
 fn copy_part(count: usize, from: &[u8], at: usize, to: &mut [u8], into: usize)
     requires { ⌜ (at + count ≤ length (now from)) × (into + count ≤ length (now to)) ⌝ }
     ensures { λ _. ⌜ now (to .exit) ≡ sets (now (to .entry)) into (take count (drop at (now (from .entry)))) ⌝ }
@@ -42,7 +42,8 @@ fn copy_part(count: usize, from: &[u8], at: usize, to: &mut [u8], into: usize)
     }
 }
 
-// Copies so many entries of each trustee's piece of one table, from an index on, to its piece of another.
+// Copies the same number of entries, from an index on, from each trustee's piece of one table to its piece of
+// another.
 pub(crate) fn copy_pieces(
     t: usize,
     count: usize,

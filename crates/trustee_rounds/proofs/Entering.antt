@@ -1,4 +1,4 @@
--- The lemma that all turns on: after round r each wire of level at most r holds its part, and each other gate's wire 0.
+-- The main lemma: after round r each wire of level at most r holds its part, and each other gate's wire 0.
 -- Assumes nothing.
 use mathlib.Core.Path.{_≡_, _∙_, refl, sym, subst}
 use mathlib.Core.Bool.{Bool, true, false, cond}
@@ -19,7 +19,8 @@ use Rattle.trustee_shares.proofs.Exchange.{ignores}
 use Rattle.trustee_rounds.specs.Rounds.{Turn, heardPart, entersGate, enters}
 
 module _ (t inputs : ℕ) (dealt final : Held) (levels : List ℕ) where
-  -- Gate g of the list, i conditional ones before it: a known kind whose operands lie below, its level by theirs, and each trustee's final part of its wire, by the final parts of theirs.
+  -- Gate g of the list, which i conditional gates precede: its kind is known, its operands are below it and determine
+  -- its level, and each trustee's final part of its wire follows from the final parts of theirs.
   pub record GateFits (g i : ℕ) (x : Gate) : Type 0 where
     pub known : x .kind < 8
     pub below : Below (inputs + g) x
@@ -47,7 +48,7 @@ module _ (t inputs : ℕ) (dealt final : Held) (levels : List ℕ) where
     abbrev pub turn : Turn
     turn = record { trustee = p; round = r; inputs = inputs; levels = levels; dealt = dealt p; heard = heard }
 
-    -- Where a round stands before gate g of size gates.
+    -- The wire parts during a round, before gate g of `size` gates.
     pub record Stands (size : ℕ) (ws : List ℕ) (g : ℕ) : Type 0 where
       pub long : length ws ≡ inputs + size
       pub input : (x : ℕ) → x < inputs → part ws x ≡ part (final p) x
@@ -69,7 +70,7 @@ module _ (t inputs : ℕ) (dealt final : Held) (levels : List ℕ) where
             let is : inputs + (x - inputs) ≡ x = omega arith in
             subst (λ (y : ℕ). part ws y ≡ part (final p) y) is (s .done (x - inputs) (omega arith) ∙ reached-part (suc r) (x - inputs) (omega arith))
 
-    -- its part by its bit z of the product
+    -- its part, from its bit z of the product
     abbrev by : Gate → ℕ → ℕ
     by x z = partOfKind p (x .kind) (part (final p) (x .a)) (part (final p) (x .b)) (part (final p) (x .c)) z
 

@@ -1,4 +1,4 @@
--- The passes over a list, gate by gate: what is left after a gate is what was left before it.
+-- The passes over a list, gate by gate: doing a gate and then the rest is doing all that was left.
 -- Assumes nothing.
 use mathlib.Core.Path.{_≡_, _∙_, refl, sym, ap, subst}
 use mathlib.Core.Bool.{true, cond, _&&_}
@@ -28,7 +28,7 @@ use Rattle.trustee_rounds.specs.Rounds.{Turn, heardPart, entersGate, ent
 use Rattle.trustee_rounds.specs.inner.Passes.{GateIn, PartReady, PublishReady}
 use Rattle.trustee_rounds.proofs.Closing.{length-cond}
 
--- a table that is one trustee's own is its piece 0
+-- a table of one trustee is its own piece 0
 pub own-piece : (l : List ℕ) → piece (length l) l 0 ≡ l
 unfolding piece
 own-piece l = let e : 0 * length l ≡ 0 = omega arith in ap (λ (n : ℕ). take (length l) (drop n l)) e ∙ take-all (length l) l (omega arith)
@@ -37,7 +37,7 @@ mark-is : (x : Gate) → markOf x ≡ cond (conditionalOf (x .kind)) 1 0
 mark-is x = unfold markOf in refl
 
 module _ (inputs : ℕ) (table : List ℕ) where
-  -- Gates g and on are ahead, i conditional ones are done.
+  -- The gates from g on are left; i conditional ones are done.
   pub record Ahead (g i : ℕ) : Type 0 where
     pub order : g ≤ length (gatesOf table)
     pub good : AllGood (inputs + g) (drop g (gatesOf table))

@@ -1,4 +1,5 @@
--- What is published level by level: after round r each conditional gate of level at most r + 1 has published both masked factors, and each other one zeros.
+-- What is published level by level: after round r each conditional gate of level at most r + 1 has published both
+-- masked factors; for the others there are zeros.
 -- Assumes nothing.
 use mathlib.Core.Path.{_≡_, _∙_, refl, sym, ap, subst}
 use mathlib.Core.Bool.{Bool, true, false, cond, _&&_}
@@ -23,7 +24,7 @@ use Rattle.trustee_rounds.specs.Together.{sumsFrom, sumsOf}
 use Rattle.trustee_rounds.proofs.Entering.{GateFits, Fits, Heard, turn, Stands, wire-there}
 use Rattle.trustee_shares.proofs.Publishing.{mark-none}
 
--- masked factors follow from the parts of the operands
+-- masked factors depend only on the parts of the operands
 first-same : (ws vs dealt : List ℕ) (i : ℕ) (x : Gate) → part ws (x .a) ≡ part vs (x .a) → maskedFirst ws dealt i x ≡ maskedFirst vs dealt i x
 unfolding maskedFirst firstFactor
 first-same ws vs dealt i x e = rw e
@@ -61,7 +62,7 @@ module _ (t inputs : ℕ) (dealt final : Held) (levels : List ℕ) where
   Shown p n published [] g i = Unit {0}
   Shown p n published (x ∷ xs) g i = ShownGate p n published g i x × Shown p n published xs (suc g) (i + markOf x)
 
-  -- it speaks of the places from 2 * i on
+  -- it reads only the places from 2 * i on
   shown-same : (p n : ℕ) (gs : List Gate) (g i : ℕ) (pub₁ pub₂ : List ℕ) → ((j : ℕ) → 2 * i ≤ j → part pub₂ j ≡ part pub₁ j) → Shown p n pub₁ gs g i → Shown p n pub₂ gs g i
   shown-same p n [] g i pub₁ pub₂ e s = tt
   shown-same p n (x ∷ xs) g i pub₁ pub₂ e s = (
@@ -88,7 +89,7 @@ module _ (t inputs : ℕ) (dealt final : Held) (levels : List ℕ) where
   )
 
   module _ (p r : ℕ) (heard ws : List ℕ) (size : ℕ) (stands : Stands t inputs dealt final levels p r heard size ws size) where
-    -- one gate: it shows what it has to, and what belongs to other gates stays
+    -- one gate: its two places are right, and those of other gates unchanged
     record Turned (published published′ : List ℕ) (g i : ℕ) (x : Gate) : Type 0 where
       long : length published′ ≡ length published
       shows : ShownGate p (suc (suc r)) published′ g i x

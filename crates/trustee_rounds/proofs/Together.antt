@@ -1,4 +1,4 @@
--- Trustees who exchange sums once a level end with the wire parts and the published bits of the one call.
+-- Trustees who exchange sums once a level end with the wire parts and the published bits of the single call.
 -- Assumes nothing.
 use mathlib.Core.Path.{_≡_, _∙_, refl, sym, ap, subst}
 use mathlib.Core.Bool.{Bool, true, false, cond}

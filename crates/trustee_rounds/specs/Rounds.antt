@@ -10,9 +10,8 @@ use Rattle.gates.specs.Gate.{Gate}
 use Rattle.trustee_shares.specs.Shares.{part, maskedFirst, maskedSecond, productPart, partOfKind, markOf}
 use Rattle.trustee_shares.specs.Views.{closingParts}
 
--- All that a trustee computes a round from, besides the list: its number, the round, how many inputs there are, the
--- levels of the gates, its own dealer parts, and the sums that all have heard: the first and the second of each
--- conditional gate.
+-- What a trustee computes a round from, besides the list: its number, the round, the number of inputs, the gates'
+-- levels, its own dealer parts, and the sums that all have heard, two for each conditional gate.
 pub record Turn : Type 0 where
   pub trustee : ℕ
   pub round : ℕ
@@ -21,23 +20,23 @@ pub record Turn : Type 0 where
   pub dealt : List ℕ
   pub heard : List ℕ
 
--- Its part of the wire of gate x, before which i conditional gates stand, from its wire parts ws.
+-- Its part of the wire of gate x, which i conditional gates precede, from its wire parts ws.
 unfoldable pub heardPart : Turn → ℕ → Gate → List ℕ → ℕ
 heardPart u i x ws =
     partOfKind (u .trustee) (x .kind) (part ws (x .a)) (part ws (x .b)) (part ws (x .c))
     (productPart (u .trustee) (u .dealt) i (part (u .heard) (2 * i)) (part (u .heard) (2 * i + 1)))
 
--- The wire parts after one gate, gate g: it gets its part in the round that is its level.
+-- The wire parts after gate g: it gets its part in the round that is its level.
 unfoldable pub entersGate : Turn → ℕ → ℕ → Gate → List ℕ → List ℕ
 entersGate u g i x ws = cond (eqb (getD (u .levels) g 0) (u .round)) (set ws (u .inputs + g) (heardPart u i x ws)) ws
 
--- And after all gates, in order, of which the first is gate g, with i conditional ones before it.
+-- The same after all gates in order; the first is gate g, which i conditional gates precede.
 unfoldable pub enters : Turn → List Gate → ℕ → ℕ → List ℕ → List ℕ
 enters u [] g i ws = ws
 enters u (x ∷ xs) g i ws = enters u xs (suc g) (i + markOf x) (entersGate u g i x ws)
 
--- What is published after one gate: a conditional one of the next level publishes both masked factors, for which all
--- parts are there.
+-- What is published after one gate: both masked factors if it is conditional and of the next level, for its operands
+-- are known by then.
 unfoldable pub publishesGate : Turn → List ℕ → ℕ → ℕ → Gate → List ℕ → List ℕ
 publishesGate u ws g i x published =
     cond (conditionalOf (x .kind) && eqb (getD (u .levels) g 0) (suc (u .round)))
@@ -47,12 +46,12 @@ unfoldable pub publishes : Turn → List ℕ → List Gate → ℕ → ℕ → L
 publishes u ws [] g i published = published
 publishes u ws (x ∷ xs) g i published = publishes u ws xs (suc g) (i + markOf x) (publishesGate u ws g i x published)
 
--- In the last of all rounds the parts of the last k wires go behind the C conditional gates' factors.
+-- In the last round, the parts of the last k wires go after the factors of the C conditional gates.
 unfoldable pub closes : ℕ → ℕ → ℕ → ℕ → List ℕ → List ℕ → List ℕ
 closes round last conditional k ws published =
     cond (eqb round last) (sets published (2 * conditional) (closingParts k ws)) published
 
--- The start: the ballot parts, and zeros for all that is not known yet.
+-- The start: the ballot parts, then zeros for what is not known yet.
 unfoldable pub startWires : ℕ → List ℕ → List ℕ
 startWires gates ballotParts = ballotParts ++ replicate gates 0
 

@@ -1,5 +1,5 @@
--- Trustees together: each starts, then all do the rounds 0 to R, and before each round all hear the sums of what was
--- published.
+-- The trustees together: each starts, then all do the rounds 0 to R; before each round they all hear the sums of what
+-- was published.
 use mathlib.Core.Path.{_≡_}
 use mathlib.Core.List.{List, [], _∷_}
 use Prim.Native.Nat.{ℕ, zero, suc, _*_, _≤_, _<_}
@@ -26,7 +26,7 @@ pub record Holdings : Type 0 where
   pub wireParts : Held
   pub published : Held
 
--- Trustee p's turn in round r: it knows its own dealer parts, and of the others only the sums.
+-- Trustee p in round r: it knows its own dealer parts, and of the others only the sums.
 unfoldable pub turnOf : ℕ → ℕ → List Gate → Dealing → ℕ → Held → ℕ → Turn
 turnOf t inputs gs d r published p =
     record {
@@ -46,7 +46,7 @@ publishedAfter t inputs gs k d r s p =
     closes r (roundsOf inputs gs) (conditionalCount gs) k (wiresAfter t inputs gs d r s p)
     (publishes (turnOf t inputs gs d r (s .published) p) (wiresAfter t inputs gs d r s p) gs 0 0 (s .published p))
 
--- What all hold after the first n rounds, the rounds 0 to n − 1.
+-- What all hold after the first n rounds, 0 to n − 1.
 unfoldable pub holdingsAfter : ℕ → ℕ → List Gate → ℕ → Dealing → ℕ → Holdings
 holdingsAfter t inputs gs k d zero =
     record {
@@ -60,8 +60,8 @@ holdingsAfter t inputs gs k d (suc r) =
       published = publishedAfter t inputs gs k d r (holdingsAfter t inputs gs k d r);
     }
 
--- What is held and published before round r follows from what it is in the end: two dealings that end alike for
--- trustee p were alike before every round.
+-- What a trustee holds and has published before round r follows from what it has at the end: two dealings that are
+-- equal for it then were equal before every round.
 abbrev pub EarlierFollows : Type 0
 EarlierFollows =
     (t inputs k : ℕ) (gs : List Gate) (d e : Dealing)
@@ -74,7 +74,7 @@ EarlierFollows =
     × (publishedOf t inputs gs k d p ≡ publishedOf t inputs gs k e p
     → holdingsAfter t inputs gs k d r .published p ≡ holdingsAfter t inputs gs k e r .published p)
 
--- After the rounds 0 to R each trustee holds the wire parts, and has published the bits, of the one call on the
+-- After the rounds 0 to R each trustee holds the wire parts, and has published the bits, of the single call on the
 -- joined tables.
 abbrev pub RoundsMakeTheTally : Type 0
 RoundsMakeTheTally =

@@ -1,4 +1,4 @@
-// One trustee's part of a tally, level by level, over tables that are its own.
+// One trustee's work, level by level, over its own tables.
 // This crate knows gates and parts, and nothing of juries.
 pub mod part;
 pub mod round;

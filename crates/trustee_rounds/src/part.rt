@@ -11,10 +11,11 @@ ghost use Prim.Native.Nat.{_+_, _*_, _<_};
 ghost use lib.Dec.{eqb};
 ghost use lib.ListN.{length, set};
 ghost use lib.Seq.{sets};
-ghost use Rattle.gates.specs.Kind.{conditionalMarks, conditionalOf};
+ghost use Rattle.gates.specs.Kind.{conditionalOf};
 ghost use Rattle.trustee_shares.specs.Shares.{part, maskedFirst, maskedSecond, productPart, partOfKind};
 ghost use Rattle.trustee_gates.specs.Gate.{gateOf};
 ghost use Rattle.trustee_rounds.specs.inner.Passes.{GateIn, PartReady, EnterReady, PublishReady};
+ghost use Rattle.gates.specs.inner.Marked.{Marked};
 
 // The part of a gate's wire, from the trustee's parts of the operands and its bit z of the product.
 fn own_part(p: usize, gate: Numbers, z: u8, wires: &[u8]) -> u8
@@ -48,7 +49,7 @@ fn product(p: usize, i: usize, dealt: &[u8], heard: &[u8]) -> u8
     )
 }
 
-// The part of a gate of either sort, i conditional ones having been before it. A free one needs no product.
+// The part of a gate's wire, conditional or free; i conditional gates precede it. A free gate needs no product.
 fn gate_part(
     marks: &[bool; 8],
     p: usize,
@@ -58,8 +59,7 @@ fn gate_part(
     heard: &[u8],
     wires: &[u8],
 ) -> u8
-    requires { ⌜ now marks ≡ conditionalMarks ⌝ }
-    requires { ⌜ PartReady gate i (now dealt) (now heard) (now wires) ⌝ }
+    requires { ⌜ Marked (now marks) (PartReady gate i (now dealt) (now heard) (now wires)) ⌝ }
     ensures { λ r. ⌜
         r ≡ partOfKind p (gate .kind) (part (now (wires .entry)) (gate .a)) (part (now (wires .entry)) (gate .b))
         (part (now (wires .entry)) (gate .c))
@@ -74,7 +74,7 @@ fn gate_part(
     own_part(p, gate, 0, wires)
 }
 
-// Enters the part of a gate in the round that is its level.
+// Enters the part of a gate if this round is its level.
 pub(crate) fn enter_gate(
     marks: &[bool; 8],
     p: usize,
@@ -87,8 +87,7 @@ pub(crate) fn enter_gate(
     heard: &[u8],
     wires: &mut [u8],
 )
-    requires { ⌜ now marks ≡ conditionalMarks ⌝ }
-    requires { ⌜ EnterReady gate own i (now dealt) (now heard) (now wires) ⌝ }
+    requires { ⌜ Marked (now marks) (EnterReady gate own i (now dealt) (now heard) (now wires)) ⌝ }
     ensures { λ _. ⌜
         now (wires .exit)
         ≡ cond (eqb level round)
@@ -105,7 +104,7 @@ pub(crate) fn enter_gate(
     wires[own] = gate_part(marks, p, gate, i, dealt, heard, wires);
 }
 
-// A conditional gate of this level publishes both factors, masked.
+// If the gate is conditional and of the next level, publishes both factors, masked.
 pub(crate) fn publish_gate(
     marks: &[bool; 8],
     next: usize,
@@ -116,8 +115,7 @@ pub(crate) fn publish_gate(
     wires: &[u8],
     published: &mut [u8],
 )
-    requires { ⌜ now marks ≡ conditionalMarks ⌝ }
-    requires { ⌜ PublishReady numbers i (now dealt) (now wires) (now published) ⌝ }
+    requires { ⌜ Marked (now marks) (PublishReady numbers i (now dealt) (now wires) (now published)) ⌝ }
     ensures { λ _. ⌜
         now (published .exit)
         ≡ cond (conditionalOf (numbers .kind)

@@ -1,16 +1,16 @@
-// One round of one trustee. It is no entry point: its `requires` is what the tests establish.
+// One round of one trustee. Nothing here is an entry point: what a `requires` asks, the tests establish.
 use crate::part;
 use gate_levels::level;
 use gates::kind;
 use trustee_gates::evaluate;
 ghost use mathlib.Core.Path.{_≡_};
 ghost use mathlib.Core.List.{List};
-ghost use Prim.Native.Nat.{ℕ, _*_};
+ghost use Prim.Native.Nat.{ℕ};
 ghost use Rattle.gates.specs.Gate.{gatesOf};
-ghost use Rattle.trustee_rounds.specs.Rounds.{enters, publishes, closes};
-ghost use Rattle.trustee_rounds.specs.inner.Passes.{turnBy, EnterPass, PublishPass, RoundReady};
+ghost use Rattle.trustee_rounds.specs.Rounds.{enters, publishes};
+ghost use Rattle.trustee_rounds.specs.inner.Passes.{turnBy, EnterPass, PublishPass, RoundReady, Turned};
 
-// Who computes, in which round, for a list over how many inputs.
+// Which trustee computes, in which round, for a list of how many inputs.
 pub struct Seat {
     pub trustee: usize,
     pub round: usize,
@@ -52,8 +52,8 @@ fn enter(seat: Seat, table: &[u32], levels: &[u32], dealt: &[u8], heard: &[u8], 
     }
 }
 
-// Publishes the masked factors of all conditional gates of the next level, for which all parts are there. Neither the
-// trustee's number nor what it heard is needed.
+// Publishes the masked factors of all conditional gates of the next level; their operands are known by now. Neither
+// the trustee's number nor what it heard is needed.
 fn publish(
     inputs: usize,
     round: usize,
@@ -91,7 +91,7 @@ fn publish(
     }
 }
 
-// The whole round: parts of this level, factors of the next, and after the last level the closing bits.
+// A whole round: parts of this level, factors of the next, and after the last level the closing bits.
 pub fn round(
     seat: Seat,
     rounds: usize,
@@ -108,19 +108,8 @@ pub fn round(
         RoundReady seat conditional k (now table) (now levels) (now dealt) (now heard) (now wires) (now published)
         ⌝ }
     ensures { λ _. ⌜
-        now (wires .exit)
-        ≡ enters (turnBy seat (now (levels .entry)) (now (dealt .entry)) (now (heard .entry)))
-        (gatesOf (now (table .entry))) 0 0 (now (wires .entry))
-        ⌝ }
-    ensures { λ _. ⌜
-        now (published .exit)
-        ≡ closes (seat .round) rounds conditional k
-        (enters (turnBy seat (now (levels .entry)) (now (dealt .entry)) (now (heard .entry)))
-        (gatesOf (now (table .entry))) 0 0 (now (wires .entry)))
-        (publishes (turnBy seat (now (levels .entry)) (now (dealt .entry)) (now (heard .entry)))
-        (enters (turnBy seat (now (levels .entry)) (now (dealt .entry)) (now (heard .entry)))
-        (gatesOf (now (table .entry))) 0 0 (now (wires .entry))) (gatesOf (now (table .entry))) 0 0
-        (now (published .entry)))
+        Turned seat rounds conditional k (now (table .entry)) (now (levels .entry)) (now (dealt .entry))
+        (now (heard .entry)) (now (wires .entry)) (now (published .entry)) (now (wires .exit)) (now (published .exit))
         ⌝ }
 {
     enter(seat, table, levels, dealt, heard, wires);

@@ -38,7 +38,7 @@ opened-zero : (t : ℕ) → opened t (λ p. 0) ≡ 0
 unfolding opened
 opened-zero t = ap (λ (s : ℕ). s % 2) (sum-zero t)
 
--- One gate, its operands' parts being A, B and C, what they spell a, b and c, and Z the parts of the product.
+-- One gate: A, B and C are the parts of its operands a, b and c, and Z the parts of the product.
 module _ (t : ℕ) (some : 1 ≤ t) (A B C Z : ℕ → ℕ) (a b c : ℕ) (ha : a ≤ 1) (hb : b ≤ 1) (hc : c ≤ 1) where
   abbrev Gives : ℕ → Type 0
   Gives kind =
@@ -99,12 +99,12 @@ pub opened-same : (t : ℕ) (f g : ℕ → ℕ) → ((p : ℕ) → p < t → f p
 unfolding opened
 opened-same t f g e = ap (λ (s : ℕ). s % 2) (sum-same t f g e)
 
--- All trustees hold their parts of the first n wires, of which w gives the values.
+-- All trustees hold their parts of the first n wires, whose values are w.
 pub record Split (t : ℕ) (w : ℕ → ℕ) (held : Held) (n : ℕ) : Type 0 where
   pub sizes : (p : ℕ) → p < t → length (held p) ≡ n
   pub sums : (x : ℕ) → x < n → opened t (λ p. part (held p) x) ≡ w x
 
--- a part more for each trustee: those before stay, the last is the new one
+-- one part more for each trustee: the earlier ones stay
 pub part-before : (ws : List ℕ) (v n x : ℕ) → length ws ≡ n → x < n → part (ws ++ (v ∷ [])) x ≡ part ws x
 unfolding part
 part-before ws v n x e h = List·getD-append ws (v ∷ []) 0 x (omega arith)
@@ -133,7 +133,7 @@ pub mark-one : (g : Gate) → conditionalOf (g .kind) ≡ true → markOf g ≡ 
 unfolding markOf
 mark-one g e = rw e
 
--- the second factor of a gate, chosen or not
+-- the second factor of a gate, of a choice or not
 second-opens : (t : ℕ) (B C : ℕ → ℕ) (b c : ℕ) (chosen : Bool) → opened t B ≡ b → (chosen ≡ true → opened t C ≡ c)
     → opened t (λ p. cond chosen ((B p + C p) % 2) (B p)) ≡ cond chosen ((b + c) % 2) b
 second-opens t B C b c true e f = opened-two t B C ∙ rw (e, f refl) refl

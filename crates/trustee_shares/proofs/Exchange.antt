@@ -1,4 +1,5 @@
--- Two runs of one list by trustees whose parts agree but for those of trustee q: what is published agrees too, and q's parts differ by the difference of the wires.
+-- Two runs of one list in which only the parts of trustee q differ: what is published is equal, and q's parts differ
+-- by the difference of the wires.
 -- Assumes nothing.
 use mathlib.Core.Path.{_≡_, _∙_, refl, sym, ap, subst}
 use mathlib.Core.Bool.{Bool, true, false, cond}
@@ -43,7 +44,7 @@ nth-next g gs i = go (conditionalOf (g .kind))
     go true = let e : 1 + i ≡ suc i = omega arith in rw e
     go false = let e : 0 + i ≡ i = omega arith in rw e
 
--- a kind that is not conditional takes nothing from the product
+-- a free gate ignores the product
 pub ignores : (p kind a b c z y : ℕ) → kind < 8 → conditionalOf kind ≡ false → partOfKind p kind a b c z ≡ partOfKind p kind a b c y
 unfolding partOfKind
 ignores p kind a b c z y h =
@@ -68,7 +69,7 @@ product-bit : (p : ℕ) (dealt : List ℕ) (i e f : ℕ) → productPart p dealt
 unfolding productPart
 product-bit p dealt i e f = omega arith
 
--- the differences of a sum of two and of its mask cancel
+-- the differences of a factor and of its mask cancel
 cancels : (s s′ v v′ z : ℕ) → s′ % 2 ≡ (s + z) % 2 → v′ % 2 ≡ (v + z) % 2 → (s′ % 2 + v′) % 2 ≡ (s % 2 + v) % 2
 cancels s s′ v v′ z e f = omega arith
 

@@ -1,4 +1,5 @@
--- Views of all trustees but one hide the inputs: the second dealing is the first with the left-out trustee's parts changed by the differences of the wires.
+-- Views of all trustees but one hide the inputs: the second dealing is the first with the left-out trustee's parts
+-- changed by the differences of the wires.
 -- Assumes nothing.
 use mathlib.Core.Path.{_≡_, _∙_, refl, sym, ap, subst}
 use mathlib.Core.Bool.{Bool, true, false, cond}
@@ -39,7 +40,7 @@ opened-shift t q z f g h e s = shift (sumOf t f) (sumOf t g) (f q) (g q) z (sum-
     shift : (a b x y z : ℕ) → b + x ≡ a + y → y ≡ (x + z) % 2 → b % 2 ≡ (a % 2 + z) % 2
     shift a b x y z e s = omega arith
 
--- equal opened bits and equal others: equal parts, but for multiples of 2
+-- if the opened bits and all other parts are equal, q's parts are equal modulo 2
 opened-left : (t q : ℕ) (f g : ℕ → ℕ) → q < t → ((p : ℕ) → p < t → p ≢ q → g p ≡ f p) → opened t g ≡ opened t f → g q % 2 ≡ f q % 2
 unfolding opened
 opened-left t q f g h e s = left (sumOf t f) (sumOf t g) (f q) (g q) (sum-change t q g f h e) s
@@ -47,7 +48,7 @@ opened-left t q f g h e s = left (sumOf t f) (sumOf t g) (f q) (g q) (sum-change
     left : (a b x y : ℕ) → b + x ≡ a + y → b % 2 ≡ a % 2 → y % 2 ≡ x % 2
     left a b x y e s = omega arith
 
--- bits of parts of lists
+-- bits of parts of a list
 bits-take : (n : ℕ) (xs : List ℕ) → Bits xs → Bits (take n xs)
 bits-take zero xs b i = omega arith
 bits-take (suc n) [] b i = omega arith
@@ -85,7 +86,7 @@ bits-triples (suc n) u v w a b c (suc zero) = b 0
 bits-triples (suc n) u v w a b c (suc (suc zero)) = c 0
 bits-triples (suc n) u v w a b c (suc (suc (suc i))) = bits-triples n (λ j. u (suc j)) (λ j. v (suc j)) (λ j. w (suc j)) (λ j. a (suc j)) (λ j. b (suc j)) (λ j. c (suc j)) i
 
--- the piece of one trustee in place of another
+-- one trustee's piece replaced
 pub swapped : ℕ → List ℕ → Held → Held
 swapped q new f p = cond (eqb p q) new (f p)
 
@@ -105,7 +106,7 @@ swapped-all P q new f p a b = go (eqb p q)
     go true = a
     go false = b
 
--- dealings of equal tables
+-- dealings with equal tables are equal
 dealing-same : (a b : Dealing) → a .ballotParts ≡ b .ballotParts → a .dealerParts ≡ b .dealerParts → a ≡ b
 dealing-same a b e f = λ i. record { ballotParts = e i; dealerParts = f i }
 
@@ -436,7 +437,7 @@ module _ (t q k : ℕ) (gs : List Gate) (xs ys : List ℕ) (d : Dealing) (hq : q
     unfolding viewOf
     sees-parts p h o = sym (others-same t q (wirePartsOf t n gs second) (wirePartsOf t n gs e) (ap (λ (v : View). v .wireParts) seen) p h o)
 
-    -- its parts spell the same wires
+    -- its parts add up to the same wires
     size-bal : (p : ℕ) → p < t → length (ballotsOf n e p) ≡ n
     unfolding ballotsOf n
     size-bal p h = length-piece t (length xs) (e .ballotParts) p (omega (arith, fine .ballot-size, ap (λ (m : ℕ). t * m) same-length)) h
@@ -455,7 +456,7 @@ module _ (t q k : ℕ) (gs : List Gate) (xs ys : List ℕ) (d : Dealing) (hq : q
         parts-split t (omega arith) (dealtOf gs e) ws bw n 0 gs (ballotsOf n e) good-list holds′ (λ (j : ℕ) l h. fine .products j (omega arith))
         (record { sizes = size-bal; sums = opens-e })
 
-    -- so the left-out trustee's parts are equal, but for multiples of 2
+    -- so the left-out trustee's parts are equal modulo 2
     parts-left : (x : ℕ) → x < n + length gs → part (wirePartsOf t n gs e q) x % 2 ≡ part (held′ q) x % 2
     unfolding held′
     parts-left x h =
@@ -549,7 +550,7 @@ module _ (t q k : ℕ) (gs : List Gate) (xs ys : List ℕ) (d : Dealing) (hq : q
         unmasked (secondFactor (wirePartsOf t n gs e q) (nthConditional gs i)) (secondFactor (held′ q) (nthConditional gs i)) (getD (dealtOf gs e q) (3 * i + 1) 0) (getD (dealtOf gs second q) (3 * i + 1) 0)
         (masked-agree i h .1) (second-left (nthConditional gs i) (g .0) (g .1)) (dealer-bit (3 * i + 1) .0) (dealer-bit (3 * i + 1) .1)
 
-    -- the same u and v of all trustees, so the same product
+    -- u and v are the same for all trustees, so the product is
     everywhere : (f : List ℕ → ℕ) → f (dealtOf gs e q) ≡ f (dealtOf gs second q) → (p : ℕ) → p < t → f (dealtOf gs e p) ≡ f (dealtOf gs second p)
     everywhere f s p h = go (eqb p q) refl
       where

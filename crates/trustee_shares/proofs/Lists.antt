@@ -34,7 +34,7 @@ unfolding triples
 length-triples zero u v w = refl
 length-triples (suc n) u v w = omega (arith, length-triples n (λ i. u (suc i)) (λ i. v (suc i)) (λ i. w (suc i)))
 
--- the place of a triple behind the first
+-- the place in a triple after the first
 three-more : (i j : ℕ) → 3 * suc i + j ≡ suc (suc (suc (3 * i + j)))
 three-more i j = omega arith
 

@@ -1,4 +1,4 @@
--- The product of two split bits, by a dealt triple.
+-- The product of two shared bits, by a dealt triple.
 -- Assumes nothing.
 use mathlib.Core.Path.{_≡_, _∙_, refl}
 use mathlib.Core.List.{List}
@@ -12,13 +12,14 @@ pub opened-two : (t : ℕ) (x y : ℕ → ℕ) → opened t (λ p. (x p + y p) %
 unfolding opened
 opened-two t x y = omega (arith, sum-mod t (λ p. x p + y p), sum-add t x y)
 
--- what holds of both bits holds of any
+-- what holds for 0 and 1 holds for every bit
 pub two : (P : ℕ → Type 0) → P 0 → P 1 → (x : ℕ) → x ≤ 1 → P x
 two P none one zero h = none
 two P none one (suc zero) h = one
 two P none one (suc (suc x)) h = absurd (omega arith)
 
--- The arithmetic of it. Two factors x and y, masked by u and v, are opened; what each trustee then adds up spells their product. Each bit is the sum of all parts modulo 2, sx being the parts of x, and so on.
+-- The arithmetic: factors x and y are opened under the masks u and v, and what the trustees then hold adds up to x ·
+-- y. Each bit is the sum of its parts modulo 2; sx is the sum of the parts of x, and so on.
 abbrev Stated : ℕ → ℕ → ℕ → ℕ → Type 0
 Stated x y u v =
     (sx sy su sv sp : ℕ) → sx % 2 ≡ x → sy % 2 ≡ y → su % 2 ≡ u → sv % 2 ≡ v → sp % 2 ≡ u * v
@@ -55,11 +56,11 @@ sum-products t dealt i e f ht he hf =
     let g = sum-entered t (e * f) ht in
     omega arith
 
--- a triple of the dealer: its product is that of its two other bits
+-- a triple: the third bit is the product of the other two
 abbrev pub Triple : ℕ → (ℕ → List ℕ) → ℕ → Type 0
 Triple t dealt i = opened t (λ p. productOf (dealt p) i) ≡ opened t (λ p. uOf (dealt p) i) * opened t (λ p. vOf (dealt p) i)
 
--- two factors x and y, opened under their masks, give the product of what they spell
+-- two factors, opened under their masks, give parts of their product
 pub product-opens : (t : ℕ) (dealt : ℕ → List ℕ) (i : ℕ) (x y : ℕ → ℕ) → 1 ≤ t → Triple t dealt i
     → opened t (λ p. productPart p (dealt p) i (opened t (λ q. (x q + uOf (dealt q) i) % 2)) (opened t (λ q. (y q + vOf (dealt q) i) % 2)))
     ≡ opened t x * opened t y

@@ -1,4 +1,4 @@
--- What is published, by conditional gates.
+-- What is published, conditional gate by conditional gate.
 -- Assumes nothing.
 use mathlib.Core.Path.{_≡_, _∙_, refl, sym, ap, subst}
 use mathlib.Core.Bool.{Bool, true, false, cond}
@@ -18,7 +18,7 @@ use Rattle.trustee_shares.specs.Views.{maskedFactors}
 use Rattle.trustee_shares.proofs.Accuracy.{count-mark, mark-one}
 use Rattle.trustee_shares.proofs.Exchange.{nthConditional, nth-first, nth-next}
 
--- a gate that is good for its own wire is so for a later one
+-- a gate that is good for its own wire is good for a later one
 later : (n m : ℕ) (g : Gate) → n ≤ m → GoodGate n g → GoodGate m g
 later n m g h good =
     record {
@@ -35,7 +35,7 @@ pub mark-none : (g : Gate) → conditionalOf (g .kind) ≡ false → markOf g �
 unfolding markOf
 mark-none g e = rw e
 
--- the gates behind a conditional one, and behind another
+-- the gates after a conditional one, and after a free one
 nth-behind : (g : Gate) (gs : List Gate) (j : ℕ) → conditionalOf (g .kind) ≡ true → nthConditional (g ∷ gs) (suc j) ≡ nthConditional gs j
 nth-behind g gs j e =
     let m : markOf g + j ≡ suc j = omega (arith, mark-one g e) in

@@ -9,13 +9,13 @@ use lib.Dec.{eqb}
 use borrow.Author.Tests.{eqb-true, eqb-false}
 use Rattle.trustee_shares.specs.Shares.{sumOf, entered}
 
--- summands that are equal below t
+-- sums of terms that are equal below t
 pub sum-same : (t : ℕ) (f g : ℕ → ℕ) → ((p : ℕ) → p < t → f p ≡ g p) → sumOf t f ≡ sumOf t g
 unfolding sumOf
 sum-same zero f g e = refl
 sum-same (suc t) f g e = omega (arith, sum-same t f g (λ (p : ℕ) h. e p (omega arith)), e t (omega arith))
 
--- summands modulo 2
+-- terms may be taken modulo 2
 pub sum-mod : (t : ℕ) (f : ℕ → ℕ) → sumOf t (λ p. f p % 2) % 2 ≡ sumOf t f % 2
 unfolding sumOf
 sum-mod zero f = refl
@@ -38,14 +38,14 @@ sum-times t zero f h = omega (arith, sum-same t (λ p. 0 * f p) (λ p. 0) (λ (p
 sum-times t (suc zero) f h = omega (arith, sum-same t (λ p. 1 * f p) f (λ (p : ℕ) l. omega arith))
 sum-times t (suc (suc e)) f h = absurd (omega arith)
 
--- what the first trustee enters is entered once
+-- what only the first trustee enters counts once
 pub sum-entered : (t x : ℕ) → 1 ≤ t → sumOf t (λ p. entered p x) ≡ x
 unfolding sumOf entered
 sum-entered zero x h = absurd (omega arith)
 sum-entered (suc zero) x h = omega arith
 sum-entered (suc (suc t)) x h = omega (arith, sum-entered (suc t) x (omega arith))
 
--- one summand of another value
+-- one term changed
 pub sum-change : (t q : ℕ) (f g : ℕ → ℕ) → q < t → ((p : ℕ) → p < t → p ≢ q → f p ≡ g p) → sumOf t f + g q ≡ sumOf t g + f q
 unfolding sumOf
 sum-change zero q f g h e = absurd (omega arith)

@@ -55,7 +55,7 @@ unfolding piece
 length-piece t size table p e h =
     length-take-le size (drop (p * size) table) (omega (arith, length-drop (p * size) table, row-within p t size h))
 
--- equal pieces, equal tables, and the other way
+-- tables are equal exactly if their pieces are
 pub joined-cong : (t : ℕ) (f g : Held) → ((p : ℕ) → p < t → f p ≡ g p) → joined t f ≡ joined t g
 unfolding joined
 joined-cong zero f g e = refl
@@ -76,7 +76,7 @@ others-cong (suc t) q f g e = rw (others-cong t q f g (λ (p : ℕ) h n. e p (om
     go true is = refl
     go false is = rw (e t (omega arith) (eqb-false t q is))
 
--- two lists of one length with something behind
+-- two lists of one length at the front of equal lists
 split-left : {A : Type 0} (us ws : List A) (x y : List A) → length us ≡ length ws → us ++ x ≡ ws ++ y → us ≡ ws
 split-left us ws x y l e = sym (take-at us x (length us) refl) ∙ ap (take (length us)) e ∙ take-at ws y (length us) (sym l)
 

@@ -1,5 +1,5 @@
--- Demand 3 for trustees on two concrete dealings: different inputs, equal outputs, one view. Two trustees evaluate one
--- gate, which says whether wire 0 and wire 1 are both 1, and trustee 1 is left out.
+-- Demand 3 for trustees on two concrete dealings: different inputs, equal outputs, one view. Two trustees evaluate
+-- one gate that tells whether wires 0 and 1 are both 1; trustee 1 is left out.
 use mathlib.Core.Path.{_≡_}
 use mathlib.Core.List.{List, [], _∷_}
 use Rattle.gates.specs.Gate.{Gate}

@@ -1,5 +1,4 @@
--- Wires split among trustees: request 2.7, gate by gate. Trustees are counted from 0, so trustee 1 of the request is
--- number 0 here.
+-- Wires split among trustees, gate by gate (request 2.7). Trustees are counted from 0 here, from 1 in the request.
 use mathlib.Core.Bool.{cond}
 use mathlib.Core.List.{List, [], _∷_, _++_}
 use Prim.Native.Nat.{ℕ, zero, suc, _+_, _*_, _%_}
@@ -8,7 +7,7 @@ use lib.ListN.{getD}
 use Rattle.gates.specs.Kind.{conditionalOf}
 use Rattle.gates.specs.Gate.{Gate}
 
--- The sum of what each of t trustees has; modulo 2 it opens a bit.
+-- The sum over t trustees; modulo 2 it opens a bit.
 unfoldable pub sumOf : ℕ → (ℕ → ℕ) → ℕ
 sumOf zero f = 0
 sumOf (suc t) f = sumOf t f + f t
@@ -20,8 +19,8 @@ opened t f = sumOf t f % 2
 unfoldable pub part : List ℕ → ℕ → ℕ
 part parts x = getD parts x 0
 
--- A trustee's bits of what is dealt for the i-th conditional gate: of u, of v and of their product. A dealt (u, v,
--- u·v) is a Beaver triple. A trustee's dealer parts stand in this order, gate after gate.
+-- A trustee's bits of the i-th triple: of u, of v and of their product. (u, v, u·v) is a Beaver triple. A trustee's
+-- dealer parts are in this order, gate after gate.
 unfoldable pub uOf : List ℕ → ℕ → ℕ
 uOf dealt i = getD dealt (3 * i) 0
 
@@ -31,7 +30,7 @@ vOf dealt i = getD dealt (3 * i + 1) 0
 unfoldable pub productOf : List ℕ → ℕ → ℕ
 productOf dealt i = getD dealt (3 * i + 2) 0
 
--- The factors of a conditional gate: a; and b, or for a choice b plus c, modulo 2. A trustee computes its bit of them
+-- The factors of a conditional gate: a; and b, or for a choice b plus c modulo 2. A trustee computes its bits of them
 -- from its own parts of the wires.
 unfoldable pub firstFactor : List ℕ → Gate → ℕ
 firstFactor ws g = part ws (g .a)
@@ -46,22 +45,22 @@ maskedFirst ws dealt i g = (firstFactor ws g + uOf dealt i) % 2
 unfoldable pub maskedSecond : List ℕ → List ℕ → ℕ → Gate → ℕ
 maskedSecond ws dealt i g = (secondFactor ws g + vOf dealt i) % 2
 
--- What only the first trustee enters: a public bit x.
+-- A public bit x is entered by the first trustee only; the others enter 0.
 unfoldable pub entered : ℕ → ℕ → ℕ
 entered zero x = x
 entered (suc p) x = 0
 
--- Trustee p's bit of the product of both factors, e and f being the opened sums.
+-- Trustee p's bit of the product of both factors; e and f are the opened sums.
 unfoldable pub productPart : ℕ → List ℕ → ℕ → ℕ → ℕ → ℕ
 productPart p dealt i e f = (productOf dealt i + e * vOf dealt i + f * uOf dealt i + entered p (e * f)) % 2
 
--- Trustee p's bit of a gate's wire, by the gate's kind, from its parts a, b, c of the operands and its bit z of the
+-- Trustee p's bit of a gate's wire, by the gate's kind: from its parts a, b, c of the operands and its bit z of the
 -- product.
 unfoldable pub partOfKind : ℕ → ℕ → ℕ → ℕ → ℕ → ℕ → ℕ
 partOfKind p kind a b c z =
     getD (0 ∷ entered p 1 ∷ a ∷ (a + entered p 1) % 2 ∷ z ∷ (a + b + z) % 2 ∷ (a + b) % 2 ∷ (c + z) % 2 ∷ []) kind 0
 
--- All trustees' parts of the wires, trustee p's being held p; all trustees' dealer parts likewise.
+-- What all trustees hold, by trustee: their parts of the wires, or their dealer parts.
 abbrev pub Held : Type 0
 Held = ℕ → List ℕ
 
@@ -71,17 +70,17 @@ openedFirst t dealt held i g = opened t (λ p. maskedFirst (held p) (dealt p) i 
 unfoldable pub openedSecond : ℕ → Held → Held → ℕ → Gate → ℕ
 openedSecond t dealt held i g = opened t (λ p. maskedSecond (held p) (dealt p) i g)
 
--- Trustee p's part of the wire of gate g, before which i conditional gates stand.
+-- Trustee p's part of the wire of gate g, which i conditional gates precede.
 unfoldable pub newPart : ℕ → Held → Held → ℕ → Gate → ℕ → ℕ
 newPart t dealt held i g p =
     partOfKind p (g .kind) (part (held p) (g .a)) (part (held p) (g .b)) (part (held p) (g .c))
     (productPart p (dealt p) i (openedFirst t dealt held i g) (openedSecond t dealt held i g))
 
--- How many conditional gates one gate is.
+-- 1 for a conditional gate, else 0.
 unfoldable pub markOf : Gate → ℕ
 markOf g = cond (conditionalOf (g .kind)) 1 0
 
--- Each gate adds one part to those that each trustee holds, i conditional gates having been before.
+-- Each gate adds one part to what each trustee holds; i conditional gates came before.
 unfoldable pub partsOf : ℕ → Held → Held → ℕ → List Gate → Held
 partsOf t dealt held i [] = held
 partsOf t dealt held i (g ∷ gs) = partsOf t dealt (λ p. held p ++ (newPart t dealt held i g p ∷ [])) (i + markOf g) gs

@@ -14,7 +14,7 @@ use Rattle.gates.specs.Hiding.{ExactlyOne}
 use Rattle.gates.specs.declared.place.Place.the-variants.{Nowhere}
 use Rattle.trustee_shares.specs.Shares.{opened, part, uOf, vOf, productOf, maskedFirst, maskedSecond, Held, partsOf}
 
--- Tables go trustee after trustee: trustee p's piece of one with so many bits for each, and the table of t pieces.
+-- Tables go trustee after trustee: trustee p's piece, of this size, and the table made of t pieces.
 unfoldable pub piece : ℕ → List ℕ → ℕ → List ℕ
 piece size table p = take size (drop (p * size) table)
 
@@ -22,7 +22,7 @@ unfoldable pub joined : ℕ → Held → List ℕ
 joined zero pieces = []
 joined (suc t) pieces = joined t pieces ++ pieces t
 
--- A dealing: the ballot parts, and the dealer parts of all conditional gates.
+-- A dealing: the ballot parts, and the dealer parts (triples) for all conditional gates.
 pub record Dealing : Type 0 where
   pub ballotParts : List ℕ
   pub dealerParts : List ℕ
@@ -33,8 +33,8 @@ ballotsOf inputs d = piece inputs (d .ballotParts)
 unfoldable pub dealtOf : List Gate → Dealing → Held
 dealtOf gs d = piece (3 * conditionalCount gs) (d .dealerParts)
 
--- A dealing of these input bits for a list and t trustees: the tables have their lengths, all parts are bits, the
--- ballot parts add up to the inputs, and of each triple the parts of the product to the product.
+-- A good dealing of these inputs for a list and t trustees: the tables have their lengths, all parts are bits, ballot
+-- parts add up to the inputs, and the parts of each triple's product to the product of its u and v.
 pub record GoodDealing (t : ℕ) (gs : List Gate) (inputs : List ℕ) (d : Dealing) : Type 0 where
   pub ballot-size : length (d .ballotParts) ≡ t * length inputs
   pub dealer-size : length (d .dealerParts) ≡ t * (3 * conditionalCount gs)
@@ -46,9 +46,8 @@ pub record GoodDealing (t : ℕ) (gs : List Gate) (inputs : List ℕ) (d : Deali
       → opened t (λ p. productOf (dealtOf gs d p) i)
       ≡ opened t (λ p. uOf (dealtOf gs d p) i) * opened t (λ p. vOf (dealtOf gs d p) i)
 
--- All wire parts of a run, and what each trustee publishes: both masked factors of each conditional gate, i of them
--- having been before, and at the end its parts of the last k wires. A part keeps its value, so it may be read off all
--- wire parts.
+-- All wire parts of a run, and what each trustee publishes: both masked factors of each conditional gate, of which i
+-- came before; then its parts of the last k wires. A part never changes, so it may be read from all wire parts.
 unfoldable pub wirePartsOf : ℕ → ℕ → List Gate → Dealing → Held
 wirePartsOf t inputs gs d = partsOf t (dealtOf gs d) (ballotsOf inputs d) 0 gs
 
@@ -65,13 +64,13 @@ unfoldable pub publishedOf : ℕ → ℕ → List Gate → ℕ → Dealing → H
 publishedOf t inputs gs k d p = maskedFactors (wirePartsOf t inputs gs d p) (dealtOf gs d p) 0 gs
     ++ closingParts k (wirePartsOf t inputs gs d p)
 
--- The pieces of all trustees but q.
+-- The pieces of all trustees except q.
 unfoldable pub othersOf : ℕ → ℕ → Held → List (List ℕ)
 othersOf zero q pieces = []
 othersOf (suc t) q pieces = othersOf t q pieces ++ cond (eqb t q) [] (pieces t ∷ [])
 
--- All that the trustees but q hold and see: their ballot parts, dealer parts and wire parts, and every published bit,
--- q's too. Plain ballots are not in it.
+-- All that the trustees except q hold and see: their ballot parts, dealer parts and wire parts, and every published
+-- bit, q's included. It has no plain ballots.
 pub record View : Type 0 where
   pub ballotParts : List (List ℕ)
   pub dealerParts : List (List ℕ)
@@ -87,8 +86,8 @@ viewOf t q inputs gs k d =
       published = joined t (publishedOf t inputs gs k d);
     }
 
--- Whoever is left out, the others cannot tell two elections of one list with equal last k wires apart: however the
--- first was dealt, the second can be dealt in one way and no other with the same view.
+-- Whoever is left out, the others cannot tell apart two elections of one list with equal last k wires: for each
+-- dealing of the first, exactly one dealing of the second gives the same view.
 abbrev pub ViewsHideInputs : Type 0
 ViewsHideInputs =
     (t q k : ℕ) (gs : List Gate) (xs ys : List ℕ) (d : Dealing)

@@ -1,1 +1,2 @@
-// Runs of a gate list by trustees of whom each holds one part of every wire.
+// A gate list run by trustees, each of whom holds one part (an XOR share) of every wire. Only definitions and
+// theorems.

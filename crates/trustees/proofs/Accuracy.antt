@@ -50,7 +50,7 @@ wires-split t gs xs d least good bits g =
     })
 
 module _ (c : Call) where
-  -- a call that answers G and C is one to which no reason applies, and both numbers are those of the list
+  -- no reason applies to a call that answers G and C, and both numbers are the list's
   answered : (size : Size) (o : Option Reason) → firstOf (trusteesReasons c) ≡ o
       → trusteesResultAfter o c .answer ≡ accepted size
       → (firstOf (trusteesReasons c) ≡ none) × (size ≡ sizeOf (gatesOf (c .table)))

@@ -1,4 +1,4 @@
--- The demands hold of the trustees' call.
+-- The demands hold for the trustees' call.
 -- Assumes nothing.
 use mathlib.Core.Path.{_≡_, _∙_, refl, sym, ap}
 use mathlib.Core.Option.{Option, none, some}

@@ -1,4 +1,4 @@
--- Views of accepted calls tell no more than the closing bytes.
+-- Views of accepted calls reveal no more than the closing bytes.
 -- Assumes nothing.
 use mathlib.Core.Path.{_≡_, _∙_, refl, sym, ap, subst}
 use mathlib.Core.Option.{none}
@@ -21,7 +21,7 @@ use Rattle.trustees.proofs.Reasons.{CallPassed, call-passed, call-passe
 use Rattle.trustees.proofs.Sums.{Ready, call-ready}
 use Rattle.trustees.proofs.Accuracy.{call-accepted, outputs-long, closing-is}
 
--- at most eight bytes are told by the eight that are filled up
+-- k bytes can be read from the eight to which they are padded
 eight-same : (k : ℕ) (xs ys : List ℕ) → k ≤ 8 → length xs ≡ k → length ys ≡ k → eightBytes xs ≡ eightBytes ys → xs ≡ ys
 eight-same k xs ys h lx ly e =
     ext-getD 0 xs ys (lx ∙ sym ly)
@@ -30,7 +30,7 @@ eight-same k xs ys h lx ly e =
 ready-list : (c : Call) → CallPassed c → Ready c (sizeOf (gatesOf (c .table)))
 ready-list c p = call-ready c (sizeOf (gatesOf (c .table))) refl p
 
--- a good dealing is accepted where another one is, and an accepted one is good
+-- if a call accepts one dealing, it accepts exactly the good ones
 accepts : (c : Call) → CallPassed c → (e : Dealing) → GoodDealing (c .trustees) (gatesOf (c .table)) (c .ballots) e
     → Accepted (dealtAs c e)
 unfolding trusteesResultAfter

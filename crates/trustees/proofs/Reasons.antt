@@ -1,4 +1,4 @@
--- The reasons of the trustees' call: what their order answers, and what is known where none applies.
+-- The reasons of the trustees' call: what their order answers, and what is known if none applies.
 -- Assumes nothing.
 use mathlib.Core.Path.{_≡_, _∙_, refl, sym, ap}
 use mathlib.Core.Bool.{Bool, true, false, _&&_}
@@ -94,7 +94,7 @@ module _ (k : ℕ) (size : Size) (ballots : List ℕ) (t : ℕ) (lent : PartTabl
   unfolding partReasons partFound
   part-by a b c e f g = rw (e, f, g)
 
-  -- where none of them applies
+  -- what is known if none of them applies
   pub record PartsPassed : Type 0 where
     pub least : 2 ≤ t
     pub most : t ≤ 5
@@ -184,7 +184,7 @@ module _ (c : Call) where
         parts-passed-back (c .shape .candidates) (sizeOf (gatesOf (c .table))) (c .ballots) (c .trustees) (c .lent) (r .parts),
       )
 
-  -- the whole of a call by its first reason
+  -- what a call leaves, by its first reason
   pub result-by : (o : Option Reason) → firstOf (trusteesReasons c) ≡ o
       → trusteesResult c ≡ trusteesResultAfter o c
   unfolding trusteesResult
@@ -212,7 +212,7 @@ module _ (c : Call) where
         dealt = good-dealt (c .trustees) (gatesOf (c .table)) (c .ballots) e g;
       }
 
--- a result is told by what it consists of
+-- two results are equal if their parts are
 pub same-result : (x y : TrusteesResult) → x .answer ≡ y .answer → x .closing ≡ y .closing → x .wireParts ≡ y .wireParts
     → x .published ≡ y .published → x ≡ y
 same-result x y a b c d = rw (a, b, c, d) refl

@@ -81,7 +81,7 @@ module _ (c : Call) where
   pub call-ready : (size : Size) → size ≡ sizeOf (gatesOf (c .table)) → CallPassed c → Ready c size
   call-ready size e p = rw e (ready-own p)
 
-  -- the closing bits stand behind the factors in each trustee's piece
+  -- the closing bits come after the factors in each trustee's piece
   module _ (size : Size) (r : Ready c size) where
     parts : Held
     parts = wirePartsIn c

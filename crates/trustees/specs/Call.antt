@@ -7,7 +7,7 @@ use Rattle.jury.specs.declared.shape.Shape.{Shape}
 use Rattle.trustee_shares.specs.Shares.{Held}
 use Rattle.trustee_shares.specs.Views.{Dealing, wirePartsOf, publishedOf, View, viewOf}
 
--- The four tables that go trustee after trustee: a dealing, which is only read, and two that are written.
+-- The four tables that go trustee after trustee: a dealing, which is only read, and two to write to.
 pub record PartTables : Type 0 where
   pub dealing : Dealing
   pub wireParts : List ℕ
@@ -39,6 +39,6 @@ abbrev pub publishedIn : Call → Held
 publishedIn c = publishedOf (c .trustees) (length (c .ballots)) (gatesOf (c .table)) (c .shape .candidates)
     (c .lent .dealing)
 
--- What the trustees but q hold and see.
+-- What the trustees except q hold and see.
 abbrev pub viewIn : ℕ → Call → View
 viewIn q c = viewOf (c .trustees) q (length (c .ballots)) (gatesOf (c .table)) (c .shape .candidates) (c .lent .dealing)

@@ -1,5 +1,5 @@
--- The three demands for the trustees' call, over the definition that its contract equates with the program's answer and
--- with all that is lent.
+-- The three demands for the trustees' call, about the definition that its contract equates with its answer and all
+-- that is lent.
 use mathlib.Core.Path.{_≡_}
 use mathlib.Core.List.{List, [], _∷_}
 use Prim.Native.Nat.{ℕ, _+_, _<_}
@@ -22,11 +22,11 @@ use Rattle.trustee_shares.specs.Views.{Dealing, View}
 use Rattle.trustees.specs.Call.{Call, dealtAs, wirePartsIn, viewIn}
 use Rattle.trustees.specs.Result.{trusteesResult}
 
--- A call that is accepted answers the G and C of its list.
+-- An accepted call answers the G and C of its list.
 abbrev pub Accepted : Call → Type 0
 Accepted c = trusteesResult c .answer ≡ accepted (sizeOf (gatesOf (c .table)))
 
--- Demand 1. The call may write to two tables and empties the wire parts; a refusal answers zeros for the sums.
+-- Demand 1. The call may write to two tables, and empties the wire parts. A refusal answers zeros for the sums.
 pub record Memory (c : Call) : Type 0 where
   pub keeps : let parts : Lent = record { before = c .lent .wireParts; after = trusteesResult c .wireParts } in
       let bits : Lent = record { before = c .lent .published; after = trusteesResult c .published } in
@@ -34,16 +34,16 @@ pub record Memory (c : Call) : Type 0 where
       (parts ∷ [])
   pub zeros : (r : Reason) → trusteesResult c .answer ≡ refused r → trusteesResult c .closing ≡ replicate 8 0
 
--- A way in which trustees tally an election: by trustee the parts of all wires, all that is published, the closing
--- bytes that come of it, and what the trustees but q hold and see. Demands 2 and 3 are said of any such way.
+-- A way in which trustees tally: each trustee's parts of all wires, everything that is published, the closing bytes,
+-- and what the trustees except q hold and see. Demands 2 and 3 are stated for any such way.
 pub record Way : Type 0 where
   pub parts : Call → Held
   pub published : Call → List ℕ
   pub closing : Call → List ℕ
   pub view : (q : ℕ) → Call → View
 
--- The one call on the joined tables. It leaves zeros for wire parts; that it filled the table with these parts before
--- is what the contract of `trustee_gates::evaluate::evaluate` says.
+-- The single call on the joined tables. It leaves zeros for wire parts; the contract of
+-- `trustee_gates::evaluate::evaluate` says that they were these parts before.
 abbrev pub inOneCall : Way
 inOneCall =
     record {
@@ -53,8 +53,8 @@ inOneCall =
       view = viewIn;
     }
 
--- Demand 2 of an accepted call: the parts of every wire add up to the plain wire, and the closing bytes are those of
--- every accepted plain run, whatever its tape, as eight bytes.
+-- Demand 2 for an accepted call: the parts of every wire add up to the plain wire, and the closing bytes are those of
+-- every accepted plain run, whatever its tape.
 pub record Accuracy (way : Way) (c : Call) (size : Size) : Type 0 where
   pub own-size : size ≡ sizeOf (gatesOf (c .table))
   pub every-wire : (x : ℕ) → x < length (c .ballots) + length (gatesOf (c .table))
@@ -66,21 +66,21 @@ pub record Accuracy (way : Way) (c : Call) (size : Size) : Type 0 where
       → way .closing c
       ≡ eightBytes (closingBytes (c .shape) (runResult (c .shape) (c .table) (c .ballots) tape wires board .board))
 
--- Under the list that the core writes for a shape, they are the plain count's bytes, and say who wins.
+-- With the own list of a shape, they are the plain count's bytes, and say who wins.
 pub record OwnList (way : Way) (c : Call) : Type 0 where
   pub plain-count : way .closing c ≡ plainClosing (c .shape) (c .ballots)
   pub says-who-wins : SaysWhoWins (c .shape) (c .ballots) (way .closing c)
 
--- Demand 3 for trustees, of two calls that agree in shape, list and number of trustees: whichever trustee q is left
--- out, for each accepted dealing d of the first, one accepted dealing e of the second, and no other, lets the trustees
--- but q hold and see the same. The published bits of a view are the table that is published.
+-- Demand 3 for two calls with one shape, list and number of trustees. Whichever trustee q is left out: for each
+-- accepted dealing d of the first, exactly one accepted dealing e of the second gives the other trustees the same
+-- view. Its published bits are the table that is published.
 pub record Hidden (way : Way) (c c′ : Call) : Type 0 where
   pub same-view : (q : ℕ) → q < c .trustees → (d : Dealing) → Accepted (dealtAs c d)
       → ExactlyOne (λ (e : Dealing). Accepted (dealtAs c′ e) × (way .view q (dealtAs c d) ≡ way .view q (dealtAs c′ e)))
   pub sees-the-table : (q : ℕ) (d : Dealing) → Accepted (dealtAs c d)
       → way .view q (dealtAs c d) .published ≡ way .published (dealtAs c d)
 
--- It holds of all accepted calls of one shape, list and number of trustees that come to the same closing bytes.
+-- It holds for all accepted calls with one shape, list and number of trustees that have the same closing bytes.
 abbrev pub ViewsTellNoMore : Way → Type 0
 ViewsTellNoMore way =
     (c c′ : Call) (first second : Size)

@@ -1,4 +1,4 @@
--- The reasons to turn a call of the trustees away, in checking order (request 2.7).
+-- The reasons to refuse the trustees' call, in checking order (request 2.7).
 use mathlib.Core.Bool.{Bool, _&&_}
 use mathlib.Core.Option.{Option}
 use mathlib.Core.List.{List, [], _∷_, _++_}
@@ -14,7 +14,7 @@ use Rattle.trustee_gates.specs.Dealing.{dealtWell}
 use Rattle.trustees.specs.Call.{PartTables, Call}
 
 -- The lengths of the four tables for t trustees. Each trustee has a part of each input; u, v and product of each
--- conditional gate; a part of each wire; both masked factors of each conditional gate and k closing bits.
+-- conditional gate; a part of each wire; both masked factors of each conditional gate, and k closing bits.
 unfoldable pub tablesFit : (inputs k : ℕ) → Size → (t : ℕ) → PartTables → Bool
 tablesFit inputs k size t lent =
     eqb (length (lent .dealing .ballotParts)) (t * inputs)
@@ -30,7 +30,7 @@ partReasons k size ballots t lent =
     ∷ unless (dealtWell t (size .conditional) ballots (lent .dealing)) 18
     ∷ []
 
--- All of them: those of the list, of the ballots, and of the parts by the size of the list that is lent.
+-- All of them: those of the list, of the ballots, and of the parts, given the size of the list.
 unfoldable pub trusteesReasons : Call → List (Option Reason)
 trusteesReasons c =
     testReasons (c .shape) (c .table)

@@ -13,7 +13,7 @@ use Rattle.trustee_shares.specs.Views.{joined, closingParts}
 use Rattle.trustees.specs.Call.{Call, wirePartsIn, publishedIn}
 use Rattle.trustees.specs.Reasons.{trusteesReasons}
 
--- The sums of the published closing bits, as eight bytes, where trustee p's parts of all wires are parts p.
+-- The sums of the published closing bits, as eight bytes; `parts p` are trustee p's parts of all wires.
 unfoldable pub closingSums : ℕ → ℕ → Held → List ℕ
 closingSums t k parts = eightBytes (tabulate k (λ j. opened t (λ p. part (closingParts k (parts p)) j)))
 
@@ -24,8 +24,8 @@ pub record TrusteesResult : Type 0 where
   pub wireParts : List ℕ
   pub published : List ℕ
 
--- A refusal alters nothing that is lent, and its sums are zeros. An accepted call leaves zeros for wire parts, and all
--- that the trustees publish.
+-- A refusal changes nothing, and its sums are zeros. An accepted call leaves zeros for wire parts, and all that the
+-- trustees publish.
 unfoldable pub trusteesResultAfter : Option Reason → Call → TrusteesResult
 trusteesResultAfter (some r) c =
     record {

@@ -1,4 +1,4 @@
-// Reasons 1 to 6, 11 and 12 of rankings, and 16 to 18.
+// Reasons 1 to 6, with 11 and 12 in place of 6 for rankings, then 16 to 18.
 use jury::reason::Refusal;
 use jury::reason::Verdict;
 use jury::shape::Shape;
@@ -18,7 +18,7 @@ pub const LEAST_TRUSTEES: usize = 2;
 
 pub const MOST_TRUSTEES: usize = 5;
 
-// Whether there may be so many trustees.
+// Whether there may be this many trustees.
 fn are_trustees(t: usize) -> bool
     ensures { λ r. ⌜ r ≡ (leb 2 t && leb t 5) ⌝ }
 {

@@ -28,7 +28,7 @@ use Rattle.urn_chains.proofs.SoundLayouts.{its-parts, its-length, held, held-fr
 use Rattle.urn.proofs.AdmittedSlots.{admit-slots}
 use Rattle.urn.proofs.FactLaws.{its-table}
 
--- both bytes of slot 0 stored anew
+-- both indexes of slot 0 written again
 pub head-set : (b n : ℕ) (u : List ℕ) (v w : ℕ) → length u ≡ n * slotBytes b → 0 < n →
     slotsOf b n (set (set u 0 v) 1 w) ≡ set (slotsOf b n u) 0 (record { next = v; juror = w; ballot = slotAt (slotsOf b n u) 0 .ballot })
 head-set b n u v w e h =
@@ -82,7 +82,7 @@ module _ (k d : ℕ) (urn : List ℕ) (w : T (gradedLimits (juryOfOne k d))) (e 
   unfolding slotBytes
   free-inside = omega (arith, slot-within (getD urn 1 0) (slotCount (k * d) (length urn)) (k * d) free-below, its-table k d urn w e .size)
 
-  -- the slots after the stores, written from the chains
+  -- the slots after the stores are the layout of the new chains
   laid : (j : ℕ) (x : List ℕ) →
       set (set (urnSlots k d urn) (getD urn 1 0) (record { next = firstEntry (ballotChain (urnSlots k d urn)); juror = j; ballot = x })) 0 (record { next = getD urn 1 0; juror = slotAt (urnSlots k d urn) (getD urn 1 0) .next; ballot = slotAt (urnSlots k d urn) 0 .ballot })
       ≡ withBallot (k * d) (urnSlots k d urn) j x

@@ -18,7 +18,7 @@ use Rattle.urn_chains.proofs.Linked.{no-zero, slotsIn, Linked, FreeLinked, more
 use Rattle.urn_chains.proofs.Layouts.{Fit, layout-unique}
 use Rattle.urn_chains.proofs.SlotTests.{clash}
 
--- a free slot becomes one of a ballot
+-- a free slot becomes a ballot's
 pub fit-admit : (n : ℕ) (e : Entry) (es : List Entry) (is : List ℕ) → Fit n es (e .slot ∷ is) → Fit n (e ∷ es) is
 fit-admit n e es is f =
     let i = e .slot in
@@ -55,7 +55,7 @@ module _ (n b : ℕ) (S : List Slot) (es : List Entry) (i : ℕ) (is : List ℕ)
   rest-free : (js : List ℕ) → FreeLinked b S (i ∷ js) → (slotAt S i ≡ freeSlot b (firstFree js)) × FreeLinked b S js
   rest-free js (more q r) = (q, r)
 
-  -- the slots after the ballot of juror j was put in free slot i, which is then the first of the ballot chain
+  -- the slots after the ballot of juror j was put into free slot i, which is now the first of the ballot chain
   pub admit-slots : (T : List Slot) → T ≡ set (set S i (record { next = firstEntry es; juror = j; ballot = x })) 0 (record { next = i; juror = slotAt S i .next; ballot = slotAt S 0 .ballot }) →
       T ≡ layout n b (record { slot = i; juror = j; ballot = x } ∷ es) is
   unfolding headSlot entrySlot firstEntry freeSlot

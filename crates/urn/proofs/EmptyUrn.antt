@@ -71,7 +71,7 @@ all-fit n h =
       covered = member-all (λ i. member i (tabulate (n - 1) suc)) (tabulate (n - 1) suc) (λ i m. m);
     }
 
--- zeros are free slots that no other follows
+-- zeros are a free slot that no other follows
 zero-slot : (b : ℕ) → slotOf (replicate (slotBytes b) 0) ≡ freeSlot b 0
 unfolding slotOf freeSlot
 zero-slot b = ap (λ (m : ℕ). slotOf (replicate m 0)) {x = slotBytes b} {y = suc (suc b)} (omega (arith, size-is b))
@@ -90,7 +90,7 @@ zero-slots b (suc n) =
     ∙ ap (λ (s : Slot). s ∷ slotsOf b n back) (zero-slot b)
     ∙ ap (λ (ss : List Slot). freeSlot b 0 ∷ ss) (zero-slots b n)
 
--- freeing these slots leaves all others
+-- freeing these slots leaves the others unchanged
 free-other : (b : ℕ) (is : List ℕ) (S : List Slot) (i : ℕ) → member i is ≡ false → slotAt (withFree b is S) i ≡ slotAt S i
 unfolding withFree
 free-other b [] S i h = refl
@@ -148,7 +148,7 @@ freed-go b n urn i slot first e p f =
       head = ap firstFree up;
     }
 
--- with the first of them in slot 0 it is an empty urn
+-- with that one named in slot 0, it is an empty urn
 pub freed-done : (b n : ℕ) (urn : List ℕ) (first : ℕ) → 2 ≤ n → Freed b n urn 1 first → set urn 1 first ≡ bytesOf (allFree n b)
 unfolding allFree layout withBallots headSlot firstEntry freeSlot
 freed-done b n urn first h f =

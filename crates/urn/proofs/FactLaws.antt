@@ -105,7 +105,7 @@ no-facts k d urn j e = rw e
 pub same-facts : (m n : ℕ) (p q f g : Bool) → m ≡ n → p ≡ q → f ≡ g → _≡_ {A = Facts} (record { sound = true; ballots = m; present = p; full = f }) (record { sound = true; ballots = n; present = q; full = g })
 same-facts m n p q f g h i j = cc
 
--- what the facts tell of the urn
+-- what the facts say about the urn
 pub facts-sound : (k d : ℕ) (urn : List ℕ) (j : ℕ) → factsOf k d urn j .sound ≡ true → sound k d urn ≡ true
 facts-sound k d urn j h =
     ⊎-elim (λ e. e) (λ e. let q = sym h ∙ ap (λ (f : Facts). f .sound) (no-facts k d urn j e) in let z : _≡_ {A = ℕ} 0 1 = cc in absurd (omega arith)) (true-or-false (sound k d urn))

@@ -82,7 +82,7 @@ withdrawable k d f j e =
     let p = let-out (gradedShape k d) (f .sound) (goodJuror j && f .present) e in
     record { graded = p .0; isSound = p .1; juror = p .2 }
 
--- an answer tells whether there was a reason
+-- an accepted answer means that there was no reason
 pub accepted-none : (o : Option Reason) (v m : ℕ) → outcome o v ≡ accepted m → o ≡ none
 unfolding outcome
 accepted-none none v m e = refl

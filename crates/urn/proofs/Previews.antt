@@ -1,4 +1,4 @@
--- The previews tell four facts of an urn.
+-- The previews reveal four facts about an urn.
 -- Assumes nothing.
 use mathlib.Core.Path.{_≡_, ap}
 use mathlib.Core.List.{List}
@@ -9,7 +9,7 @@ use Rattle.urn.specs.Admit.{admitAnswer}
 use Rattle.urn.specs.Withdraw.{withdrawAnswer}
 use Rattle.urn.specs.Previews.{Alike, both-unsound, both-sound, PreviewsTell}
 
--- what is asked of both urns is answered the same
+-- the facts of both urns are the same
 same-facts-asked : (k d : ℕ) (one other : List ℕ) (j : ℕ) → Alike k d one other j → factsOf k d one j ≡ factsOf k d other j
 unfolding factsOf
 same-facts-asked k d one other j (both-unsound e f) = rw (e, f)

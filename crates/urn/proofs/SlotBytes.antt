@@ -1,4 +1,4 @@
--- One slot of an urn written anew.
+-- One slot of an urn is written.
 -- Assumes nothing.
 use mathlib.Core.Path.{_≡_, _∙_, refl, sym, ap}
 use mathlib.Core.List.{List, [], _∷_, _++_, append-assoc, append-nil}
@@ -10,7 +10,7 @@ use lib.Seq.{take-suc-set, drop-set-lt, take-set-le, drop-set-add, take-set-lt, 
 use Rattle.urn_chains.specs.Slots.{Slot, slotBytes, slotOf, slotsOf, slotAt}
 use Rattle.urn_chains.proofs.SlotLaws.{size-is}
 
--- two stores and a copy behind them
+-- two stores and a copy after them
 module _ (urn ballot last : List ℕ) (at next juror : ℕ) (fits : at + 2 + length ballot ≤ length urn) where
   abbrev pub stored : List ℕ
   stored = set (set urn at next) (at + 1) juror
@@ -61,7 +61,7 @@ second-byte [] v h = absurd (omega arith)
 second-byte (x ∷ []) v h = absurd (omega arith)
 second-byte (x ∷ y ∷ xs) v h = refl
 
--- the slots of an urn in which one slot's bytes are written anew
+-- the slots of an urn after one slot's bytes were written
 pub put-slots : (i b n : ℕ) (urn bytes : List ℕ) → length urn ≡ n * slotBytes b → i < n → length bytes ≡ slotBytes b →
     slotsOf b n (take (i * slotBytes b) urn ++ bytes ++ drop (i * slotBytes b + slotBytes b) urn) ≡ set (slotsOf b n urn) i (slotOf bytes)
 unfolding slotsOf
@@ -82,7 +82,7 @@ put-slots (suc i) b (suc n) urn bytes e h l =
     ∙ ap (λ (xs : List ℕ). slotOf (take z urn) ∷ slotsOf b n xs) (drop-at (take z urn) (take (i * z) (drop z urn) ++ bytes ++ drop (i * z + z) (drop z urn)) z size)
     ∙ ap (λ (ss : List Slot). slotOf (take z urn) ∷ ss) (put-slots i b n (drop z urn) bytes (omega (arith, length-drop z urn, suc-mul n z)) (omega arith) l)
 
--- a store to a slot's first byte, and one to its second
+-- a store to a slot's first byte, and to its second
 pub set-next : (i b n : ℕ) (urn : List ℕ) (v : ℕ) → length urn ≡ n * slotBytes b → i < n →
     slotsOf b n (set urn (i * slotBytes b) v) ≡ set (slotsOf b n urn) i (record { next = v; juror = slotAt (slotsOf b n urn) i .juror; ballot = slotAt (slotsOf b n urn) i .ballot })
 unfolding slotsOf slotAt

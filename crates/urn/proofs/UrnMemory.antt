@@ -1,4 +1,4 @@
--- The memory demand holds of the urn.
+-- The memory demand holds for the urn.
 -- Assumes nothing.
 use mathlib.Core.Path.{_≡_, refl, sym, subst}
 use mathlib.Core.Bool.{Bool, true, false, cond}
@@ -26,11 +26,11 @@ use Rattle.urn.specs.Memory.{UrnMemory}
 use Rattle.urn.proofs.Outcomes.{refused-kept}
 use Rattle.urn.proofs.UrnTheorems.{urn-holds}
 
--- the numbers that concern an admission
+-- the reasons' numbers of an admission
 admitting : List ℕ
 admitting = 1 ∷ 13 ∷ 14 ∷ 4 ∷ 5 ∷ 6 ∷ 15 ∷ []
 
--- of a jury that grades
+-- for a graded jury
 ballots-fine : (s : Shape) (xs : List ℕ) → isRanking s ≡ false → All admitting (ballotReasons s xs)
 unfolding All ballotReasons gradedReasons hasNumberIn reasonAt admitting
 ballots-fine s xs graded =
@@ -49,7 +49,7 @@ admit-fine k d f j x e = (
   ),
 )
 
--- any other is turned away for its shape, before all
+-- any other shape is refused first of all
 first-of : (t : Bool) (rest : List (Option Reason)) → t ≡ false → Fine admitting (firstOf (unless t 1 ∷ rest))
 unfolding Fine hasNumberIn reasonAt admitting unless firstOf
 first-of t rest e = subst (λ (t : Bool). Fine admitting (firstOf (unless t 1 ∷ rest))) (sym e) tt
@@ -75,7 +75,7 @@ empty-numbered k d table r e =
     let ns : List ℕ = 1 ∷ 13 ∷ [] in
     refused-fine ns (emptyOutcome k d table) r (outcome-fine ns _ _ (first-fine ns (emptyReasons k d table) (unless-fine ns _ 1 tt, (unless-fine ns _ 13 tt, tt)))) e
 
--- a length stays where it stays after a refusal and after an accepted call
+-- the length is the same after a refusal and after an accepted call
 kept : (o : Option Reason) (v : ℕ) (new old : List ℕ) → ((count : ℕ) → outcome o v ≡ accepted count → length (afterwards o new old) ≡ length old) → length (afterwards o new old) ≡ length old
 unfolding outcome afterwards
 kept none v new old f = f v refl

@@ -1,4 +1,5 @@
--- An urn that is made empty is sound, stays so while ballots go in and out, and undoing gives it back.
+-- An urn that is made empty is sound and stays so while ballots go in and out; withdrawing what was admitted last
+-- gives the urn back.
 -- Assumes nothing.
 use mathlib.Core.Path.{_≡_, _∙_, refl, sym, ap, subst}
 use mathlib.Core.Logic.{⊎-elim}
@@ -170,7 +171,7 @@ after-emptying k d table count h =
       free = ap (λ (v : List ℕ). freeChain (urnSlots k d v)) new ∙ wr .free;
     }
 
--- an admission takes the slot that is free first
+-- an admission takes the first free slot
 again : (k d : ℕ) (urn : List ℕ) (es : List Entry) (s : ℕ) (is : List ℕ) → ballotChain (urnSlots k d urn) ≡ es → freeChain (urnSlots k d urn) ≡ s ∷ is → (j : ℕ) (x : List ℕ) (count : ℕ) → AfterAdmission k d urn j x count →
     (ballotChain (urnSlots k d (admitted k d urn j x)) ≡ record { slot = s; juror = j; ballot = x } ∷ es) × (freeChain (urnSlots k d (admitted k d urn j x)) ≡ is)
 unfolding firstFree

@@ -75,7 +75,7 @@ module _ (k d : ℕ) (urn : List ℕ) (w : T (gradedLimits (juryOfOne k d))) (e 
   unfolding slotBytes
   link-inside = omega (arith, slot-within p (slotCount (k * d) (length urn)) (k * d) link-below, its-table k d urn w e .size)
 
-  -- the slots after the stores, written from the chains
+  -- the slots after the stores are the layout of the new chains
   laid : set (set (set (urnSlots k d urn) p (renext (slotAt (urnSlots k d urn) p) (firstEntry (cut .back)))) s (freeSlot (k * d) (firstFree (freeChain (urnSlots k d urn))))) 0
       (record { next = firstEntry (cut .front ++ cut .back); juror = s; ballot = replicate (k * d) 0 })
       ≡ withoutBallot (k * d) (urnSlots k d urn) j

@@ -25,12 +25,12 @@ use Rattle.urn_chains.proofs.SlotTests.{clash}
 use Rattle.urn_chains.proofs.Linked.{no-zero, slotsIn, Linked, FreeLinked, none, more, at-set, at-other, apart-rest, linked-set, free-set, positive, below}
 use Rattle.urn_chains.proofs.Layouts.{Fit, layout-unique}
 
--- The last slot of these ballots, or `before` where there are none.
+-- The last slot of these ballots, or `before` if there are none.
 pub lastSlot : ℕ → List Entry → ℕ
 lastSlot before [] = before
 lastSlot before (q ∷ pre) = lastSlot (q .slot) pre
 
--- The ballots before a juror's, that one, and those behind it.
+-- The ballots before a juror's, the juror's, and those after it.
 pub record Split (j before p s : ℕ) (es : List Entry) : Type 0 where
   pub front : List Entry
   pub entry : Entry
@@ -79,7 +79,7 @@ slots-append : (xs ys : List Entry) → slotsIn (xs ++ ys) ≡ slotsIn xs ++ slo
 slots-append [] ys = refl
 slots-append (x ∷ xs) ys = ap (λ (is : List ℕ). x .slot ∷ is) (slots-append xs ys)
 
--- a test that does not depend on where a number stands
+-- a test that does not depend on where in the list a number is
 moves : (f : List ℕ → Bool) → ((xs : List ℕ) (y : ℕ) (ys : List ℕ) → f (xs ++ (y ∷ ys)) ≡ f (y ∷ (xs ++ ys))) → (pre : List Entry) (e : Entry) (post : List Entry) (is : List ℕ) →
     f (slotsIn (pre ++ (e ∷ post)) ++ is) ≡ f (slotsIn (pre ++ post) ++ (e .slot ∷ is))
 moves f m pre e post is =
@@ -116,7 +116,7 @@ fewer x pre e post h =
     never-true (member x (slotsIn (pre ++ post))) (λ m. clash (member x (slotsIn (pre ++ (e ∷ post))))
     (ap (member x) (slots-append pre (e ∷ post)) ∙ member-move x (slotsIn pre) (e .slot) (slotsIn post) ∙ behind x (e .slot) (slotsIn pre ++ slotsIn post) (ap (member x) (sym (slots-append pre post)) ∙ m)) h)
 
--- the chain without one ballot, when the slot before that one names the one behind it
+-- the chain without one ballot, once the slot before it names the one after it
 pub relink : (S : List Slot) (pre : List Entry) (e : Entry) (post : List Entry) (before : ℕ) → Linked S (pre ++ (e ∷ post)) → distinct (slotsIn (pre ++ (e ∷ post))) ≡ true →
     member before (slotsIn (pre ++ post)) ≡ false → ((x : ℕ) → member x (slotsIn (pre ++ (e ∷ post))) ≡ true → x < length S) →
     Linked (set S (lastSlot before pre) (renext (slotAt S (lastSlot before pre)) (firstEntry post))) (pre ++ post)
@@ -136,7 +136,7 @@ relink S (q ∷ (r ∷ pre)) e post before (more g l) h m b =
     (fewer (q .slot) (r ∷ pre) e post (distinct-first (q .slot) (slotsIn (r ∷ (pre ++ (e ∷ post)))) h))
     (λ x i. b x (or-second (eqb x (q .slot)) (member x (slotsIn (r ∷ (pre ++ (e ∷ post))))) i)))
 
--- the slot before a ballot is slot 0 or one of the chain
+-- the slot before a ballot is slot 0 or a slot of the chain
 last-in : (q : Entry) (pre : List Entry) (e : Entry) (post : List Entry) → member (lastSlot 0 (q ∷ pre)) (slotsIn ((q ∷ pre) ++ (e ∷ post))) ≡ true
 unfolding lastSlot
 last-in q pre e post =
@@ -199,7 +199,7 @@ module _ (n b : ℕ) (S : List Slot) (pre : List Entry) (e : Entry) (post : List
   link-free : member (lastSlot 0 pre) is ≡ false
   link-free = last-free n pre e post is in-is (fit .once)
 
-  -- the slots after the ballot's slot was passed over, emptied and put first in the free chain
+  -- the slots after the ballot's slot was unlinked, emptied and put first in the free chain
   pub withdraw-slots : set (set (set S (lastSlot 0 pre) (renext (slotAt S (lastSlot 0 pre)) (firstEntry post))) (e .slot) (freeSlot b (firstFree is))) 0
       (record { next = firstEntry (pre ++ post); juror = e .slot; ballot = replicate b 0 })
       ≡ layout n b (pre ++ post) (e .slot ∷ is)
@@ -222,7 +222,7 @@ module _ (n b : ℕ) (S : List Slot) (pre : List Entry) (e : Entry) (post : List
       (more (at-other Q 0 (e .slot) top (λ z. omega (arith, positive n (e .slot) its-place)) ∙ at-set R (e .slot) (freeSlot b (firstFree is)) (omega (arith, below n (e .slot) its-place)))
       (free-set b Q 0 top is (no-zero n is in-is) (free-set b R (e .slot) (freeSlot b (firstFree is)) is not-free (free-set b S (lastSlot 0 pre) (renext (slotAt S (lastSlot 0 pre)) (firstEntry post)) is link-free f))))
 
-  -- slot 0 after the ballot was passed over
+  -- slot 0 after the ballot was unlinked
   pub passed-next : slotAt (set S (lastSlot 0 pre) (renext (slotAt S (lastSlot 0 pre)) (firstEntry post))) 0 .next ≡ firstEntry (pre ++ post)
   unfolding headSlot
   passed-next = head-passed n S pre e post size (omega (arith, fit .least)) in-es (ap (λ (s : Slot). s .next) h)

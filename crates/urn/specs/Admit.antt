@@ -13,7 +13,7 @@ use Rattle.urn_chains.specs.Chains.{ballotChain, freeChain, firstFree, layout}
 use Rattle.urn_chains.specs.Sound.{juryOfOne, gradedShape, goodJuror, urnSlots}
 use Rattle.urn.specs.Facts.{factsOf, UrnResult, afterwards}
 
--- The tests in checking order: 1, 13, 14, the tests of the ballot as one of a jury of one (4, 5, 6), 15.
+-- The tests in checking order: 1, 13, 14, the tests of the ballot as in a jury of one (4, 5, 6), 15.
 unfoldable pub admitReasons : ℕ → ℕ → Facts → ℕ → List ℕ → List (Option Reason)
 admitReasons k d facts juror ballot =
     unless (gradedShape k d) 1
@@ -21,14 +21,14 @@ admitReasons k d facts juror ballot =
     ∷ unless (goodJuror juror && not (facts .present)) 14
     ∷ (ballotReasons (juryOfOne k d) ballot ++ (unless (not (facts .full)) 15 ∷ []))
 
--- The answer by the facts of an urn: a reason, or the new number of ballots.
+-- The answer by the facts: a reason, or the new number of ballots.
 unfoldable pub admitAnswer : ℕ → ℕ → Facts → ℕ → List ℕ → Outcome ℕ
 admitAnswer k d facts juror ballot = outcome (firstOf (admitReasons k d facts juror ballot)) (facts .ballots + 1)
 
 abbrev pub admitOutcome : ℕ → ℕ → List ℕ → ℕ → List ℕ → Outcome ℕ
 admitOutcome k d urn juror ballot = admitAnswer k d (factsOf k d urn juror) juror ballot
 
--- The ballot in the first free slot, before the ballots that were there; that slot is free no longer.
+-- The ballot goes into the first free slot, which becomes the first of the ballot chain and leaves the free chain.
 unfoldable pub withBallot : ℕ → List Slot → ℕ → List ℕ → List Slot
 withBallot b slots juror ballot =
     layout (length slots) b

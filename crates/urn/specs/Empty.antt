@@ -1,4 +1,4 @@
--- A table made an empty urn.
+-- A table made into an empty urn.
 use mathlib.Core.Option.{Option}
 use mathlib.Core.List.{List, [], _∷_}
 use Prim.Native.Nat.{ℕ, suc, _-_, _*_}
@@ -11,7 +11,7 @@ use Rattle.urn_chains.specs.Chains.{layout}
 use Rattle.urn_chains.specs.Sound.{gradedShape, slotCount, urnLength}
 use Rattle.urn.specs.Facts.{UrnResult, afterwards}
 
--- The tests in checking order: 1, then 13 where no urn has this length.
+-- The tests in checking order: 1, then 13 if no urn has this length.
 unfoldable pub emptyReasons : ℕ → ℕ → List ℕ → List (Option Reason)
 emptyReasons k d table = unless (gradedShape k d) 1 ∷ unless (urnLength (k * d) (length table)) 13 ∷ []
 
@@ -19,7 +19,7 @@ emptyReasons k d table = unless (gradedShape k d) 1 ∷ unless (urnLength (k * d
 unfoldable pub emptyOutcome : ℕ → ℕ → List ℕ → Outcome ℕ
 emptyOutcome k d table = outcome (firstOf (emptyReasons k d table)) 0
 
--- The n slots of an urn without a ballot, of ballots of b bytes: slots 1, 2 and so on are free, in this order.
+-- The n slots of an urn without ballots, for ballots of b bytes: slots 1, 2 and so on are free, in this order.
 unfoldable pub allFree : ℕ → ℕ → List Slot
 allFree n b = layout n b [] (tabulate (n - 1) suc)
 

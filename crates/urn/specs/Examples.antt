@@ -1,5 +1,5 @@
--- One candidate, two grades: a slot is four bytes. A table of three slots is made an empty urn; juror 9 is admitted
--- to an empty urn of two slots and withdrawn again, over the definitions.
+-- One candidate, two grades: a slot is four bytes. A table of three slots becomes an empty urn; juror 9 is admitted
+-- to an empty urn of two slots and withdrawn again.
 use mathlib.Core.Path.{_≡_, refl}
 use mathlib.Core.Bool.{true, false}
 use mathlib.Core.List.{List, [], _∷_}
@@ -30,7 +30,7 @@ unfolding emptyUrn slotBytes slotOf slotsOf slotAt chain ends entryAt ballotSlot
     tabulate
 empty-sound = refl
 
--- the free slot names itself: that chain does not end
+-- the free slot names itself, so the free chain does not end
 pub loop-unsound : sound 1 2 (0 ∷ 1 ∷ 0 ∷ 0 ∷ 1 ∷ 0 ∷ 0 ∷ 0 ∷ []) ≡ false
 unfolding slotBytes slotOf slotsOf slotAt chain ends entryAt ballotSlots ballotChain freeChain all member distinct
     goodJuror inUrn eachOnce goodChains allZero emptySlot soundSlots slotCount urnLength urnSlots sound tabulate

@@ -1,4 +1,4 @@
--- What is asked of an urn before a ballot goes in or out, and what a call leaves.
+-- What a call asks about an urn before a ballot goes in or out, and what a call leaves.
 use mathlib.Core.Bool.{Bool, true, false, cond}
 use mathlib.Core.Option.{Option, none, some}
 use mathlib.Core.List.{List, [], _∷_, map}
@@ -20,8 +20,8 @@ isEmpty (i ∷ is) = false
 unfoldable pub jurorsOf : List Entry → List ℕ
 jurorsOf es = map (λ e. e .juror) es
 
--- Of a sound urn: how many ballots are in, whether this juror's is among them, and whether no slot is free. Of any
--- other urn these are not asked.
+-- Of a sound urn: how many ballots are in, whether this juror's is among them, and whether no slot is free. Of an
+-- unsound urn, only that it is unsound.
 unfoldable pub factsOf : ℕ → ℕ → List ℕ → ℕ → Facts
 factsOf k d urn juror =
     cond (sound k d urn)
@@ -33,17 +33,17 @@ factsOf k d urn juror =
     })
     (record { sound = false; ballots = 0; present = false; full = false })
 
--- What a call leaves: its answer, and the urn.
+-- What a call leaves: its answer and the urn.
 pub record UrnResult : Type 0 where
   pub answer : Outcome ℕ
   pub urn : List ℕ
 
--- The urn after a call: as it was where there is a reason to turn the call away.
+-- The urn after a call: unchanged if there is a reason.
 unfoldable pub afterwards : Option Reason → List ℕ → List ℕ → List ℕ
 afterwards (some r) new old = old
 afterwards none new old = new
 
--- The number and the values for each case of the program's enum.
+-- What each case of the program's enum means.
 unfoldable pub countedBy : Answer → Outcome ℕ
 countedBy (Accepted ballots) = accepted ballots
 countedBy (Refused r) = refused (reasonOf r)

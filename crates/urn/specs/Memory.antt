@@ -1,5 +1,5 @@
--- The demand [memory] for the urn, over the definitions that the contracts equate with the program's answers and with
--- the urn afterwards. The previews are lent nothing that they could alter.
+-- The demand [memory] for the urn, about the definitions that the contracts equate with the answers and with the urn
+-- afterwards. Previews are lent nothing to write to.
 use mathlib.Core.List.{List, [], _∷_}
 use Prim.Native.Nat.{ℕ}
 use Rattle.tally.specs.Memory.{KeepsMemory}

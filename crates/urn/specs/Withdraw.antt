@@ -21,14 +21,14 @@ withdrawReasons k d facts juror =
     ∷ unless (goodJuror juror && facts .present) 14
     ∷ []
 
--- The answer by the facts of an urn: a reason, or the new number of ballots.
+-- The answer by the facts: a reason, or the new number of ballots.
 unfoldable pub withdrawAnswer : ℕ → ℕ → Facts → ℕ → Outcome ℕ
 withdrawAnswer k d facts juror = outcome (firstOf (withdrawReasons k d facts juror)) (facts .ballots - 1)
 
 abbrev pub withdrawOutcome : ℕ → ℕ → List ℕ → ℕ → Outcome ℕ
 withdrawOutcome k d urn juror = withdrawAnswer k d (factsOf k d urn juror) juror
 
--- The ballots without that of this juror, who has one at most.
+-- The ballots without this juror's, who has at most one.
 unfoldable pub without : ℕ → List Entry → List Entry
 without juror [] = []
 without juror (e ∷ es) = cond (eqb (e .juror) juror) es (e ∷ without juror es)

@@ -1,4 +1,4 @@
-// The entry point that makes a lent table an empty urn.
+// The entry point that makes a lent table into an empty urn.
 use crate::admit::is_graded;
 use crate::answer::Answer;
 use jury::reason::Refusal;
@@ -9,15 +9,15 @@ ghost use Rattle.urn_chains.specs.inner.Table.{SlotTable};
 ghost use Rattle.urn.specs.Facts.{countedBy};
 ghost use Rattle.urn.specs.Empty.{allFree, emptying};
 
-// Frees all slots from 1 on of a table of slots for ballots of `bytes` bytes. Each becomes the first free one, the last
-// slot before the others, so that they are free in order.
+// Frees all slots from 1 on, in a table of slots for ballots of `bytes` bytes. It goes from the last slot to the
+// first and puts each in front, so the free chain is in order.
 fn free_all(urn: &mut [u8], bytes: usize, slots: usize)
     requires { ⌜ SlotTable bytes slots (now urn) ⌝ }
     ensures { λ _. ⌜ now (urn .exit) ≡ bytesOf (allFree slots bytes) ⌝ }
 {
     basics::table::empty(urn);
     let size = 2 + bytes;
-    // The slot number `left` starts at byte `at`. Both are counted down, without a product in the loop.
+    // Slot `left` starts at byte `at`. Both count down, so that the loop needs no product.
     let mut left = slots - 1;
     let mut at = left * size;
     let mut first = 0u8;
@@ -30,7 +30,7 @@ fn free_all(urn: &mut [u8], bytes: usize, slots: usize)
     urn[1] = first;
 }
 
-// Makes a table of the length of an urn an empty one, whatever its bytes were.
+// Makes a table with the length of an urn into an empty one, whatever its bytes were.
 pub fn empty(k: usize, d: usize, urn: &mut [u8]) -> Answer
     ensures { λ r. ⌜ record { answer = countedBy r; urn = now (urn .exit) } ≡ emptying k d (now (urn .entry)) ⌝ }
 {

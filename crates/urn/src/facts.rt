@@ -1,4 +1,4 @@
-// What is asked of an urn before a ballot goes in or out.
+// What a call asks about an urn before a ballot goes in or out.
 use urn_chains::find;
 use urn_chains::find::ChainPosition;
 use urn_chains::sound;
@@ -7,8 +7,8 @@ ghost use lib.Dec.{T};
 ghost use Rattle.urn_chains.specs.Sound.{gradedShape};
 ghost use Rattle.urn.specs.inner.Ready.{Looked};
 
-// Of a sound urn the number of ballots, whether a juror's is among them, and whether no slot is free. Of any other
-// nothing but that.
+// Of a sound urn: how many ballots are in, whether this juror's is among them, and whether no slot is free. Of an
+// unsound urn, only that it is unsound.
 pub struct Facts {
     pub sound: bool,
     pub ballots: usize,
@@ -16,7 +16,7 @@ pub struct Facts {
     pub full: bool,
 }
 
-// The facts, and where the juror's ballot lies in a sound urn.
+// The facts, and where the juror's ballot is in a sound urn.
 pub(crate) struct UrnCheck {
     pub(crate) facts: Facts,
     pub(crate) position: ChainPosition,

@@ -1,4 +1,4 @@
-// Admission to an urn of graded ballots and withdrawal from it, and what each would answer.
+// Admission to an urn of graded ballots, withdrawal from it, and previews of both.
 pub mod admit;
 pub mod answer;
 pub mod empty;

@@ -114,7 +114,7 @@ layout-sized k d n es is h =
     (ballots-sized k d (k * d) es (withFree (k * d) is (replicate n (freeSlot (k * d) 0))) refl h
     (free-sized (k * d) is (replicate n (freeSlot (k * d) 0)) (sized-replicate (k * d) n (freeSlot (k * d) 0) (length-replicate (k * d) 0))))
 
--- the number of slots in the bytes of n slots
+-- the number of slots in the bytes of n slots is n
 pub count-is : (b n m : ℕ) → m ≡ n * slotBytes b → slotCount b m ≡ n
 unfolding slotCount
 count-is b n m e = ap (λ (x : ℕ). x / slotBytes b) e ∙ mul-div-cancel n {n = slotBytes b} (omega (arith, size-is b))
@@ -133,7 +133,7 @@ length-good b n m l u e =
     (le-leb 2 (slotCount b m) (omega arith)))
     (le-leb (slotCount b m) 256 (omega arith))
 
--- an urn of the length of one is a table of slots
+-- a table with the length of an urn is a table of slots
 pub table-is : (b m : ℕ) → urnLength b m ≡ true → m ≡ slotCount b m * slotBytes b
 unfolding urnLength slotCount
 table-is b m e =

@@ -65,7 +65,7 @@ keep-free b (e ∷ es) slots is f l =
     free-set b (withBallots es slots) (e .slot) (entrySlot e es) is (f (e .slot) (or-first (eqb (e .slot) (e .slot)) (member (e .slot) (slotsIn es)) (eq-eqb (e .slot) (e .slot) refl)))
     (keep-free b es slots is (λ x h. f x (or-second (eqb x (e .slot)) (member x (slotsIn es)) h)) l)
 
--- Chains that take each slot from 1 on once.
+-- Chains that have each slot from 1 on once.
 pub record Fit (n : ℕ) (es : List Entry) (is : List ℕ) : Type 0 where
   pub least : 2 ≤ n
   pub inside : all (inUrn n) (slotsIn es ++ is) ≡ true
@@ -155,7 +155,7 @@ chains-fit k d n es is h e =
       covered = and-second (o₁ && o₂) o₃ c₀;
     }
 
--- an urn that is written from chains as they have to be is sound
+-- an urn that is written from good chains is sound
 pub layout-sound : (k d n b : ℕ) (es : List Entry) (is : List ℕ) → 2 ≤ n → goodChains k d n es is ≡ true → soundSlots k d (layout n b es is) ≡ true
 unfolding soundSlots headSlot
 layout-sound k d n b es is h e =

@@ -31,7 +31,7 @@ pub data FreeLinked (b : ℕ) (slots : List Slot) : List ℕ → Type 0 where
   none : FreeLinked b slots []
   more : {i : ℕ} {is : List ℕ} → slotAt slots i ≡ freeSlot b (firstFree is) → FreeLinked b slots is → FreeLinked b slots (i ∷ is)
 
--- one slot is written anew
+-- one slot is written
 pub at-set : (slots : List Slot) (i : ℕ) (s : Slot) → i < length slots → slotAt (set slots i s) i ≡ s
 unfolding slotAt
 at-set slots i s h = getD-set-same slots i s _ h
@@ -40,7 +40,7 @@ pub at-other : (slots : List Slot) (i j : ℕ) (s : Slot) → j ≢ i → slotAt
 unfolding slotAt
 at-other slots i j s h = getD-set-other slots i j s _ h
 
--- the first of a list is not among those that are not in it
+-- what is not in a list is not its first
 pub not-first : (x y : ℕ) (ys : List ℕ) → member x (y ∷ ys) ≡ false → y ≢ x
 unfolding member
 not-first x y ys e q = let t = sym (or-first (eqb x y) (member x ys) (eq-eqb x y (sym q))) ∙ e in let z : _≡_ {A = ℕ} 0 1 = cc in omega arith
@@ -98,7 +98,7 @@ free-ends n b slots (i ∷ is) most h l (more q k) =
     ∙ ap (λ (s : Slot). ends (most - 1) (s .next) slots) q
     ∙ free-ends n b slots is (most - 1) (all-rest (inUrn n) i is h) (omega arith) k
 
--- reading the ballots of their slots gives them back
+-- reading the ballots back from their slots
 pub linked-entries : (slots : List Slot) (es : List Entry) → Linked slots es → map (entryAt slots) (slotsIn es) ≡ es
 unfolding entryAt entrySlot
 linked-entries slots [] none = refl

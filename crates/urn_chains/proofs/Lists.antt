@@ -1,4 +1,4 @@
--- Tests of all elements of a list, of one among them, and of none twice.
+-- Tests of all elements of a list, membership, and lists without repetition.
 -- Assumes nothing.
 use mathlib.Core.Path.{_≡_, _∙_, refl, sym, ap}
 use mathlib.Core.Logic.{_⊎_, ⊎-elim}
@@ -12,7 +12,7 @@ use Rattle.basics.specs.Lists.{tabulate}
 use Rattle.basics.proofs.Flags.{and-first, and-second, and-both, or-either, or-first, or-second, never-true}
 use Rattle.basics.specs.Lists.{all, member, distinct}
 
--- two tests that hold together are one
+-- two tests that imply each other are equal
 pub same : (t u : Bool) → (t ≡ true → u ≡ true) → (u ≡ true → t ≡ true) → t ≡ u
 same true true f g = refl
 same true false f g = sym (f refl)
@@ -64,14 +64,14 @@ all-both p q (x ∷ xs) e f =
     and-both (p x && q x) (all (λ y. p y && q y) xs) (and-both (p x) (q x) (and-first (p x) (all p xs) e) (and-first (q x) (all q xs) f))
     (all-both p q xs (and-second (p x) (all p xs) e) (and-second (q x) (all q xs) f))
 
--- what holds of all holds of one among them
+-- what holds for all holds for each
 pub all-member : (p : ℕ → Bool) (i : ℕ) (is : List ℕ) → all p is ≡ true → member i is ≡ true → p i ≡ true
 unfolding all member
 all-member p i [] e m = let z : _≡_ {A = ℕ} 0 1 = cc in absurd (omega arith)
 all-member p i (x ∷ is) e m =
     ⊎-elim (λ h. ap p (eqb-true i x h) ∙ and-first (p x) (all p is) e) (λ h. all-member p i is (and-second (p x) (all p is) e) h) (or-either (eqb i x) (member i is) m)
 
--- and what holds of each one among them holds of all
+-- and what holds for each holds for all
 pub member-all : (p : ℕ → Bool) (is : List ℕ) → ((i : ℕ) → member i is ≡ true → p i ≡ true) → all p is ≡ true
 unfolding all member
 member-all p [] f = refl
@@ -124,7 +124,7 @@ pub distinct-cons : (x : ℕ) (xs : List ℕ) → member x xs ≡ false → dist
 unfolding distinct
 distinct-cons x xs e f = and-both (not (member x xs)) (distinct xs) (ap not e) f
 
--- a member of one list is none of the other, where the two have none twice
+-- if two lists have no repetition together, a member of one is not in the other
 pub distinct-apart : (i : ℕ) (xs ys : List ℕ) → distinct (xs ++ ys) ≡ true → member i xs ≡ true → member i ys ≡ false
 unfolding member
 distinct-apart i [] ys e m = let z : _≡_ {A = ℕ} 0 1 = cc in absurd (omega arith)

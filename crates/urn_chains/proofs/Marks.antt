@@ -28,7 +28,7 @@ unfolding markAll
 mark-length [] m = refl
 mark-length (i ∷ is) m = mark-length is (set m i true) ∙ length-set m i true
 
--- a number of the list is marked, and no other one is that was not before
+-- marking sets the marks of these numbers, and no others
 set-mark : (m : List Bool) (x i : ℕ) → x < length m → getD (set m x true) i false ≡ (eqb i x || getD m i false)
 set-mark m x i h =
     ⊎-elim
@@ -70,7 +70,7 @@ met-not-fresh (y ∷ is) m x h e g =
     ∙ and-false (not (getD m y false)))
     (or-either (eqb x y) (member x is) e)
 
--- numbers that are fresh are not marked, and none is there twice
+-- fresh numbers are unmarked and without repetition
 pub fresh-is : (is : List ℕ) (m : List Bool) → all (λ x. ltb x (length m)) is ≡ true → ((i : ℕ) → member i is ≡ true → getD m i false ≡ false) → fresh is m ≡ distinct is
 unfolding fresh distinct member
 fresh-is [] m h f = refl
@@ -135,7 +135,7 @@ all-trues (true ∷ m) e zero l = refl
 all-trues (true ∷ m) e (suc i) l = all-trues m (omega arith) i (omega arith)
 all-trues (false ∷ m) e i l = absurd (omega (arith, trues-most m))
 
--- as many marks are set as there are numbers, where none is there twice
+-- without repetition, as many marks are set as there are numbers
 trues-marked : (is : List ℕ) (m : List Bool) → all (λ x. ltb x (length m)) is ≡ true → fresh is m ≡ true → trues (markAll is m) ≡ length is + trues m
 unfolding markAll fresh
 trues-marked [] m h f = omega arith
@@ -163,7 +163,7 @@ set-others [] h e q i l = absurd (omega arith)
 set-others (true ∷ m) h e q i l = let z : _≡_ {A = ℕ} 0 1 = cc in absurd (omega arith)
 set-others (false ∷ m) h e q i l = all-trues m (omega arith) i (omega arith)
 
--- Numbers from 1 to below n, none twice: they are at most n − 1, and exactly that where each is among them.
+-- Numbers from 1 to below n without repetition: there are at most n − 1, and exactly that many if they are all.
 module _ (n : ℕ) (is : List ℕ) (p : 0 < n) (inside : all (inUrn n) is ≡ true) (once : distinct is ≡ true) where
   below : all (λ x. ltb x (length (replicate n false))) is ≡ true
   unfolding inUrn

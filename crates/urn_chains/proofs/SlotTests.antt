@@ -60,7 +60,7 @@ module _ (b n : ℕ) (urn : List ℕ) (t : SlotTable b n urn) where
   unfolding ballotChain
   count-by-bytes = length-map (ballotSlots (slotsOf b n urn)) (entryAt (slotsOf b n urn)) ∙ ap length slots-by-bytes
 
--- What the tests of the code find.
+-- What the code's tests find.
 pub record Tests (k d n : ℕ) (urn : List ℕ) : Type 0 where
   pub head : allZero (take (k * d) (drop 2 urn)) ≡ true
   pub ballots : ballotsFrom k d (slotsOf (k * d) n urn) n (getD urn 0 0) noMarks noMarks ≡ true
@@ -104,7 +104,7 @@ module _ (k d n : ℕ) (urn : List ℕ) (t : SlotTable (k * d) n urn) where
         count = omega (arith, ap length (slots-by-bytes (k * d) n urn t), ap length (free-by-bytes (k * d) n urn t), slots-length (k * d) n urn, f .count);
       }
 
--- what the number of slots tells of the length
+-- what the number of slots says about the length
 module _ (t : Bool) (count r : ℕ) (is : r ≡ cond t count 0) where
   pub counted-false : r ≡ 0 → (t ≡ true → 2 ≤ count) → t ≡ false
   counted-false e f = never-true t (λ h. let q = is ∙ ap (λ (u : Bool). cond u count 0) h in let l = f h in omega arith)

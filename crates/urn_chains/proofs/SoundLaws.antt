@@ -1,4 +1,4 @@
--- What the two walks find together is that the slots are sound.
+-- If both walks find nothing wrong, the slots are sound.
 -- Assumes nothing.
 use mathlib.Core.Path.{_≡_, _∙_, refl, sym, ap}
 use mathlib.Core.Bool.{Bool, true, _&&_}
@@ -30,7 +30,7 @@ unfolding entryAt jurorsAt
 jurors-of-entries slots [] = refl
 jurors-of-entries slots (i ∷ is) = ap (λ (js : List ℕ). slotAt slots i .juror ∷ js) (jurors-of-entries slots is)
 
--- The parts of a sound urn's slots, as facts.
+-- The parts of soundness, as facts.
 pub record Parts (k d : ℕ) (slots : List Slot) : Type 0 where
   pub ballots-end : ends (length slots) (slotAt slots 0 .next) slots ≡ true
   pub free-end : ends (length slots) (slotAt slots 0 .juror) slots ≡ true
@@ -105,7 +105,7 @@ pub parts-sound : (k d : ℕ) (slots : List Slot) → Parts k d slots → soundS
 unfolding soundSlots
 parts-sound k d slots p = rw (p .ballots-end, p .free-end, chains-true k d slots p, p .head, p .empty)
 
--- What the walks and the two other tests find.
+-- What the walks and the other two tests find.
 pub record Found (k d : ℕ) (slots : List Slot) : Type 0 where
   pub head : allZero (slotAt slots 0 .ballot) ≡ true
   pub ballots : ballotsFrom k d slots (length slots) (slotAt slots 0 .next) noMarks noMarks ≡ true

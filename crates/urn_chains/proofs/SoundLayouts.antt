@@ -1,4 +1,4 @@
--- Sound urns are the layouts of good chains, and of no others.
+-- Sound urns are exactly the layouts of good chains.
 -- Assumes nothing.
 use mathlib.Core.Path.{_≡_, _∙_, refl, sym, ap, subst}
 use mathlib.Core.Bool.{true, _&&_}
@@ -28,7 +28,7 @@ module _ (k d b : ℕ) (S : List Slot) (least : 2 ≤ length S) (p : Parts k d S
   unfolding ballotChain ballotSlots
   held = chain-linked (length S) (slotAt S 0 .next) S (p .ballots-end)
 
-  -- a free slot has nothing but the next one's index
+  -- a free slot holds only the next one's index
   free-slot : (i : ℕ) → member i (freeChain S) ≡ true → slotAt S i ≡ freeSlot b (slotAt S i .next)
   unfolding emptySlot freeSlot
   free-slot i m =
@@ -75,11 +75,11 @@ module _ (k d b : ℕ) (S : List Slot) (least : 2 ≤ length S) (p : Parts k d S
         covered = ap (λ (is : List ℕ). all (λ i. member i (is ++ freeChain S)) (tabulate (length S - 1) suc)) read-slots-are ∙ p .covered;
       }
 
-  -- a sound urn is written from the chains that are read in it
+  -- a sound urn is the layout of the chains that are read from it
   pub sound-layout : S ≡ layout (length S) b (ballotChain S) (freeChain S)
   sound-layout = layout-unique (length S) b (ballotChain S) (freeChain S) fits S refl head-is held held-free
 
--- The parts of chains as they have to be.
+-- What makes chains good, as facts.
 pub record Good (k d n : ℕ) (es : List Entry) (is : List ℕ) : Type 0 where
   pub fit : Fit n es is
   pub jurors : all (λ (e : Entry). goodJuror (e .juror)) es ≡ true

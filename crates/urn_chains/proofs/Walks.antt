@@ -49,7 +49,7 @@ pub ends-never : (i : ℕ) (slots : List Slot) → 0 < i → ends 0 i slots ≡ 
 unfolding ends
 ends-never i slots h = ne-eqb i 0 (λ e. omega arith)
 
--- what a look tells
+-- what a look says
 pub looked-well : (t : Bool) (s : Slot) (j n : ℕ) → looked t s ≡ Sound j n → (t ≡ true) × (j ≡ s .juror) × (n ≡ s .next)
 unfolding looked
 looked-well true s j n e = (refl, cc, cc)
@@ -98,7 +98,7 @@ pub ballots-end : (k d : ℕ) (slots : List Slot) (most : ℕ) (marks jurors : L
 unfolding ballotsFrom jurorsAt all fresh
 ballots-end k d slots most marks jurors = rw (ends-end most slots, chain-end most slots)
 
--- A walk along the ballot chain after `count` slots, about to look at `slot`: what is left to find is all that there is to find.
+-- The walk along the ballot chain after `count` slots, about to look at `slot`: walking the rest is walking all.
 pub record OnBallots (k d : ℕ) (slots : List Slot) (n first : ℕ) (marks jurors : List Bool) (count slot : ℕ) : Type 0 where
   pub within : count ≤ n
   pub marks-size : length marks ≡ 256
@@ -206,7 +206,7 @@ free-end : (slots : List Slot) (most : ℕ) (marks : List Bool) → freeFrom slo
 unfolding freeFrom all fresh
 free-end slots most marks = rw (ends-end most slots, chain-end most slots)
 
--- A walk along the free chain in the same way, after the slots that are marked in `met`.
+-- The walk along the free chain in the same way, with the slots marked in `met`.
 pub record OnFree (slots : List Slot) (n first : ℕ) (met marks : List Bool) (count slot : ℕ) : Type 0 where
   pub within : count ≤ n
   pub marks-size : length marks ≡ 256
@@ -267,7 +267,7 @@ module _ (slots : List Slot) (n first : ℕ) (met marks : List Bool) (count slot
         counted = λ t. omega (arith, on .counted, ap length none);
       }
 
--- a broken walk promises no marks
+-- after a walk that found something wrong, nothing is promised about the marks
 pub not-walked : (well : Bool) (is : List ℕ) (before marks : List Bool) (count : ℕ) → false ≡ well → Walked well is before (record { good = false; marks = marks; count = count })
 not-walked well is before marks count f =
     record {

@@ -6,20 +6,19 @@ use lib.Dec.{eqb}
 use lib.ListN.{length, set, replicate}
 use Rattle.urn_chains.specs.Slots.{Slot, slotAt, freeSlot}
 
--- The slots of the chain that begins with slot i, at most so many: it goes on with the next slot's index until that
--- is 0.
+-- At most `most` slots of the chain that begins with slot i and follows the next slot's index until that is 0.
 unfoldable pub chain : ℕ → ℕ → List Slot → List ℕ
 chain zero i slots = []
 chain (suc most) zero slots = []
 chain (suc most) (suc i) slots = suc i ∷ chain most (slotAt slots (suc i) .next) slots
 
--- Whether that chain gets to 0 within so many slots.
+-- Whether that chain ends, with index 0, within this many slots.
 unfoldable pub ends : ℕ → ℕ → List Slot → Bool
 ends zero i slots = eqb i 0
 ends (suc most) zero slots = true
 ends (suc most) (suc i) slots = ends most (slotAt slots (suc i) .next) slots
 
--- A ballot in the urn: where it lies, whose it is, and its bytes.
+-- A ballot in the urn: its slot, its juror, and its bytes.
 pub record Entry : Type 0 where
   pub slot : ℕ
   pub juror : ℕ
@@ -28,18 +27,18 @@ pub record Entry : Type 0 where
 unfoldable pub entryAt : List Slot → ℕ → Entry
 entryAt slots i = record { slot = i; juror = slotAt slots i .juror; ballot = slotAt slots i .ballot }
 
--- The slots of the ballot chain, which slot 0 begins in its byte 0, and the ballots in chain order.
+-- The slots of the ballot chain, which begins at the slot in byte 0 of slot 0; and the ballots in chain order.
 unfoldable pub ballotSlots : List Slot → List ℕ
 ballotSlots slots = chain (length slots) (slotAt slots 0 .next) slots
 
 unfoldable pub ballotChain : List Slot → List Entry
 ballotChain slots = map (entryAt slots) (ballotSlots slots)
 
--- The slots of the free chain, which slot 0 begins in its byte 1.
+-- The slots of the free chain, which begins at the slot in byte 1 of slot 0.
 unfoldable pub freeChain : List Slot → List ℕ
 freeChain slots = chain (length slots) (slotAt slots 0 .juror) slots
 
--- The first slot of a chain, 0 where it has none.
+-- The first slot of a chain, 0 if it is empty.
 unfoldable pub firstEntry : List Entry → ℕ
 firstEntry [] = 0
 firstEntry (e ∷ es) = e .slot
@@ -48,7 +47,7 @@ unfoldable pub firstFree : List ℕ → ℕ
 firstFree [] = 0
 firstFree (i ∷ is) = i
 
--- The slot of a ballot, before the ballots es in its chain.
+-- The slot of a ballot that the ballots es follow in the chain.
 unfoldable pub entrySlot : Entry → List Entry → Slot
 entrySlot e es = record { next = firstEntry es; juror = e .juror; ballot = e .ballot }
 
@@ -57,7 +56,7 @@ unfoldable pub withBallots : List Entry → List Slot → List Slot
 withBallots [] slots = slots
 withBallots (e ∷ es) slots = set (withBallots es slots) (e .slot) (entrySlot e es)
 
--- Slots with a chain of free slots, of ballots of b bytes.
+-- Slots with a chain of free slots, for ballots of b bytes.
 unfoldable pub withFree : ℕ → List ℕ → List Slot → List Slot
 withFree b [] slots = slots
 withFree b (i ∷ is) slots = set (withFree b is slots) i (freeSlot b (firstFree is))
@@ -66,6 +65,6 @@ withFree b (i ∷ is) slots = set (withFree b is slots) i (freeSlot b (firstFree
 unfoldable pub headSlot : ℕ → List Entry → List ℕ → Slot
 headSlot b es is = record { next = firstEntry es; juror = firstFree is; ballot = replicate b 0 }
 
--- The n slots of the urn that has these ballots and these free slots, in this order.
+-- The n slots of the urn with these ballots and these free slots, in this order.
 unfoldable pub layout : ℕ → ℕ → List Entry → List ℕ → List Slot
 layout n b es is = set (withBallots es (withFree b is (replicate n (freeSlot b 0)))) 0 (headSlot b es is)

@@ -3,9 +3,8 @@ use mathlib.Core.List.{List, [], _∷_, _++_}
 use Prim.Native.Nat.{ℕ, zero, suc, _+_}
 use lib.ListN.{getD, take, drop, replicate}
 
--- A slot other than slot 0 begins with the index of the slot that follows in its chain (0: none does); its second
--- byte is the juror, and the ballot comes behind them [urn]. Slot 0 has the same parts with a meaning of their own:
--- `next` is where the ballot chain begins, `juror` where the free chain does.
+-- A slot: the index of the next slot in its chain (0 at the end), the juror, the ballot [urn]. In slot 0, `next` is
+-- the first slot of the ballot chain and `juror` the first of the free chain.
 pub record Slot : Type 0 where
   pub next : ℕ
   pub juror : ℕ
@@ -32,10 +31,10 @@ unfoldable pub bytesOf : List Slot → List ℕ
 bytesOf [] = []
 bytesOf (s ∷ slots) = bytesOfSlot s ++ bytesOf slots
 
--- Slot i. There is nothing in a slot past the last.
+-- Slot i; past the last it is empty.
 unfoldable pub slotAt : List Slot → ℕ → Slot
 slotAt slots i = getD slots i (record { next = 0; juror = 0; ballot = [] })
 
--- A free slot: zeros after byte 0.
+-- A free slot: zeros after the next slot's index.
 unfoldable pub freeSlot : ℕ → ℕ → Slot
 freeSlot b next = record { next = next; juror = 0; ballot = replicate b 0 }

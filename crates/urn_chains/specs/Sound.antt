@@ -24,29 +24,28 @@ unfoldable pub noReason : Option Reason → Bool
 noReason none = true
 noReason (some r) = false
 
--- The numbers of candidates and grades are those of a jury that grades: a ranking shape, with no grades, is none.
+-- k and d are those of a graded jury. A ranking, which has no grades, is none.
 abbrev pub gradedShape : ℕ → ℕ → Bool
 gradedShape k d = gradedLimits (juryOfOne k d)
 
--- A good ballot: it has a byte for each candidate and grade, and none of the tests of ballots fails it, as the ballot
--- of a jury of one.
+-- A good ballot: as the only ballot of a jury of one, it passes all tests of ballots.
 unfoldable pub goodBallot : ℕ → ℕ → List ℕ → Bool
 goodBallot k d ballot = eqb (length ballot) (k * d) && noReason (firstOf (ballotReasons (juryOfOne k d) ballot))
 
--- A juror's number.
+-- A juror's number is 1 to 255.
 unfoldable pub goodJuror : ℕ → Bool
 goodJuror juror = leb 1 juror && leb juror 255
 
--- One of the slots from 1 on, of n slots with slot 0.
+-- Whether i is one of the slots from 1 on, where n slots are counted with slot 0.
 unfoldable pub inUrn : ℕ → ℕ → Bool
 inUrn n i = ltb 0 i && ltb i n
 
--- Each slot from 1 on is among these, and none is there twice.
+-- Each slot from 1 on is among these, none twice.
 unfoldable pub eachOnce : ℕ → List ℕ → Bool
 eachOnce n is = all (inUrn n) is && distinct is && all (λ i. member i is) (tabulate (n - 1) suc)
 
--- What the chains of an urn of n slots have to be: each slot from 1 on is in exactly one of them, once; the jurors are
--- distinct and numbered 1 to 255; the ballots are good.
+-- Good chains of an urn of n slots: each slot from 1 on is in one of them, once; jurors are numbered 1 to 255, none
+-- twice; ballots are good.
 unfoldable pub goodChains : ℕ → ℕ → ℕ → List Entry → List ℕ → Bool
 goodChains k d n es is =
     eachOnce n (map (λ e. e .slot) es ++ is)
@@ -57,12 +56,11 @@ goodChains k d n es is =
 unfoldable pub allZero : List ℕ → Bool
 allZero bytes = all (λ x. eqb x 0) bytes
 
--- Zeros after byte 0.
+-- Whether all bytes after the index are 0.
 unfoldable pub emptySlot : Slot → Bool
 emptySlot s = eqb (s .juror) 0 && allZero (s .ballot)
 
--- Both chains end; they are as they have to be; behind the two indexes of slot 0, and behind the index of a free slot,
--- all bytes are 0 [urn-sound].
+-- Both chains end and are good; slot 0 has zeros after its two indexes, and a free slot after its index [urn-sound].
 unfoldable pub soundSlots : ℕ → ℕ → List Slot → Bool
 soundSlots k d slots =
     ends (length slots) (slotAt slots 0 .next) slots
@@ -71,11 +69,11 @@ soundSlots k d slots =
     && allZero (slotAt slots 0 .ballot)
     && all (λ i. emptySlot (slotAt slots i)) (freeChain slots)
 
--- The number of slots in so many bytes, for ballots of b bytes.
+-- The number of slots in that many bytes, for ballots of b bytes.
 unfoldable pub slotCount : ℕ → ℕ → ℕ
 slotCount b bytes = bytes / slotBytes b
 
--- The length of an urn of 2 to 256 slots.
+-- Whether this is the length of an urn: 2 to 256 slots.
 unfoldable pub urnLength : ℕ → ℕ → Bool
 urnLength b bytes = eqb (bytes % slotBytes b) 0 && leb 2 (slotCount b bytes) && leb (slotCount b bytes) 256
 

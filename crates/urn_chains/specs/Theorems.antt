@@ -1,5 +1,5 @@
--- An urn is sound exactly where it is the layout of two good chains, and it is the layout of no others: so nobody has
--- to believe the walk along the chains that `sound` describes.
+-- An urn is sound exactly if it is the layout of two good chains, and these are unique. So nobody has to believe the
+-- walk along the chains that `sound` describes.
 use mathlib.Core.Path.{_≡_}
 use mathlib.Core.Logic.{_↔_}
 use mathlib.Core.Bool.{true}
@@ -9,7 +9,7 @@ use Rattle.urn_chains.specs.Slots.{bytesOf}
 use Rattle.urn_chains.specs.Chains.{Entry, layout}
 use Rattle.urn_chains.specs.Sound.{goodChains, entriesOf, freeOf, sound}
 
--- The urn is written from these ballots and these free slots, which are as the chains of an urn of n slots have to be.
+-- The urn is the layout of these ballots and these free slots, which are good chains of n slots.
 pub record LaidOut (k d n : ℕ) (es : List Entry) (is : List ℕ) (urn : List ℕ) : Type 0 where
   pub least : 2 ≤ n
   pub most : n ≤ 256
@@ -19,9 +19,9 @@ pub record LaidOut (k d n : ℕ) (es : List Entry) (is : List ℕ) (urn : List �
 pub record SoundIsLaidOut : Type 0 where
   pub exactly : (k d : ℕ) (urn : List ℕ)
       → (sound k d urn ≡ true) ↔ ((n : ℕ) × (es : List Entry) × (is : List ℕ) × LaidOut k d n es is urn)
-  -- the chains that are read in it are those that it was written from
+  -- reading the chains gives those that were written
   pub read-ballots : (k d n : ℕ) (es : List Entry) (is urn : List ℕ) → LaidOut k d n es is urn → entriesOf k d urn ≡ es
   pub read-free : (k d n : ℕ) (es : List Entry) (is urn : List ℕ) → LaidOut k d n es is urn → freeOf k d urn ≡ is
-  -- no other number of slots, no other ballots and no other free slots make this urn
+  -- no other number of slots, ballots or free slots gives this urn
   pub only : (k d n m : ℕ) (es fs : List Entry) (is js urn : List ℕ) → LaidOut k d n es is urn → LaidOut k d m fs js urn
       → (n ≡ m) × (es ≡ fs) × (is ≡ js)

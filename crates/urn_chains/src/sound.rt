@@ -20,7 +20,7 @@ pub enum Soundness {
     Unsound,
 }
 
-// The number of slots in so many bytes, for ballots of `bytes` bytes; 0 where no urn has that length.
+// How many slots `length` bytes make, with ballots of `bytes` bytes; 0 if no urn has that length.
 pub fn slots_in(bytes: usize, length: usize) -> usize
     requires { ⌜ bytes ≤ 56 ⌝ }
     ensures { λ r. ⌜ r ≡ cond (urnLength bytes length) (slotCount bytes length) 0 ⌝ }
@@ -39,8 +39,8 @@ pub fn slots_in(bytes: usize, length: usize) -> usize
     slots
 }
 
-// Tests slot 0 and both chains of an urn that has the length of one. The slots of the two chains differ, so that each
-// slot is met where as many are met as there are.
+// Tests slot 0 and both chains of an urn of the right length. No slot is in both chains, so all slots are in one if
+// the chains together have as many as there are.
 fn test_slots(k: usize, d: usize, urn: &[u8], slots: usize) -> Soundness
     requires { ⌜ GradedTable k d slots (now urn) ⌝ }
     ensures { λ r. ⌜ r ≡ soundness (soundSlots k d (slotsOf (k * d) slots (now (urn .entry))))
@@ -68,7 +68,7 @@ fn test_slots(k: usize, d: usize, urn: &[u8], slots: usize) -> Soundness
     }
 }
 
-// Tests an urn of any length and any bytes.
+// Tests an urn of any length, with any bytes.
 pub fn test(k: usize, d: usize, urn: &[u8]) -> Soundness
     requires { ⌜ T (gradedShape k d) ⌝ }
     ensures { λ r. ⌜ r ≡ soundness (sound k d (now (urn .entry))) (length (entriesOf k d (now (urn .entry)))) ⌝ }

@@ -13,21 +13,20 @@ ghost use Rattle.urn_chains.specs.Sound.{gradedShape, goodJuror, goodBal
 ghost use Rattle.urn_chains.specs.inner.Table.{SlotTable, GradedTable};
 ghost use Rattle.urn_chains.specs.inner.Walk.{BallotLook, FreeLook, Walked, noMarks, looked, ballotAt, freeAt, ballotsFrom, freeFrom};
 
-// What a walk along a chain found: whether all is well and, if so, the slots met so far and how many this chain has.
+// What a walk along a chain found: whether all is well and, if so, the slots met so far and the length of this chain.
 pub struct Walk {
     pub good: bool,
     pub marks: [bool; 256],
     pub count: usize,
 }
 
-// What one slot of a chain has to say: its juror's number and the next slot's index, where it is as it has to be.
+// What a look at one slot of a chain finds: its juror and the next slot's index, if the slot is sound.
 pub enum SlotCheck {
     Sound { juror: usize, next: usize },
     Wrong,
 }
 
-// Whether all bytes are 0. Each of them is looked at: where a loop may end at any byte, the processor cannot take
-// several at a time.
+// Whether all bytes are 0. It looks at each of them: a loop that may end at any byte cannot be vectorised.
 pub fn is_zero(bytes: &[u8]) -> bool
     ensures { λ r. ⌜ r ≡ allZero (now (bytes .entry)) ⌝ }
 {
@@ -42,7 +41,8 @@ pub fn is_zero(bytes: &[u8]) -> bool
     zero
 }
 
-// Whether a slot of the ballot chain holds a juror's number and a good ballot. The number of a juror is a byte.
+// Whether a slot of the ballot chain holds a juror's number and a good ballot. A byte is at most 255, so only 0 is no
+// juror's number.
 fn holds_ballot(k: usize, d: usize, juror: u8, ballot: &[u8]) -> bool
     requires { ⌜ T (gradedShape k d) ⌝ }
     ensures { λ r. ⌜ r ≡ (goodJuror juror && goodBallot k d (now (ballot .entry))) ⌝ }
@@ -61,7 +61,7 @@ fn holds_ballot(k: usize, d: usize, juror: u8, ballot: &[u8]) -> bool
     }
 }
 
-// A slot of the ballot chain.
+// Looks at a slot of the ballot chain.
 fn look_at_ballot(urn: &[u8], k: usize, d: usize, slots: usize, slot: usize) -> SlotCheck
     requires { ⌜ BallotLook k d slots slot (now urn) ⌝ }
     ensures { λ r. ⌜ r ≡ looked (ballotAt k d (slotsOf (k * d) slots (now (urn .entry))) slot)
@@ -84,7 +84,7 @@ fn look_at_ballot(urn: &[u8], k: usize, d: usize, slots: usize, slot: usize) -> 
     }
 }
 
-// A slot of the free chain, of an urn whose ballots have so many bytes.
+// Looks at a slot of the free chain. Ballots have `bytes` bytes.
 fn look_at_free(urn: &[u8], bytes: usize, slots: usize, slot: usize) -> SlotCheck
     requires { ⌜ FreeLook bytes slots slot (now urn) ⌝ }
     ensures { λ r. ⌜ r ≡ looked (freeAt (slotsOf bytes slots (now (urn .entry))) slot)
@@ -110,7 +110,7 @@ fn look_at_free(urn: &[u8], bytes: usize, slots: usize, slot: usize) -> SlotChec
     }
 }
 
-// Walks along the ballot chain of an urn. A chain that has not ended after as many slots as there are never ends.
+// Walks along the ballot chain. A chain that has not ended after as many slots as there are never ends.
 pub fn walk_ballots(urn: &[u8], k: usize, d: usize, slots: usize) -> Walk
     requires { ⌜ GradedTable k d slots (now urn) ⌝ }
     ensures { λ r. ⌜ Walked
@@ -163,7 +163,7 @@ pub fn walk_ballots(urn: &[u8], k: usize, d: usize, slots: usize) -> Walk
     }
 }
 
-// Walks along the free chain of an urn in the same way, after the slots that were met before.
+// Walks along the free chain in the same way, with the slots that were met before.
 pub fn walk_free(urn: &[u8], bytes: usize, slots: usize, met: [bool; 256]) -> Walk
     requires { ⌜ SlotTable bytes slots (now urn) ⌝ }
     ensures { λ r. ⌜ Walked

@@ -1,4 +1,4 @@
--- Ballots one after the other: good ballots of a jury of one make good ballots of a jury of as many.
+-- Good ballots of juries of one, one after another, are good ballots of a jury of as many.
 -- Assumes nothing.
 use mathlib.Core.Path.{_≡_, _∙_, sym, ap, subst}
 use mathlib.Core.Logic.{⊎-elim}
@@ -46,7 +46,7 @@ good-none k d =
     nothing zero = omega arith
     nothing (suc i) = omega arith
 
--- ballots behind ballots
+-- ballots after ballots
 module _ (k d m n : ℕ) (xs ys : List ℕ) (g : Good k d m xs) (h : Good k d n ys) where
   both-bits : (i : ℕ) → getD (xs ++ ys) i 0 ≤ 1
   both-bits i =
@@ -111,7 +111,7 @@ good-along k d S (i ∷ is) w e =
     subst (λ (m : ℕ). Good k d m (x ++ rest)) {x = 1 + length is} {y = suc (length is)} (omega arith)
     (good-both k d 1 (length is) x rest (good-one k d x w (all-first p i is e)) (good-along k d S is w (all-rest p i is e)))
 
--- good ballots, as many as the shape says, are accepted
+-- good ballots, as many as n says, are accepted
 pub good-accepted : (s : Shape) (xs : List ℕ) → gradedLimits s ≡ true → Good (s .candidates) (s .grades) (s .ballots) xs → AcceptedBallots s xs
 good-accepted s xs w g =
     record {

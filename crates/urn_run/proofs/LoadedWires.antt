@@ -50,7 +50,7 @@ pub along-step : (S : List Slot) (i : ℕ) (is : List ℕ) → along S (i ∷ is
 unfolding joined entryAt
 along-step S i is = refl
 
--- The table after `count` ballots, slot `slot` being the next: writing the rest behind them is writing all from the start.
+-- The table after `count` ballots, with `slot` next: writing the rest after them is writing all from the start.
 pub record OnLoad (S : List Slot) (n b size : ℕ) (final ws : List ℕ) (count slot : ℕ) : Type 0 where
   pub within : count ≤ n
   pub goes : ends (n - count) slot S ≡ true
@@ -153,7 +153,7 @@ module _ (k d : ℕ) (urn : List ℕ) (w : T (gradedLimits (juryOfOne k d))) (e 
       let t = its-table k d urn w e in
       omega (arith, ap length (ballot-is (k * d) n urn i h (t .size)), length-take (k * d) (drop (i * (2 + k * d) + 2) urn), length-drop (i * (2 + k * d) + 2) urn, slot-within i n (k * d) h, t .size)
 
-  -- in the end the table begins with the ballots, and goes on as it was
+  -- in the end the table begins with the ballots, and is unchanged after them
   pub loaded : (ws last : List ℕ) → length (chainBallots k d urn) ≤ length ws
       → last ≡ sets ws 0 (along (slotsOf (k * d) (slotCount (k * d) (length urn)) urn) (chain (slotCount (k * d) (length urn)) (getD urn 0 0) (slotsOf (k * d) (slotCount (k * d) (length urn)) urn)))
       → last ≡ chainBallots k d urn ++ drop (length (chainBallots k d urn)) ws
@@ -168,7 +168,7 @@ module _ (k d : ℕ) (urn : List ℕ) (w : T (gradedLimits (juryOfOne k d))) (e 
       let n = slotCount (k * d) (length urn) in
       load-start (slotsOf (k * d) n urn) n (k * d) (getD urn 0 0) slot ws q its-end (can-find k d urn w e) (omega (arith, ap length its-ballots))
 
-  -- one turn: what is read lies in the urn, what is written in the table, and the table goes on
+  -- one turn reads inside the urn and writes inside the table
   module _ (size : ℕ) (final ws : List ℕ) (count slot : ℕ)
       (on : OnLoad (slotsOf (k * d) (slotCount (k * d) (length urn)) urn) (slotCount (k * d) (length urn)) (k * d) size final ws count slot) (p : 0 < slot) where
     turn-below : slot < slotCount (k * d) (length urn)

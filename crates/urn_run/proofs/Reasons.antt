@@ -1,4 +1,4 @@
--- The reasons of a run on an urn: what their order answers, and what is known where none applies.
+-- The reasons of a run on an urn: what their order answers, and what is known if none applies.
 -- Assumes nothing.
 use mathlib.Core.Path.{_≡_, _∙_, refl, sym, ap, subst}
 use mathlib.Core.Logic.{⊎-elim, _≢_}
@@ -36,7 +36,7 @@ use Rattle.urn_chains.proofs.SoundLayouts.{its-parts}
 use Rattle.urn_run.specs.Run.{joined, chainBallots, ballotsIn, urnRunReasons, urnRunResult}
 use Rattle.urn_run.proofs.JoinedBallots.{Good, good-along, good-accepted}
 
--- the first reason of tests one after the other
+-- the first reason of tests in order
 first-cons : (x : Option Reason) (xs : List (Option Reason)) → firstOf (x ∷ xs) ≡ orElse x (firstOf xs)
 unfolding firstOf orElse
 first-cons none xs = refl
@@ -50,7 +50,7 @@ or-assoc (some r) y z = refl
 unfoldable pub firstOnUrn : Bool → Bool → Option Reason → Option Reason → Option Reason → Option Reason
 firstOnUrn graded isSound list number lent = orElse (unless graded 1) (orElse (unless isSound 13) (orElse list (orElse number lent)))
 
--- a whole shape of a jury that grades
+-- a graded shape
 module _ (s : Shape) (g : gradedLimits s ≡ true) where
   pub whole-within : withinLimits s ≡ true
   whole-within = graded-within s g
@@ -77,7 +77,7 @@ module _ (s : Shape) (g : gradedLimits s ≡ true) where
       passed (some r) = unfold firstOf in refl
 
   module _ (urn : List ℕ) (e : sound (s .candidates) (s .grades) urn ≡ true) where
-    -- the ballots of a sound urn are good, and as many bytes as the number of ballots says
+    -- the ballots of a sound urn are good, and their number gives their length
     pub chain-good : Good (s .candidates) (s .grades) (ballotsIn (s .candidates) (s .grades) urn) (chainBallots (s .candidates) (s .grades) urn)
     unfolding chainBallots ballotsIn ballotChain
     chain-good =
@@ -101,7 +101,7 @@ module _ (s : Shape) (g : gradedLimits s ≡ true) where
         let p : 0 < k * d = mul-pos (w .k-least) (omega (arith, w .d-least)) in
         n (eq-of-mul-eq-mul-right (k * d) p (ballotsIn k d urn) (s .ballots) (sym (chain-good .size) ∙ q ∙ bytes-are s w ∙ mul-assoc (s .ballots) k d))
 
-    -- so of the tests of ballots only 4 can apply to them, and it does where n is not their number
+    -- so of the tests of ballots only 4 can apply, and does if n is not their number
     four : (xs : List ℕ) → length xs ≢ ballotBytes s → firstOf (ballotReasons s xs) ≡ some (reasonAt 4 0)
     unfolding judged unless firstOf
     four xs n = judged-by s xs false (firstAboveOne 0 xs) (kindReason s xs) (ne-eqb (length xs) (ballotBytes s) n) refl refl
@@ -177,7 +177,7 @@ module _ (s : Shape) (table urn tape wires board : List ℕ) where
           let o = firstOf (runReasons s table xs tape wires board) in
           ap (λ (r : Option Reason). runResultAfter r s (gatesOf table) xs tape wires board) same-reasons ∙ sym (ran-by s table xs tape wires board o refl)
 
-  -- the whole of a call by its first reason
+  -- what a call leaves, by its first reason
   pub ran-on-urn-by : (o : Option Reason) → firstOf (urnRunReasons s table urn tape wires board) ≡ o
       → urnRunResult s table urn tape wires board ≡ runResultAfter o s (gatesOf table) (chainBallots (s .candidates) (s .grades) urn) tape wires board
   unfolding urnRunResult
@@ -205,14 +205,14 @@ module _ (s : Shape) (table urn tape wires board : List ℕ) where
       shape false g = no (reasonAt 1 0) (by-1 g)
 
   module _ (p : UrnRunPassed) where
-    -- the ballots are as many bytes as the list has inputs, and have room in the wire table
+    -- the ballots are as long as the list has inputs, and fit into the wire table
     pub chain-length : length (chainBallots (s .candidates) (s .grades) urn) ≡ ballotBytes s
     chain-length = p .run .ballotsPassed .size
 
     pub chain-room : length (chainBallots (s .candidates) (s .grades) urn) ≤ length wires
     chain-room = omega (arith, chain-length, p .run .wiresLength)
 
-    -- what the evaluation asks once they stand there
+    -- what the evaluation asks once they are there
     pub finish-ready : (loaded : List ℕ) → length loaded ≡ length wires → FinishReady (ballotBytes s) table (s .candidates) tape loaded board
     finish-ready loaded l =
         let f = run-ready s table (chainBallots (s .candidates) (s .grades) urn) tape wires board (p .run) in
@@ -235,7 +235,7 @@ module _ (s : Shape) (table urn tape wires board : List ℕ) where
         let xs = chainBallots (s .candidates) (s .grades) urn in
         omega (arith, ap length q, length-append xs (drop (length xs) wires), length-drop (length xs) wires, chain-room)
 
--- of a shape outside the limits
+-- for a shape outside the limits
 pub outside-urn-run : (s : Shape) → withinLimits s ≡ false → (table urn tape wires board : List ℕ)
     → urnRunResult s table urn tape wires board ≡ record { answer = refused (reasonAt 1 0); wires = wires; board = board }
 unfolding runResultAfter

@@ -1,4 +1,4 @@
--- A run on an urn is the run on the ballots of its chain, and the three demands hold of it.
+-- A run on an urn is the run on its chain's ballots, and the three demands hold for it.
 -- Assumes nothing.
 use mathlib.Core.Path.{_≡_, _∙_, refl, sym, ap, subst}
 use mathlib.Core.Logic.{_≢_}

@@ -1,4 +1,5 @@
--- One candidate, two grades. The ballots of an urn follow the chain, not the slots; and demand 3 on two concrete urns.
+-- One candidate, two grades. The ballots come in the order of the chain, not of the slots; and demand 3 on two
+-- concrete urns.
 use mathlib.Core.Path.{_≡_, refl}
 use mathlib.Core.List.{List, [], _∷_}
 use Prim.Native.Nat.{ℕ}
@@ -23,21 +24,21 @@ pub both : ballotsIn 1 2 backwards ≡ 2
 unfolding backwards ballotsIn slotBytes slotOf slotsOf slotAt chain entryAt ballotSlots ballotChain slotCount urnSlots
 both = refl
 
--- Juror 9 gave the better grade, and lies in the one slot there is; juror 7 gave the worse one, and lies in the
--- second of two slots, the first being free.
+-- Juror 9, in the only slot, gave the better grade; juror 7, in the second of two slots, the first being free, the
+-- worse.
 unfoldable pub better : List ℕ
 better = 1 ∷ 0 ∷ 0 ∷ 0 ∷ 0 ∷ 9 ∷ 1 ∷ 0 ∷ []
 
 unfoldable pub worse : List ℕ
 worse = 2 ∷ 1 ∷ 0 ∷ 0 ∷ 0 ∷ 0 ∷ 0 ∷ 0 ∷ 0 ∷ 7 ∷ 0 ∷ 1 ∷ []
 
--- Two urns of other lengths, jurors, slots and ballots, equal closing bytes, two tapes, one board. The list is a
--- stranger's, one gate that says whether wire 0 and wire 1 are both 1.
+-- Two urns with different lengths, jurors, slots and ballots, equal closing bytes, two tapes, one board. The list is
+-- a stranger's, a single gate that tells whether wires 0 and 1 are both 1.
 pub record PairOfUrns : Type 0 where
   -- the better grade under the mask 0
   pub first-run : urnRunResult oneBallot oneGate better (0 ∷ []) (9 ∷ 9 ∷ 9 ∷ []) (9 ∷ 9 ∷ [])
       ≡ record { answer = accepted (record { gates = 1; conditional = 1 }); wires = 0 ∷ 0 ∷ 0 ∷ []; board = 1 ∷ 0 ∷ [] }
-  -- the worse grade under the mask 1, over other old bytes: the same board
+  -- the worse grade under the mask 1, over other old contents: the same board
   pub second-run : urnRunResult oneBallot oneGate worse (1 ∷ []) (7 ∷ 7 ∷ 7 ∷ []) (7 ∷ 7 ∷ [])
       ≡ record { answer = accepted (record { gates = 1; conditional = 1 }); wires = 0 ∷ 0 ∷ 0 ∷ []; board = 1 ∷ 0 ∷ [] }
   -- the worse grade under the mask 0: another board

@@ -14,7 +14,7 @@ use Rattle.tally.specs.Run.{bufferReasons, RunResult, runResultAfter}
 use Rattle.urn_chains.specs.Chains.{Entry}
 use Rattle.urn_chains.specs.Sound.{sound, entriesOf}
 
--- The ballots of a chain, one after the other with nothing between.
+-- The ballots of a chain, without gaps.
 unfoldable pub joined : List Entry → List ℕ
 joined [] = []
 joined (e ∷ es) = e .ballot ++ joined es
@@ -26,9 +26,8 @@ chainBallots k d urn = joined (entriesOf k d urn)
 unfoldable pub ballotsIn : ℕ → ℕ → List ℕ → ℕ
 ballotsIn k d urn = length (entriesOf k d urn)
 
--- The tests in checking order: 1, which a ranking shape gives too, 13, those of the list (2 and 3), 4 where n is not
--- the number of ballots in the urn, and those of what else is lent (7, 8, 9, 10). The ballots of a sound urn are
--- good, so that 5 and 6 concern no run on an urn.
+-- The tests in checking order: 1, also for a ranking; 13; 2 and 3 of the list; 4 if n is not the number of ballots in
+-- the urn; 7 to 10 of the buffers. The ballots of a sound urn are good, so 5 and 6 never apply.
 unfoldable pub urnRunReasons : Shape → List ℕ → List ℕ → List ℕ → List ℕ → List ℕ → List (Option Reason)
 urnRunReasons s table urn tape wires board =
     unless (gradedLimits s) 1
@@ -37,8 +36,8 @@ urnRunReasons s table urn tape wires board =
     ∷ unless (eqb (ballotsIn (s .candidates) (s .grades) urn) (s .ballots)) 4
     ∷ bufferReasons (ballotBytes s) (s .candidates) (sizeOf (gatesOf table)) tape wires board
 
--- What a call leaves: a refusal what was lent, an accepted run what a run leaves on the ballots of the chain. The urn
--- is lent for reading alone.
+-- What a call leaves: after a refusal what was lent, else what a run on the chain's ballots leaves. The urn is lent
+-- for reading only.
 unfoldable pub urnRunResult : Shape → List ℕ → List ℕ → List ℕ → List ℕ → List ℕ → RunResult
 urnRunResult s table urn tape wires board =
     runResultAfter (firstOf (urnRunReasons s table urn tape wires board)) s (gatesOf table)

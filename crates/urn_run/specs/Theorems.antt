@@ -1,5 +1,5 @@
--- What holds of a run on an urn, over the definition that the contract equates with the answer, the wire table and the
--- board. The three demands are those of `tally`, for this kind of call: its inputs are an urn.
+-- What holds for a run on an urn, about the definition that the contract equates with answer, wire table and board.
+-- The three demands are those of `tally` for this kind of call, whose input is an urn.
 use mathlib.Core.Path.{_≡_}
 use mathlib.Core.Logic.{_≢_}
 use mathlib.Core.Bool.{true, false}
@@ -23,50 +23,50 @@ use Rattle.urn_run.specs.Run.{chainBallots, ballotsIn, urnRunResult}
 abbrev pub ballotsFor : Shape → List ℕ → List ℕ
 ballotsFor s urn = chainBallots (s .candidates) (s .grades) urn
 
--- A shape that grades, and a sound urn of n ballots.
+-- A graded shape, and a sound urn of n ballots.
 pub record RightUrn (s : Shape) (urn : List ℕ) : Type 0 where
   pub graded : gradedLimits s ≡ true
   pub isSound : sound (s .candidates) (s .grades) urn ≡ true
   pub number : ballotsIn (s .candidates) (s .grades) urn ≡ s .ballots
 
--- A run on an urn equals the run on the ballots of its chain: answer, wire table and board, refusals too.
+-- A run on an urn equals the run on its chain's ballots, in answer, wire table and board, refusals included.
 pub record SameAsRun : Type 0 where
-  -- of a shape that grades and a sound urn, whatever n is
+  -- for a graded shape and a sound urn, whatever n is
   pub on-chain : (s : Shape) (table urn tape wires board : List ℕ)
       → gradedLimits s ≡ true → sound (s .candidates) (s .grades) urn ≡ true
       → urnRunResult s table urn tape wires board ≡ runResult s table (ballotsFor s urn) tape wires board
-  -- where n is the number of ballots in the urn, these are ballots that the run accepts
+  -- if n is the number of ballots in the urn, the run accepts them
   pub good-ballots : (s : Shape) (urn : List ℕ) → RightUrn s urn → AcceptedBallots s (ballotsFor s urn)
   -- another n gives 4, after the reasons of the list
   pub other-number : (s : Shape) (table urn tape wires board : List ℕ) (size : Size)
       → gradedLimits s ≡ true → sound (s .candidates) (s .grades) urn ≡ true
       → testOutcome s table ≡ accepted size → ballotsIn (s .candidates) (s .grades) urn ≢ s .ballots
       → urnRunResult s table urn tape wires board .answer ≡ refused (reasonAt 4 0)
-  -- any other urn gives 13, before the reasons of the list
+  -- an unsound urn gives 13, before the reasons of the list
   pub unsound : (s : Shape) (table urn tape wires board : List ℕ)
       → gradedLimits s ≡ true → sound (s .candidates) (s .grades) urn ≡ false
       → urnRunResult s table urn tape wires board .answer ≡ refused (reasonAt 13 0)
-  -- any other shape gives 1, before all
+  -- any other shape gives 1, first of all
   pub other-shape : (s : Shape) (table urn tape wires board : List ℕ) → gradedLimits s ≡ false
       → urnRunResult s table urn tape wires board .answer ≡ refused (reasonAt 1 0)
 
--- Demand 1: the wire table is emptied, which held the ballots in clear.
+-- Demand 1: the wire table, which held the ballots in clear, is emptied.
 abbrev pub UrnRunMemory : Type 0
 UrnRunMemory =
     (s : Shape) (table urn tape wires board : List ℕ)
     → BoardKeepsMemory (1 ∷ 13 ∷ 2 ∷ 3 ∷ 4 ∷ 7 ∷ 8 ∷ 9 ∷ 10 ∷ []) wires board
     (urnRunResult s table urn tape wires board)
 
--- Demand 2, with the list that an accepted write left: the closing bytes are those of majority judgment over the
--- ballots of the chain.
+-- Demand 2, with the list that an accepted write left: the closing bytes are majority judgment's on the chain's
+-- ballots.
 abbrev pub UrnAccuracy : (s : Shape) (table : List ℕ) (size : Size) → Type 0
 UrnAccuracy = Accuracy urnRunResult ballotsFor RightUrn
 
--- Demand 3, of two urns: they may have other lengths, jurors, free slots and chain orders.
+-- Demand 3, for two urns, which may differ in length, jurors, free slots and chain order.
 abbrev pub UrnTellsNoMore : Type 0
 UrnTellsNoMore = BoardTellsNoMore urnRunResult ballotsFor
 
--- The run on the urn, and the three demands of it.
+-- The run on the urn, and the three demands for it.
 pub record UrnRunHolds : Type 0 where
   pub same-as-run : SameAsRun
   pub memory : UrnRunMemory

@@ -54,8 +54,8 @@ fn test_run(
     }
 }
 
-// Runs a list, whoever wrote it, on the ballots in an urn, in chain order, with one mask for each conditional gate. The
-// ballots go from their slots into the wire table, which is emptied once the closing bytes stand on the board.
+// Runs a list, whoever wrote it, on the ballots in an urn, in chain order, with one mask for each conditional gate.
+// The ballots go straight into the wire table, which is emptied once the closing bytes are on the board.
 pub fn run_on_urn(
     shape: Shape,
     table: &[u32],

@@ -1,13 +1,13 @@
-//! Competing houses tally together, each in a process of its own: they talk over loopback TCP with a coordinator that
-//! adds what they publish and holds nothing else.
+//! Competing houses tally together, each in its own process. They talk over loopback TCP with a coordinator that adds
+//! what they publish and holds no share.
 //!
 //!     houses T K D N < BALLOTS        the I ballot bytes of a jury of K blends, D grades (0: rankings) and N ballots
 //!
-//! prints the rounds R, the exchanges, the bytes that all houses sent, the time and the closing bytes. Where a house
-//! goes away, falls silent or sends a wrong length, everybody ends with an error. For trials a house may be told to do
-//! so:
-//!     --leave P R    house P goes away in round R      --short P R    it sends a byte too few      --silent P R
-//!     --wait MS      how long anybody waits for anybody, 10,000 unless said otherwise
+//! T is the number of houses, 2 to 5. The program prints the rounds R, the exchanges, the bytes that all houses sent,
+//! the time and the closing bytes. If a house leaves, falls silent or sends a wrong length, all processes end with an
+//! error. For trials, a house can be told to misbehave:
+//!     --leave P R    house P leaves in round R      --short P R    it sends a byte too few      --silent P R
+//!     --wait MS      how long a process waits for another; 10,000 if not given
 
 use jugyvaros::trustee::Seat;
 use jugyvaros::{GateList, Secret, Shape};
@@ -22,7 +22,7 @@ type Outcome<T> = Result<T, Box<dyn Error>>;
 
 const POLL: Duration = Duration::from_millis(2);
 
-/// What everybody knows: the shape's own list and its levels, who takes part and how long anybody waits.
+/// What every process knows: the shape's own list and its levels, the number of houses, and how long to wait.
 struct Plan {
     houses: usize,
     list: GateList,
@@ -53,7 +53,7 @@ impl Plan {
     }
 }
 
-/// Eight bits a byte.
+/// Packs bits into bytes, eight a byte.
 fn packed(bits: impl Iterator<Item = u8>) -> Vec<u8> {
     let bits: Vec<u8> = bits.collect();
     bits.chunks(8).map(|eight| eight.iter().enumerate().fold(0, |byte, (i, bit)| byte | bit << i)).collect()
@@ -63,7 +63,7 @@ fn bit(bytes: &[u8], i: usize) -> u8 {
     bytes[i / 8] >> (i % 8) & 1
 }
 
-/// A message is its length and its bytes. A length that is not the expected one is an error, and so is a silence.
+/// Receives a message: its length, then its bytes. An unexpected length is an error, and so is silence.
 fn send(stream: &mut TcpStream, bytes: &[u8]) -> std::io::Result<()> {
     stream.write_all(&(bytes.len() as u32).to_le_bytes())?;
     stream.write_all(bytes)
@@ -88,7 +88,7 @@ fn bounded(stream: &TcpStream, wait: Duration) -> std::io::Result<()> {
     stream.set_write_timeout(Some(wait))
 }
 
-/// Waits for each house to call, which says its number first.
+/// Waits until every house has connected. A house sends its number first.
 fn gather(plan: &Plan, listener: &TcpListener) -> Outcome<Vec<TcpStream>> {
     listener.set_nonblocking(true)?;
     let deadline = Instant::now() + plan.wait;
@@ -141,7 +141,7 @@ fn coordinate(plan: &Plan) -> Outcome<()> {
     Ok(())
 }
 
-/// What a house is told to do wrong, for trials.
+/// How a house is told to misbehave, for trials.
 #[derive(Clone, Default)]
 struct Fault {
     kind: String,
@@ -149,7 +149,7 @@ struct Fault {
     round: usize,
 }
 
-/// A house: it reads its own ballot shares and triples, and hears nothing but the sums.
+/// A house: it reads its own ballot shares and triples, and hears nothing but sums.
 fn tally(plan: &Plan, number: usize, port: u16, fault: &Fault) -> Outcome<()> {
     let (list, opened) = (&plan.list, 2 * plan.list.conditional());
     let mut ballot_shares = Secret::<u8>::zeros(list.inputs());
@@ -186,7 +186,7 @@ fn tally(plan: &Plan, number: usize, port: u16, fault: &Fault) -> Outcome<()> {
     Ok(())
 }
 
-/// Starts this program again in another part.
+/// Starts this program again, as the coordinator or a house.
 fn part(words: &[String], role: &[String]) -> std::io::Result<Child> {
     let mut command = Command::new(std::env::current_exe()?);
     command.args(role).args(words).stdin(Stdio::piped());
@@ -196,7 +196,7 @@ fn part(words: &[String], role: &[String]) -> std::io::Result<Child> {
     command.spawn()
 }
 
-/// Waits for all parts to end. As soon as one fails, or none ends in time, the others are ended too.
+/// Waits for all processes to end. If one fails, or none ends in time, it kills the others.
 fn await_all(mut children: Vec<Child>, wait: Duration) -> Outcome<()> {
     let mut last = Instant::now();
     let mut running: Vec<usize> = (0..children.len()).collect();
@@ -220,7 +220,7 @@ fn await_all(mut children: Vec<Child>, wait: Duration) -> Outcome<()> {
     Ok(())
 }
 
-/// The dealer: it shares the ballots, hands each house its own shares, and forgets them.
+/// The dealer: it shares the ballots, gives each house its own shares, and forgets them.
 fn deal_out(plan: &Plan, words: &[String]) -> Outcome<()> {
     let mut ballots = Vec::new();
     std::io::stdin().read_to_end(&mut ballots)?;

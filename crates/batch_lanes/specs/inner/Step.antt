@@ -10,7 +10,7 @@ use Rattle.gates.specs.Board.{conditionalCount, shownBit}
 use Rattle.gates.specs.inner.Step.{GateReady, rangeOf, stepWires, stepBoard, gateAt}
 use Rattle.batch_lanes.specs.Lane.{laneCount, laneOf}
 
--- One gate: its marks are at hand, and it is ready.
+-- One gate: the lent column of marks is the table's, and the gate is ready.
 pub record GateAsks (marks : List Bool) (table : List ℕ) (g own : ℕ) (tape : List ℕ) (shown : ℕ)
     (wires board : List ℕ) : Type 0 where
   pub marks-are : marks ≡ conditionalMarks
@@ -35,7 +35,7 @@ pub record StepDone (inputs : ℕ) (table : List ℕ) (from to : ℕ) (tape : Li
   pub board-is : (j : ℕ) → j < laneCount
       → laneOf j board′ ≡ stepBoard inputs table from to (laneOf j tape) shown (laneOf j wires) (laneOf j board)
 
--- The closing words: there are so many wires, and so much room behind the shown words.
+-- The closing words: there are as many wires, and room for them after the shown words.
 pub record CloseFits (outputs : ℕ) (wires : List ℕ) (shown : ℕ) (board : List ℕ) : Type 0 where
   pub enough : outputs ≤ length wires
   pub room : length board ≡ shown + outputs

@@ -1,4 +1,4 @@
--- What an inner function puts in the answer array.
+-- What an inner function puts into the answer array.
 use mathlib.Core.Path.{_≡_}
 use mathlib.Core.List.{List}
 use Prim.Native.Nat.{ℕ}
@@ -6,7 +6,7 @@ use lib.ListN.{length}
 use lib.Seq.{sets}
 use Rattle.c_answers.specs.Numbers.{sizeAnswer}
 
--- The closing bytes stand behind reason, place, G and C, and there are eight.
+-- The eight closing bytes come after reason, place, G and C.
 pub record PutClosing (closing before after : List ℕ) : Type 0 where
   pub bytes : after ≡ sets before sizeAnswer closing
   pub eight : length closing ≡ 8

@@ -20,7 +20,7 @@ use Rattle.dispatch.specs.Call.{Call, juriesIn}
 use Rattle.dispatch.specs.NoIdleRound.{NoIdleRound}
 use Rattle.dispatch.specs.Reasons.{verdictReason}
 
--- The wires of all juries.
+-- How many wires all juries have.
 unfoldable pub wireBytes : List JuryHeader → ℕ
 wireBytes [] = 0
 wireBytes (s ∷ ss) = ballotBytes (shapeOf s) + s .gates + wireBytes ss
@@ -34,7 +34,7 @@ mostGates (s ∷ ss) = max (s .gates) (mostGates ss)
 abbrev pub conditionalOf : JuryHeader → Tables → ℕ
 conditionalOf s p = conditionalCount (gatesOf (p .lists))
 
--- What the tests of one jury answer, on what is left of the tables: its first reason, or the size of its list.
+-- What the tests of one jury answer, on the rest of the tables: its first reason, or the size of its list.
 abbrev pub JuryTested : JuryHeader → Tables → Outcome Size → Type 0
 JuryTested s t answer = answer ≡ outcome (firstOf (reasonsOf s t)) (sizeOf (gatesOf (listOf s t)))
 
@@ -49,7 +49,7 @@ unfoldable pub refusalIn : Answer → Option Reason
 refusalIn (answer.Accepted gates conditional) = none
 refusalIn (answer.Refused r) = some (reasonOf r)
 
--- What the rounds ask: juries that are not turned away.
+-- What the rounds ask: juries that are not refused.
 pub record Ready (c : Call) (conditional : List ℕ) : Type 0 where
   pub few : c .count ≤ 8
   pub quantum-least : 1 ≤ c .quantum
@@ -57,14 +57,14 @@ pub record Ready (c : Call) (conditional : List ℕ) : Type 0 where
   pub accepted : firstOf (juryReasons 0 (juriesIn c) (c .tables)) ≡ none
   pub conditionalAre : conditional ≡ eightOf conditionalOf (juriesIn c) (c .tables)
 
--- What the numbers of rounds ask: none of the sums wraps.
+-- What counting the rounds asks: no sum wraps.
 pub record RoundsSmall (count : ℕ) (headers : List JuryHeader) (quantum : ℕ) : Type 0 where
   pub few : count ≤ 8
   pub quantum-least : 1 ≤ quantum
   pub quantum-most : quantum ≤ 65536
   pub gates-most : mostGates (take count headers) ≤ 1048576
 
--- What they leave: so many rounds are done that every jury has done all its gates, and none of them was idle.
+-- What the rounds leave: every jury has done all its gates, and no round was idle.
 pub record Finished (c : Call) (conditional wires boards : List ℕ) : Type 0 where
   pub done : ℕ
   pub shown : List ℕ

@@ -32,7 +32,7 @@ pub record PlacesFit (at : Places) (s : JuryHeader) (c : ℕ) : Type 0 where
   pub wires : at .wires + (ballotBytes (shapeOf s) + s .gates) < 18446744073709551616
   pub boards : at .boards + (c + s .candidates) < 18446744073709551616
 
--- One jury under way on its pieces p, as they were lent.
+-- One jury at work on its pieces p, which are as they were lent.
 pub record JuryState (given : ℕ) (s : JuryHeader) (p : Tables) (wires board : List ℕ) (shown : ℕ) : Type 0 where
   pub run : RunReady (p .ballots) (p .lists) (s .candidates) (p .tapes) (p .wires) (p .boards)
   pub some-gate : 1 ≤ s .gates
@@ -41,7 +41,7 @@ pub record JuryState (given : ℕ) (s : JuryHeader) (p : Tables) (wires board : 
   pub boardIs : board ≡ juryBoard given s p
   pub count : shown ≡ juryShown given s p
 
--- What a turn asks: a jury under way, for some earlier contents of its wire table and board.
+-- What a turn asks: a jury at work, for some old contents of its wire table and board.
 pub record TurnReady (given quantum : ℕ) (s : JuryHeader) (list ballots tape wires board : List ℕ) (shown : ℕ) : Type
     0 where
   pub quantum-least : 1 ≤ quantum
@@ -50,7 +50,7 @@ pub record TurnReady (given quantum : ℕ) (s : JuryHeader) (list ballots tape w
   pub board-lent : List ℕ
   pub state : JuryState given s (lent list ballots tape wires-lent board-lent) wires board shown
 
--- What a round asks: a call that stands between two rounds. A jury has at most 1,048,576 gates, so no more rounds come
+-- What a round asks: a call between two rounds. A jury has at most 1,048,576 gates, so at most that many rounds come
 -- before one.
 pub record RoundReady (count : ℕ) (headers : List JuryHeader) (done quantum : ℕ) (lists ballots tapes : List ℕ)
     (conditional wires boards shown : List ℕ) : Type 0 where

@@ -1,4 +1,4 @@
--- What inner functions ask: no entry point's contract needs it.
+-- What inner functions ask for and leave; no entry point's contract needs it.
 use mathlib.Core.Path.{_≡_}
 use mathlib.Core.List.{List}
 use Prim.Native.Nat.{ℕ, _+_, _*_, _≤_, _<_}
@@ -7,9 +7,10 @@ use Rattle.gates.specs.Gate.{gatesOf}
 use Rattle.gates.specs.inner.Step.{gateAt}
 use Rattle.gates.specs.Test.{firstBad}
 use Rattle.gates.specs.declared.place.Place.the-variants.{Nowhere}
+use Rattle.gate_levels.specs.Levels.{levelsOf, roundsOf}
 
--- Gate g: its numbers are in the table, its operands name inputs or earlier gates, and no level before it is so large
--- that one more would not fit.
+-- For gate g: its numbers are in the table, its operands name inputs or earlier gates, and every level before it
+-- leaves room for one more.
 pub record LevelReady (inputs : ℕ) (table : List ℕ) (g : ℕ) (levels : List ℕ) : Type 0 where
   pub in-table : 4 * g + 3 < length table
   pub in-levels : g < length levels
@@ -19,9 +20,14 @@ pub record LevelReady (inputs : ℕ) (table : List ℕ) (g : ℕ) (levels : List
   pub small : (h : ℕ) → h < g → getD levels h 0 ≤ g
   pub few : g < 1048576
 
--- The whole list: good gates over at least one input, at most 2 ^ 20 of them, and a level for each.
+-- For the whole list: good gates over at least one input, at most 2 ^ 20 of them, and a place for the level of each.
 pub record LevelsReady (inputs : ℕ) (table levels : List ℕ) : Type 0 where
   pub some-input : 1 ≤ inputs
   pub few : length (gatesOf table) ≤ 1048576
   pub good : firstBad inputs 0 (gatesOf table) ≡ Nowhere
   pub levels-length : length levels ≡ length (gatesOf table)
+
+-- What writing leaves: the level of each gate, and the answer is the largest.
+pub record Filled (inputs : ℕ) (table : List ℕ) (r : ℕ) (ls : List ℕ) : Type 0 where
+  pub rounds : r ≡ roundsOf inputs (gatesOf table)
+  pub levels : ls ≡ levelsOf inputs (gatesOf table)

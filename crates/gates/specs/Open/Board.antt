@@ -17,16 +17,16 @@ conditionals (g ∷ gs) = cond (conditionalOf (g .kind)) (g ∷ conditionals gs)
 unfoldable pub conditionalCount : List Gate → ℕ
 conditionalCount gs = length (conditionals gs)
 
--- What a conditional gate shows: its wire a under the mask m, the sum modulo 2. A wire keeps the one value that it
--- gets, so ws may be the wires of the whole list.
+-- What a conditional gate shows: its wire a under the mask m, as a sum modulo 2. A wire never changes its value, so
+-- ws may be the wires of the whole list.
 unfoldable pub shownBit : List ℕ → Gate → ℕ → ℕ
 shownBit ws g m = (wire ws (g .a) + m) % 2
 
--- The shown bits in order: conditional gates and tape bytes are matched one to one.
+-- The shown bits in order: tape byte i masks conditional gate i.
 unfoldable pub shownBits : List ℕ → List Gate → List ℕ → List ℕ
 shownBits ws gs tape = zipWith (shownBit ws) (conditionals gs) tape
 
--- The whole board: the shown bits, and after them the outputs.
+-- The whole board: the shown bits, then the outputs.
 unfoldable pub boardOf : List ℕ → List Gate → ℕ → List ℕ → List ℕ
 boardOf ws gs k tape = shownBits ws gs tape ++ outputsOf k ws
 
@@ -34,7 +34,7 @@ boardOf ws gs k tape = shownBits ws gs tape ++ outputsOf k ws
 abbrev pub Bits : List ℕ → Type 0
 Bits xs = (i : ℕ) → getD xs i 0 ≤ 1
 
--- A list's mask tape [tape]: C bytes, all of them bits.
+-- A mask tape of a list [tape]: C bytes, each of them 0 or 1.
 pub record MaskTape (gs : List Gate) (tape : List ℕ) : Type 0 where
   pub size : length tape ≡ conditionalCount gs
   pub bits : Bits tape

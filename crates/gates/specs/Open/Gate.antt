@@ -9,7 +9,7 @@ pub record Gate : Type 0 where
   pub b : ℕ
   pub c : ℕ
 
--- The gates of a table, four numbers each. One to three numbers left over at its end make no gate.
+-- The gates of a table, four numbers each. One to three numbers left over at the end make no gate.
 unfoldable pub gatesOf : List ℕ → List Gate
 gatesOf [] = []
 gatesOf (k ∷ []) = []

@@ -1,4 +1,4 @@
--- The eight kinds of gates, as the table in [kinds] has them, with the marks of request 2.6 [free-xor].
+-- The eight kinds of gates as [kinds] has them, with the marks of request 2.6 [free-xor].
 use mathlib.Core.Bool.{Bool, true, false, cond}
 use mathlib.Core.List.{List, [], _∷_}
 use Prim.Native.Nat.{ℕ, _-_, min, max}
@@ -14,7 +14,7 @@ operandCounts = 0 ∷ 0 ∷ 1 ∷ 1 ∷ 2 ∷ 2 ∷ 2 ∷ 3 ∷ []
 abbrev pub conditionalMarks : List Bool
 conditionalMarks = false ∷ false ∷ false ∷ false ∷ true ∷ true ∷ false ∷ true ∷ []
 
--- How many operands a kind uses, of a, b, c in this order.
+-- How many of the operands a, b, c, in this order, a kind uses.
 unfoldable pub operandsOf : ℕ → ℕ
 operandsOf kind = getD operandCounts kind 0
 
@@ -30,12 +30,12 @@ differ a b = cond (eqb a b) 0 1
 unfoldable pub choose : ℕ → ℕ → ℕ → ℕ
 choose a b c = cond (eqb a 0) c b
 
--- The value of a kind from the values of its operands. The conjunction of two bits is the smaller, their
--- disjunction the larger. There is no value of a number that is no kind; where one must stand it is 0.
+-- The value of a kind from the values of its operands. Of two bits, the smaller is their conjunction and the larger
+-- their disjunction. A number above 7 is no kind; if it needs a value, that is 0.
 unfoldable pub valueOf : ℕ → ℕ → ℕ → ℕ → ℕ
 valueOf kind a b c =
     getD (0 ∷ 1 ∷ a ∷ (1 - a) ∷ min a b ∷ max a b ∷ differ a b ∷ choose a b c ∷ []) kind 0
 
--- The value where there is such a kind, and else its refusal.
+-- The value of a known kind, or the refusal of an unknown one.
 unfoldable pub applied : ℕ → ℕ → ℕ → ℕ → GateValue
 applied kind a b c = cond (ltb kind 8) (Value (valueOf kind a b c)) NoSuchKind

@@ -1,22 +1,24 @@
--- The evaluating step: a range of a list's gates, over wires and shown bits that are there already.
+-- The evaluating step: it does a range of a list's gates, after the wires and shown bits of earlier gates.
 use mathlib.Core.Path.{_≡_}
+use mathlib.Core.Bool.{cond}
 use mathlib.Core.List.{List, [], _∷_, _++_}
 use Prim.Native.Nat.{ℕ, _+_, _-_, _*_, _≤_, _<_}
 use lib.Dec.{T}
-use lib.ListN.{length, getD, take, drop}
+use lib.ListN.{length, getD, take, drop, set}
 use lib.Seq.{sets}
+use Rattle.gates.specs.Open.Kind.{conditionalOf}
 use Rattle.gates.specs.Open.Gate.{Gate, gatesOf}
-use Rattle.gates.specs.Open.Wires.{wiresOf}
-use Rattle.gates.specs.Open.Board.{conditionalCount, shownBits}
+use Rattle.gates.specs.Open.Wires.{wiresOf, value}
+use Rattle.gates.specs.Open.Board.{conditionalCount, shownBit, shownBits, boardOf}
 use Rattle.gates.specs.Open.Test.{goodGate, firstBad}
 use Rattle.gates.specs.declared.place.Place.the-variants.{Nowhere}
 
--- The gates of a table from one number up to, not including, another.
+-- The gates of a table from one number up to another, which is not included.
 unfoldable pub rangeOf : List ℕ → ℕ → ℕ → List Gate
 rangeOf table from to = take (to - from) (drop from (gatesOf table))
 
--- What the step asks of its caller: a range of good gates, room for their wires, and a tape and a board that reach
--- as far as their shown bits.
+-- What the step asks of its caller: a range of good gates, room for their wires, and a tape and a board that are long
+-- enough for their shown bits.
 pub record StepReady (inputs : ℕ) (table : List ℕ) (from to : ℕ) (tape : List ℕ) (shown : ℕ) (ws board : List ℕ) : Type
     0 where
   pub order : from ≤ to
@@ -26,17 +28,17 @@ pub record StepReady (inputs : ℕ) (table : List ℕ) (from to : ℕ) (tape : L
   pub inTape : shown + conditionalCount (rangeOf table from to) ≤ length tape
   pub inBoard : shown + conditionalCount (rangeOf table from to) ≤ length board
 
--- The wire table after the step: the wires that were there, those of the range, and what stood behind them.
+-- The wire table after the step: the earlier wires, those of the range, and the old contents after them.
 unfoldable pub stepWires : ℕ → List ℕ → ℕ → ℕ → List ℕ → List ℕ
 stepWires inputs table from to ws = wiresOf (take (inputs + from) ws) (rangeOf table from to) ++ drop (inputs + to) ws
 
--- The board after the step: the range's shown bits stand from the number of those before them on.
+-- The board after the step: the range's shown bits follow the earlier ones.
 unfoldable pub stepBoard : ℕ → List ℕ → ℕ → ℕ → List ℕ → ℕ → List ℕ → List ℕ → List ℕ
 stepBoard inputs table from to tape shown ws board =
     sets board shown (shownBits (stepWires inputs table from to ws) (rangeOf table from to) (drop shown tape))
 
--- What the evaluation of a whole list asks of its caller, once so many inputs stand at the front of the wire table:
--- what the tests of the list, the tape, the wire table and the board establish.
+-- What evaluating a whole list asks of its caller once the inputs are at the front of the wire table: what the tests
+-- of list, tape, wire table and board establish.
 pub record FinishReady (inputs : ℕ) (table : List ℕ) (k : ℕ) (tape ws board : List ℕ) : Type 0 where
   pub enough : k ≤ length (gatesOf table)
   pub good : firstBad inputs 0 (gatesOf table) ≡ Nowhere
@@ -44,7 +46,7 @@ pub record FinishReady (inputs : ℕ) (table : List ℕ) (k : ℕ) (tape ws boar
   pub wiresLength : length ws ≡ inputs + length (gatesOf table)
   pub boardLength : length board ≡ conditionalCount (gatesOf table) + k
 
--- What the run of a whole list on these inputs asks: the same.
+-- What running a whole list on these inputs asks: the same.
 abbrev pub RunReady : List ℕ → List ℕ → ℕ → List ℕ → List ℕ → List ℕ → Type 0
 RunReady inputs table k tape ws board = FinishReady (length inputs) table k tape ws board
 
@@ -59,11 +61,35 @@ gateAt table g =
       c = getD table (4 * g + 3) 0;
     }
 
--- What one gate of the step asks: it is in the table and good for its own wire, and its wire, tape byte and board
--- byte are there.
+-- What one gate asks: it is in the table and good for its own wire, and its wire, tape byte and board byte exist.
 pub record GateReady (table : List ℕ) (g own : ℕ) (tape : List ℕ) (shown : ℕ) (ws board : List ℕ) : Type 0 where
   pub inTable : 4 * g + 3 < length table
   pub good : T (goodGate own (gateAt table g))
   pub inWires : own < length ws
   pub inTape : shown + conditionalCount (gateAt table g ∷ []) ≤ length tape
   pub inBoard : shown + conditionalCount (gateAt table g ∷ []) ≤ length board
+
+-- What evaluating it leaves: its wire, and its shown bit if it shows one.
+pub record GateRan (table : List ℕ) (g own : ℕ) (tape : List ℕ) (shown : ℕ) (ws bs : List ℕ) (r : ℕ)
+    (ws′ bs′ : List ℕ) : Type 0 where
+  pub next : r ≡ shown + conditionalCount (gateAt table g ∷ [])
+  pub wires : ws′ ≡ set ws own (value ws (gateAt table g))
+  pub board : bs′ ≡ cond (conditionalOf (gateAt table g .kind))
+      (set bs shown (shownBit ws (gateAt table g) (getD tape shown 0))) bs
+
+-- What the step leaves, and how many bits are shown then.
+pub record Stepped (inputs : ℕ) (table : List ℕ) (from to : ℕ) (tape : List ℕ) (shown : ℕ) (ws bs : List ℕ) (r : ℕ)
+    (ws′ bs′ : List ℕ) : Type 0 where
+  pub next : r ≡ shown + conditionalCount (rangeOf table from to)
+  pub wires : ws′ ≡ stepWires inputs table from to ws
+  pub board : bs′ ≡ stepBoard inputs table from to tape shown ws bs
+
+-- What closing asks for: the outputs are wires, and after the shown bits the board has room for exactly them.
+pub record CloseReady (k shown : ℕ) (ws board : List ℕ) : Type 0 where
+  pub enough : k ≤ length ws
+  pub boardLength : length board ≡ shown + k
+
+-- What the evaluation of a whole list on the inputs xs leaves.
+pub record Evaluated (xs table : List ℕ) (k : ℕ) (tape ws′ bs′ : List ℕ) : Type 0 where
+  pub wires : ws′ ≡ wiresOf xs (gatesOf table)
+  pub board : bs′ ≡ boardOf (wiresOf xs (gatesOf table)) (gatesOf table) k tape

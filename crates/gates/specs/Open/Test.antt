@@ -1,4 +1,4 @@
--- The tests of a list of gates and of the bytes that are lent for its run, each with its place.
+-- The tests of a gate list, each with its place.
 use mathlib.Core.Bool.{Bool, true, false, cond, not, _&&_}
 use mathlib.Core.List.{List, [], _∷_}
 use Prim.Native.Nat.{ℕ, suc, _+_, _/_, _%_}
@@ -12,30 +12,29 @@ use Rattle.gates.specs.declared.place.Place.the-variants.{At, Nowhere}
 use Rattle.gates.specs.declared.list.ListCheck.{ListCheck}
 use Rattle.gates.specs.declared.list.ListCheck.the-variants.{Accepted, PartOfAGate, TooFewGates, TooManyGates, BadGate}
 
--- An operand that its kind uses has to point to an earlier wire; any other has to be 0.
+-- An operand that its kind uses must name an earlier wire; any other must be 0.
 unfoldable pub goodOperand : Bool → ℕ → ℕ → Bool
 goodOperand true own x = ltb x own
 goodOperand false own x = eqb x 0
 
--- A gate is good where its kind is one of the eight and its three operands are good.
+-- A gate is good if its kind is one of the eight and its three operands are good.
 unfoldable pub goodGate : ℕ → Gate → Bool
 goodGate own g =
     ltb (g .kind) 8 && goodOperand (ltb 0 (operandsOf (g .kind))) own (g .a)
     && goodOperand (ltb 1 (operandsOf (g .kind))) own (g .b)
     && goodOperand (ltb 2 (operandsOf (g .kind))) own (g .c)
 
--- The place of the first gate that is not good. Gate g of the whole list comes first here, and makes wire inputs + g.
+-- The place of the first bad gate. The first gate here is gate g of the whole list, and makes wire inputs + g.
 unfoldable pub firstBad : ℕ → ℕ → List Gate → Place
 firstBad inputs g [] = Nowhere
 firstBad inputs g (x ∷ xs) = cond (goodGate (inputs + g) x) (firstBad inputs (suc g) xs) (At g)
 
--- The answer for a list of the right length, by its first bad gate: that gate, or that the list is accepted with
--- its G and C.
+-- The answer for a list of the right length: its first bad gate if there is one, else G and C.
 unfoldable pub judged : Place → ℕ → ℕ → ListCheck
 judged (At g) gates conditional = BadGate g
 judged Nowhere gates conditional = Accepted gates conditional
 
--- First the length: whole gates, at least one for each of the k outputs, and at most 2 ^ 20 of them. Then the gates.
+-- First the length: whole gates, at least k of them for the k outputs, at most 2 ^ 20. Then the gates.
 unfoldable pub tested : ℕ → ℕ → List ℕ → ListCheck
 tested inputs k table =
     cond (not (eqb (length table % 4) 0)) PartOfAGate

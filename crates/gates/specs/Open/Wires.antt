@@ -5,16 +5,15 @@ use lib.ListN.{length, getD, drop}
 use Rattle.gates.specs.Open.Kind.{valueOf}
 use Rattle.gates.specs.Open.Gate.{Gate}
 
--- The value of wire i. A wire that there is not counts as 0.
+-- The value of wire i, 0 if there is no such wire.
 unfoldable pub wire : List ℕ → ℕ → ℕ
 wire ws i = getD ws i 0
 
--- The value of a gate whose operands name the wires ws.
+-- The value of a gate whose operands name wires of ws.
 unfoldable pub value : List ℕ → Gate → ℕ
 value ws g = valueOf (g .kind) (wire ws (g .a)) (wire ws (g .b)) (wire ws (g .c))
 
--- Each gate in turn adds one wire behind those that are there; the first wires are the inputs. So gate g of the
--- list has wire inputs + g.
+-- The wires: first the inputs, then one more for each gate in turn. So gate g has wire inputs + g.
 unfoldable pub wiresOf : List ℕ → List Gate → List ℕ
 wiresOf ws [] = ws
 wiresOf ws (g ∷ gs) = wiresOf (ws ++ (value ws g ∷ [])) gs

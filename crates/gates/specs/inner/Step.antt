@@ -1,2 +1,3 @@
--- The evaluating step: a range of a list's gates, over wires and shown bits that are there already.
+-- The evaluating step: it does a range of a list's gates, after the wires and shown bits of earlier gates.
 pub use Rattle.gates.specs.Open.Step.{rangeOf, StepReady, stepWires, stepBoard, FinishReady, RunReady, gateAt, GateReady}
+pub use Rattle.gates.specs.Open.Step.{GateRan, Stepped, CloseReady, Evaluated}

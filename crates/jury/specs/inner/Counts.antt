@@ -2,16 +2,31 @@
 use mathlib.Core.Path.{_≡_}
 use mathlib.Core.Bool.{cond}
 use mathlib.Core.List.{List, [], map}
-use Prim.Native.Nat.{ℕ, _+_, _*_, _<_}
+use Prim.Native.Nat.{ℕ, _+_, _*_, _≤_, _<_}
 use lib.Dec.{ltb}
 use lib.ListN.{length, getD, take, drop}
 use Rattle.basics.specs.Lists.{tabulate}
+use Rattle.jury.specs.declared.shape.Shape.{Shape}
+use Rattle.jury.specs.Counts.{countArray, AddUp}
 
--- The array of counts while it is filled: eight rows of seven counts, to each of which 1 can be added.
+-- The array of counts while it is filled: eight rows of seven counts, each small enough for one more.
 pub record EightBySeven (counts : List (List ℕ)) : Type 0 where
   pub rows : length counts ≡ 8
   pub columns : (c : ℕ) → c < 8 → length (getD counts c []) ≡ 7
   pub small : (c g : ℕ) → getD (getD counts c []) g 0 < 256
+
+-- A row of a ballot can be added to a row of counts.
+pub record RowReady (counts row : List ℕ) : Type 0 where
+  pub seven : length counts ≡ 7
+  pub short : length row ≤ 7
+  pub small : (g : ℕ) → getD counts g 0 < 256
+
+-- A ballot, k rows of d bytes, can be added to the array of counts.
+pub record BallotReady (counts : List (List ℕ)) (ballot : List ℕ) (k d : ℕ) : Type 0 where
+  pub fewRows : k ≤ 8
+  pub fewColumns : d ≤ 7
+  pub size : length ballot ≡ k * d
+  pub array : EightBySeven counts
 
 -- A row of counts with one row of a ballot added.
 unfoldable pub plusRow : List ℕ → List ℕ → List ℕ
@@ -22,6 +37,11 @@ unfoldable pub plusBallot : ℕ → ℕ → List (List ℕ) → List ℕ → Lis
 plusBallot k d counts ballot =
     tabulate 8 (λ c. cond (ltb c k) (plusRow (getD counts c []) (take d (drop (c * d) ballot))) (getD counts c []))
 
--- The first k rows of an array of counts, d counts of each.
+-- The first d counts of each of the first k rows.
 unfoldable pub rowsIn : ℕ → ℕ → List (List ℕ) → List (List ℕ)
 rowsIn k d counts = map (take d) (take k counts)
+
+-- The array of counts at the end: a row adds up to the number of ballots.
+pub record Counted (s : Shape) (xs : List ℕ) (counts : List (List ℕ)) : Type 0 where
+  pub array : counts ≡ countArray s xs
+  pub addUp : AddUp s (rowsIn (s .candidates) (s .grades) counts)

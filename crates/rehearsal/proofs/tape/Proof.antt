@@ -13,7 +13,7 @@ zero-bits (suc n) zero = omega arith
 zero-bits (suc n) (suc i) = zero-bits n i
 
 returns : tie.Need-returns
-returns c = (refl, (refl, zero-bits 4000))
+returns c = record { long = refl; zeros = refl; bits = zero-bits 4000 }
 
 pub tape-spec : {M : Type 1} → statement M
 tape-spec = tie.close (tie.spec returns)

@@ -1,4 +1,4 @@
--- What each function of the rehearsal answers, and that the closing bytes which it names lie on the board.
+-- What each function of the rehearsal answers, and that the closing bytes lie on the board.
 use mathlib.Core.Path.{_≡_}
 use mathlib.Core.List.{List}
 use Prim.Native.Nat.{ℕ, _+_, _≤_}

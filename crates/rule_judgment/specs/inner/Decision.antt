@@ -12,13 +12,13 @@ sameCounts [] (y ∷ ys) = false
 sameCounts (x ∷ xs) [] = false
 sameCounts (x ∷ xs) (y ∷ ys) = eqb x y && sameCounts xs ys
 
--- Whether one of two candidates has half of its n grades among the best so far.
+-- Whether the sum of one of two candidates is at least half of n.
 unfoldable pub halfReached : ℕ → Sums → Bool
 halfReached n sums = leb n (2 * sums .a) || leb n (2 * sums .b)
 
--- Whether a comes before b, by their running sums at the nearest differences below and above half: the one that is
--- larger at both, or at one alone, comes first. Where each is larger at one, the lower difference decides if there
--- the larger candidate's two sums add up to n or more.
+-- Whether a comes before b, by their sums at the nearest differences below and above half. Whoever is larger at both,
+-- or at the only difference, comes first. If each is larger at one, the one that is larger at the lower difference
+-- comes first if its two sums add up to at least n.
 unfoldable pub decidedBy : ℕ → Sums → Sums → Bool
 decidedBy n lower upper =
     cond (ltb (lower .b) (lower .a)) (leb (upper .b) (upper .a) || leb n (lower .a + upper .a))

@@ -12,11 +12,11 @@ use Rattle.rule_schulze.specs.Schulze.{candidates, every}
 abbrev pub entry : List (List ℕ) → ℕ → ℕ → ℕ
 entry t i j = getD (getD t i []) j 0
 
--- The table holds the numbers of v, for k candidates.
+-- The table holds the numbers v for k candidates.
 abbrev pub Holds : ℕ → List (List ℕ) → (ℕ → ℕ → ℕ) → Type 0
 Holds k t v = (i j : ℕ) → i < k → j < k → entry t i j ≡ v i j
 
--- The same but on the diagonal, which no path uses.
+-- The same except on the diagonal, which no path uses.
 abbrev pub HoldsPairs : ℕ → List (List ℕ) → (ℕ → ℕ → ℕ) → Type 0
 HoldsPairs k t v = (i j : ℕ) → i < k → j < k → i ≢ j → entry t i j ≡ v i j
 
@@ -24,8 +24,18 @@ HoldsPairs k t v = (i j : ℕ) → i < k → j < k → i ≢ j → entry t i j �
 unfoldable pub unbeatenIn : List (List ℕ) → ℕ → ℕ → Bool
 unbeatenIn t k i = every (λ j. eqb j i || leb (entry t j i) (entry t i j)) (candidates k)
 
--- As many bytes as n ballots of k candidates have, and few enough of both.
+-- The number of bytes of n ballots of k candidates, with limits on k and n.
 pub record RankedSize (k n : ℕ) (xs : List ℕ) : Type 0 where
   pub most-candidates : k ≤ 8
   pub most-ballots : n ≤ 255
   pub size : length xs ≡ n * k * k
+
+-- Row i of the numbers of ballots, and its entry j, can be counted.
+pub record VotesRowReady (k n : ℕ) (xs : List ℕ) (i : ℕ) : Type 0 where
+  pub sized : RankedSize k n xs
+  pub row : i < k
+
+pub record VotesReady (k n : ℕ) (xs : List ℕ) (i j : ℕ) : Type 0 where
+  pub sized : RankedSize k n xs
+  pub row : i < k
+  pub column : j < k

@@ -1,5 +1,6 @@
--- What the functions that read a text from a place on find there, in the terms of the definitions. No promise of an
--- entry point speaks of these.
+-- What the functions that read from a place on find there, in terms of the definitions. No entry point's contract
+-- needs it.
+use mathlib.Core.Path.{_≡_}
 use mathlib.Core.Option.{Option, none}
 use mathlib.Core.List.{List}
 use Prim.Native.Nat.{ℕ, _≤_}
@@ -26,3 +27,12 @@ lineFound text line.Malformed = none
 abbrev pub LineWithin : List ℕ → Line → Type 0
 LineWithin text (line.Gate kind a b c next) = next ≤ length text
 LineWithin text line.Malformed = Unit {0}
+
+-- A reading found what it should, and is within the text.
+pub record NumberRead (text : List ℕ) (wanted : Option (Taken ℕ)) (r : Found) : Type 0 where
+  pub found : numberFound text r ≡ wanted
+  pub within : NumberWithin text r
+
+pub record LineRead (text : List ℕ) (wanted : Option (Taken Gate)) (r : Line) : Type 0 where
+  pub found : lineFound text r ≡ wanted
+  pub within : LineWithin text r

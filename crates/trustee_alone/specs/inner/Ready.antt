@@ -1,4 +1,4 @@
--- What inner functions ask: no entry point's contract needs it.
+-- What inner functions ask; no entry point's contract needs it.
 use mathlib.Core.Path.{_≡_}
 use mathlib.Core.List.{List}
 use Prim.Native.Nat.{ℕ, _≤_}

@@ -1,4 +1,4 @@
--- What inner functions ask: no entry point's contract needs it.
+-- What inner functions ask for and leave; no entry point's contract needs it.
 use mathlib.Core.Path.{_≡_}
 use mathlib.Core.Bool.{true}
 use mathlib.Core.List.{List}
@@ -11,7 +11,7 @@ use Rattle.gates.specs.Test.{firstBad}
 use Rattle.gates.specs.declared.place.Place.the-variants.{Nowhere}
 use Rattle.trustee_gates.specs.declared.gate.Numbers.{Numbers}
 use Rattle.trustee_rounds.specs.declared.round.Seat.{Seat}
-use Rattle.trustee_rounds.specs.Rounds.{Turn}
+use Rattle.trustee_rounds.specs.Rounds.{Turn, enters, publishes, closes}
 
 -- A turn by the program's numbers and tables.
 abbrev pub turnBy : Seat → List ℕ → List ℕ → List ℕ → Turn
@@ -31,7 +31,7 @@ pub record GateIn (g : Numbers) (ws : List ℕ) : Type 0 where
   pub b-in : g .b < length ws
   pub c-in : g .c < length ws
 
--- And where the gate is conditional, so are its triple and its sums.
+-- If the gate is conditional, so are its triple and its sums.
 pub record PartReady (g : Numbers) (i : ℕ) (dealt heard ws : List ℕ) : Type 0 where
   pub operands : GateIn g ws
   pub known : g .kind < 8
@@ -47,7 +47,7 @@ pub record PublishReady (g : Numbers) (i : ℕ) (dealt ws published : List ℕ) 
   pub triple-in : conditionalOf (g .kind) ≡ true → 3 * i + 2 < length dealt
   pub places-in : conditionalOf (g .kind) ≡ true → 2 * i + 1 < length published
 
--- A list of good gates over at least one input, with tables of one trustee's lengths.
+-- A list of good gates with at least one input, and tables of one trustee's lengths.
 pub record Pass (inputs : ℕ) (table levels dealt ws : List ℕ) : Type 0 where
   pub some-input : 1 ≤ inputs
   pub few : inputs + length (gatesOf table) < 1073741824
@@ -73,3 +73,12 @@ pub record RoundReady (seat : Seat) (conditional k : ℕ) (table levels dealt he
     pub enough : k ≤ length (gatesOf table)
     pub heard-length : length heard ≡ 2 * conditionalCount (gatesOf table)
     pub published-length : length published ≡ 2 * conditional + k
+
+-- After a round: the parts that were entered, and what was published.
+pub record Turned (seat : Seat) (rounds conditional k : ℕ)
+    (table levels dealt heard ws published ws′ published′ : List ℕ) : Type 0 where
+  pub parts : ws′ ≡ enters (turnBy seat levels dealt heard) (gatesOf table) 0 0 ws
+  pub shown : published′ ≡ closes (seat .round) rounds conditional k
+      (enters (turnBy seat levels dealt heard) (gatesOf table) 0 0 ws)
+      (publishes (turnBy seat levels dealt heard) (enters (turnBy seat levels dealt heard) (gatesOf table) 0 0 ws)
+      (gatesOf table) 0 0 published)

@@ -17,7 +17,7 @@ pub record SlotTable (b n : ℕ) (urn : List ℕ) : Type 0 where
   pub most : n ≤ 256
   pub few : b ≤ 56
 
--- The bytes are n slots for the ballots of a jury that grades.
+-- The bytes are n slots for the ballots of a graded jury.
 pub record GradedTable (k d n : ℕ) (urn : List ℕ) : Type 0 where
   pub graded : T (gradedShape k d)
   pub table : SlotTable (k * d) n urn

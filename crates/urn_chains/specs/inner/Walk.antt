@@ -13,7 +13,7 @@ use Rattle.urn_chains.specs.declared.walk.SlotCheck.the-variants.{Sound,
 use Rattle.urn_chains.specs.declared.walk.Walk.{Walk}
 use Rattle.urn_chains.specs.inner.Table.{SlotTable, GradedTable}
 
--- A slot from 1 on, or an index past the last one, is looked at in the bytes of n slots.
+-- What a look at a slot asks: n slots of bytes, and a slot from 1 on, possibly past the last.
 pub record BallotLook (k d n slot : ℕ) (urn : List ℕ) : Type 0 where
   pub bytes : GradedTable k d n urn
   pub chained : 0 < slot
@@ -27,7 +27,7 @@ unfoldable pub looked : Bool → Slot → SlotCheck
 looked true s = Sound (s .juror) (s .next)
 looked false s = Wrong
 
--- Slot i is one of the slots from 1 on, and holds a good ballot of a juror.
+-- Slot i is one of the slots from 1 on, and holds a juror's number and a good ballot.
 unfoldable pub ballotAt : ℕ → ℕ → List Slot → ℕ → Bool
 ballotAt k d slots i =
     inUrn (length slots) i && goodJuror (slotAt slots i .juror) && goodBallot k d (slotAt slots i .ballot)
@@ -45,7 +45,7 @@ unfoldable pub markAll : List ℕ → List Bool → List Bool
 markAll [] marks = marks
 markAll (i ∷ is) marks = markAll is (set marks i true)
 
--- None of these numbers is marked, nor stands here twice.
+-- None of these numbers is marked, and none occurs twice.
 unfoldable pub fresh : List ℕ → List Bool → Bool
 fresh [] marks = true
 fresh (i ∷ is) marks = not (getD marks i false) && fresh is (set marks i true)
@@ -54,13 +54,13 @@ fresh (i ∷ is) marks = not (getD marks i false) && fresh is (set marks i true)
 unfoldable pub jurorsAt : List Slot → List ℕ → List ℕ
 jurorsAt slots is = map (λ i. slotAt slots i .juror) is
 
--- The walk along the ballot chain from slot i on finds nothing wrong, after the slots and jurors marked.
+-- The walk along the ballot chain from slot i on finds nothing wrong, given the slots and jurors marked before.
 unfoldable pub ballotsFrom : ℕ → ℕ → List Slot → ℕ → ℕ → List Bool → List Bool → Bool
 ballotsFrom k d slots most i marks jurors =
     ends most i slots && all (ballotAt k d slots) (chain most i slots) && fresh (chain most i slots) marks
     && fresh (jurorsAt slots (chain most i slots)) jurors
 
--- The walk along the free chain from slot i on finds nothing wrong, after the slots marked.
+-- The walk along the free chain from slot i on finds nothing wrong, given the slots marked before.
 unfoldable pub freeFrom : List Slot → ℕ → ℕ → List Bool → Bool
 freeFrom slots most i marks =
     ends most i slots && all (freeAt slots) (chain most i slots) && fresh (chain most i slots) marks

@@ -1,4 +1,4 @@
--- The way of the ballots from an urn into the wire table.
+-- Loading the chain's ballots into the wire table.
 use mathlib.Core.Path.{_≡_}
 use mathlib.Core.Bool.{true}
 use mathlib.Core.List.{List}

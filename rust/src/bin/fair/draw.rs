@@ -1,15 +1,15 @@
 //! Random juries, 64 at a time: a word holds a bit for each of them, so that one operation serves all.
 //!
-//! What a juror thinks of a blend is a level, the best first, and stands in one word a level: bit j of word g
-//! is 1 where the juror of jury j is at level g. Grades are levels. A ranking puts a blend before another where
-//! its level is better, so equal levels are ties.
+//! A juror's opinion of a blend is a level, best first, with one word for each level: bit j of word g is 1 if the juror
+//! of jury j is at level g. Grades are levels. A ranking puts a blend before another if its level is better; equal
+//! levels are ties.
 
 use jugyvaros::Shape;
 
-/// The generator xoshiro256++ by Blackman and Vigna: fast, and good enough for rehearsals. It keeps no secret.
+/// The generator xoshiro256++ by Blackman and Vigna: fast, and good enough for rehearsals. Not for secrets.
 pub struct Random([u64; 4]);
 
-/// The output function of SplitMix64, by Steele, Lea and Flood: different numbers go to different, unlike ones.
+/// The output function of SplitMix64, by Steele, Lea and Flood: different inputs give different, unlike outputs.
 fn mixed(number: u64) -> u64 {
     let z = number.wrapping_add(0x9E37_79B9_7F4A_7C15);
     let z = (z ^ z >> 30).wrapping_mul(0xBF58_476D_1CE4_E5B9);
@@ -18,7 +18,7 @@ fn mixed(number: u64) -> u64 {
 }
 
 impl Random {
-    /// A generator for one block of 64 juries. Blocks have generators of their own, so any core may draw any of them.
+    /// A generator for one block of 64 juries. Each block has its own, so any processor may draw any block.
     pub fn new(seed: u64, block: u64) -> Random {
         let start = mixed(seed) ^ mixed(!block);
         Random([1, 2, 3, 4].map(|i| mixed(start.wrapping_add(i))))
@@ -34,13 +34,13 @@ impl Random {
     }
 }
 
-/// After so many rounds a level is no longer drawn anew.
+/// How many rounds of drawing there are at most.
 const ROUNDS: usize = 64;
 
-/// One of L levels for each jury, all equally likely: binary digits are drawn anew until they are below L.
+/// One of L levels for each jury, all equally likely: binary digits are drawn again until they are below L.
 ///
-/// Each round leaves a jury without a level with a probability of at most 3/8, so that after all rounds some
-/// jury has none with less than one in 10^25; it then gets the best level.
+/// A round leaves a jury without a level with a probability of at most 3/8. That some jury has none after all rounds is
+/// less likely than one in 10^25; such a jury gets the best level.
 #[inline]
 fn uniform<const L: usize>(random: &mut Random) -> [u64; L] {
     let mut row = [0; L];
@@ -49,7 +49,7 @@ fn uniform<const L: usize>(random: &mut Random) -> [u64; L] {
         let digits = [L > 4, L > 2, L > 1].map(|used| if used { random.word() } else { 0 });
         let mut taken = 0;
         for (level, word) in row.iter_mut().enumerate() {
-            // bit j: the digits of jury j are those of the level
+            // bit j: jury j has drawn the digits of this level
             let met = (0..3).fold(open, |met, i| met & if level >> (2 - i) & 1 == 1 { digits[i] } else { !digits[i] });
             *word |= met;
             taken |= met;
@@ -63,7 +63,7 @@ fn uniform<const L: usize>(random: &mut Random) -> [u64; L] {
     row
 }
 
-/// Moves each juror a level up, a level down or not at all, with probabilities 1/4, 1/4 and 1/2. At an end it stays.
+/// Moves each juror a level up, a level down or not at all, with probabilities 1/4, 1/4 and 1/2; never past an end.
 #[inline]
 fn step<const L: usize>(row: [u64; L], random: &mut Random) -> [u64; L] {
     let (moves, up) = (random.word(), random.word());
@@ -92,7 +92,7 @@ fn before<const L: usize>(i: &[u64; L], j: &[u64; L]) -> u64 {
 pub enum Opinion {
     /// Every level is equally likely.
     Uniform,
-    /// Each blend of a jury has a true level, drawn uniformly, from which every juror takes so many steps.
+    /// Each blend of a jury has a true level, drawn uniformly; every juror takes this many random steps away from it.
     Spread(usize),
 }
 
@@ -100,14 +100,14 @@ pub enum Opinion {
 #[derive(Clone, Copy, Debug)]
 pub struct Draw {
     pub shape: Shape,
-    /// 1 to 8: the grades, or of rankings what jurors can tell apart.
+    /// 1 to 8: the number of grades, or of levels that the jurors of a ranking can tell apart.
     pub levels: usize,
     pub opinion: Opinion,
 }
 
 impl Draw {
-    /// Draws the ballots of 64 juries, and answers which blends of a jury are truly best, a word a blend; no
-    /// true levels, no such blends.
+    /// Draws the ballots of 64 juries, and returns which blends are truly best, a word for each blend; all 0 without
+    /// true levels.
     pub fn ballots(&self, random: &mut Random, ballots: &mut [u64]) -> [u64; 8] {
         match self.levels {
             1 => self.with_levels::<1>(random, ballots),

@@ -1,4 +1,4 @@
-//! Rehearses a fair: random juries of one shape, 64 at a time, on all processors. `fair --help` says how.
+//! Rehearses a fair: random juries of one shape, 64 at a time, by several threads. `tools/fair --help` says how.
 
 mod draw;
 mod options;
@@ -6,7 +6,7 @@ mod rehearse;
 mod report;
 
 use jugyvaros::{GateList, JuryRefusal};
-use options::{Options, Other};
+use options::Options;
 use rehearse::{seconds, Clock, Fair, Outcome};
 use std::io::{IsTerminal, Write};
 use std::process::ExitCode;
@@ -17,13 +17,7 @@ fn seed_number(seed: &str) -> u64 {
     seed.bytes().fold(0xCBF2_9CE4_8422_2325, |hash, byte| (hash ^ u64::from(byte)).wrapping_mul(0x100_0000_01B3))
 }
 
-/// A seed where none is given: a few digits, for whoever wants the same juries again.
-fn any_seed() -> std::io::Result<String> {
-    let word = jugyvaros::Secret::random_words(1)?[0];
-    Ok((word % 1_000_000_000).to_string())
-}
-
-/// Runs the fair on so many threads, with a bar where somebody looks on.
+/// Runs the fair on several threads, with a progress bar on a terminal.
 fn rehearsed(fair: &Fair, jobs: usize) -> Result<Outcome, JuryRefusal> {
     let began = Instant::now();
     let looked_at = std::io::stderr().is_terminal();
@@ -46,35 +40,27 @@ fn rehearsed(fair: &Fair, jobs: usize) -> Result<Outcome, JuryRefusal> {
 
 fn run(options: &Options) -> Result<(), Box<dyn std::error::Error>> {
     let list = GateList::own(options.draw.shape)?;
-    let seed = options.seed.clone().map_or_else(any_seed, Ok)?;
-    let fair = Fair::new(&list, options.draw, seed_number(&seed), options.batches);
+    let seed = &options.seed;
+    let fair = Fair::new(&list, options.draw, seed_number(seed), options.batches);
     let outcome = rehearsed(&fair, options.jobs)?;
-    let text = report::lines(&options.draw, &seed, &outcome, seconds(Clock::Process));
+    let text = report::lines(&options.draw, seed, &outcome, seconds(Clock::Process));
     std::io::stdout().write_all(text.as_bytes())?;
     if let Some(file) = &options.svg {
-        std::fs::write(file, report::picture(&options.draw, &seed, &outcome))
+        std::fs::write(file, report::picture(&options.draw, seed, &outcome))
             .map_err(|why| format!("{}: {why}", file.display()))?;
     }
     Ok(())
 }
 
 fn main() -> ExitCode {
-    let options = match options::read(std::env::args().skip(1)) {
-        Ok(options) => options,
-        Err(Other::Help) => {
-            // whoever stops reading it has read enough
-            let _ = writeln!(std::io::stdout(), "{}", options::HELP);
-            return ExitCode::SUCCESS;
-        }
-        Err(Other::Wrong(what)) => {
-            eprintln!("fair: {what}");
-            return ExitCode::from(2);
-        }
+    let Some(options) = options::read(std::env::args().skip(1)) else {
+        eprintln!("fair: tools/fair calls this; tools/fair --help says how");
+        return ExitCode::from(2);
     };
     match run(&options) {
         Ok(()) => ExitCode::SUCCESS,
         Err(why) => {
-            eprintln!("fair: {why}");
+            eprintln!("tools/fair: {why}");
             ExitCode::from(1)
         }
     }

@@ -6,7 +6,7 @@ use jugyvaros::{Batch, GateList, JuryRefusal};
 use std::ops::Range;
 use std::sync::atomic::{AtomicU64, Ordering::Relaxed};
 
-/// What came out of some juries.
+/// The results of some juries.
 #[derive(Clone, Debug, Default, PartialEq)]
 pub struct Outcome {
     pub juries: u64,
@@ -33,7 +33,7 @@ impl Outcome {
         self.core += other.core;
     }
 
-    /// Counts 64 juries: bit j of a blend's word says that it won in jury j, or that it is truly best there.
+    /// Counts 64 juries: bit j of a blend's word says whether it won in jury j, or is truly best there.
     fn count(&mut self, closing: &[u64], best: &[u64]) {
         let (mut once, mut twice, mut hit) = (0, 0, 0);
         for ((&word, count), &best) in closing.iter().zip(&mut self.won).zip(best) {
@@ -54,12 +54,12 @@ pub struct Fair<'a> {
     pub draw: Draw,
     pub seed: u64,
     pub blocks: u64,
-    /// The blocks that some thread has taken, and those that are counted.
+    /// How many blocks threads have taken, and how many are counted.
     taken: AtomicU64,
     counted: AtomicU64,
 }
 
-/// A thread takes some blocks at once, so that asking for the time costs little beside the runs of a small shape.
+/// A thread takes several blocks at once, so that with small shapes reading the clock costs little.
 const WORDS: usize = 1 << 14;
 const MOST_BLOCKS: usize = 64;
 
@@ -72,7 +72,7 @@ impl<'a> Fair<'a> {
         self.counted.load(Relaxed)
     }
 
-    /// What one thread does: takes blocks until there are none left. Any thread gets the same of a block.
+    /// One thread's work: it takes blocks until there are none left. A block has the same juries in every thread.
     pub fn work(&self) -> Result<Outcome, JuryRefusal> {
         let mut room = Room::new(self.list);
         let mut outcome = Outcome::of(self.draw.shape.candidates);
@@ -92,19 +92,19 @@ impl<'a> Fair<'a> {
     }
 }
 
-/// Room for some blocks at once, in one thread.
+/// The buffers of one thread, for several blocks.
 struct Room<'a> {
     list: &'a GateList,
     batch: Batch<'a>,
     blocks: usize,
     ballots: Vec<u64>,
     tapes: Vec<u64>,
-    /// Of each block: which blends are truly best, and which win.
+    /// For each block: which blends are truly best, and which win.
     best: [[u64; 8]; MOST_BLOCKS],
     closing: [[u64; 8]; MOST_BLOCKS],
 }
 
-/// The piece of block i, where pieces have this size.
+/// Block i's piece of a table with pieces of this size.
 fn piece(i: usize, size: usize) -> Range<usize> {
     i * size..(i + 1) * size
 }
@@ -132,7 +132,7 @@ impl<'a> Room<'a> {
         }
     }
 
-    /// Runs the list on them, and answers the core's processor time.
+    /// Runs the list on them, and returns the core's processor time.
     fn run(&mut self, blocks: usize) -> Result<f64, JuryRefusal> {
         let (inputs, marks) = (self.list.inputs(), self.list.conditional());
         let began = seconds(Clock::Thread);
@@ -144,7 +144,7 @@ impl<'a> Room<'a> {
     }
 }
 
-/// Whose processor time is asked for; the numbers are those of Linux.
+/// Linux's numbers for the clocks of this thread and of the whole process.
 #[derive(Clone, Copy)]
 pub enum Clock {
     Process = 2,
@@ -162,7 +162,7 @@ pub fn seconds(clock: Clock) -> f64 {
         fn clock_gettime(clock: i32, time: *mut Time) -> i32;
     }
     let mut time = Time { seconds: 0, nanoseconds: 0 };
-    // SAFETY: the time is a live local, in the form that the system's library fills.
+    // SAFETY: the time is a live local with the layout that the C library fills in.
     unsafe { clock_gettime(clock as i32, &mut time) };
     time.seconds as f64 + 1e-9 * time.nanoseconds as f64
 }

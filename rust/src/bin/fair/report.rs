@@ -33,7 +33,7 @@ pub fn lines(draw: &Draw, seed: &str, outcome: &Outcome, seconds: f64) -> String
     text
 }
 
-/// A number with its thousands apart.
+/// A number with commas between thousands.
 fn grouped(number: u64) -> String {
     let digits = number.to_string();
     let mut text = String::new();
@@ -46,7 +46,7 @@ fn grouped(number: u64) -> String {
     text
 }
 
-/// Text that may stand in a picture.
+/// Text with the characters that SVG reserves escaped.
 fn escaped(text: &str) -> String {
     text.replace('&', "&amp;").replace('<', "&lt;").replace('>', "&gt;")
 }
@@ -89,7 +89,7 @@ impl Scale {
     }
 }
 
-/// One bar with its mark, its name, its share and its count, round a middle.
+/// One bar with its mark, name, share and count, centred at a place.
 fn column(scale: &Scale, middle: f64, name: &str, count: u64, (share, error): (f64, f64)) -> String {
     let (foot, top) = (scale.y(0.0), scale.y(share));
     let (high, low) = (scale.y(share + 2.0 * error), scale.y((share - 2.0 * error).max(0.0)));
@@ -121,7 +121,7 @@ fn title(draw: &Draw) -> String {
     }
 }
 
-/// A picture of the shares: a bar each, with a mark for the share give or take two standard errors.
+/// A picture of the shares: a bar each, with a mark at two standard errors on either side.
 pub fn picture(draw: &Draw, seed: &str, outcome: &Outcome) -> String {
     let of = |(name, count): (String, u64)| (name, count, share(count, outcome.juries));
     let bars: Vec<_> = counts(draw, outcome).into_iter().map(of).collect();
@@ -152,7 +152,7 @@ pub fn picture(draw: &Draw, seed: &str, outcome: &Outcome) -> String {
     )
 }
 
-/// How far a fair is, and how long it will take at the speed so far.
+/// How much of a fair is done, and how long the rest will take at this speed.
 pub fn bar(done: u64, all: u64, seconds: f64) -> String {
     const WIDTH: u64 = 40;
     let full = (WIDTH * done / all) as usize;

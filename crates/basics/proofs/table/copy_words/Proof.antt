@@ -1,4 +1,4 @@
--- `basics::table::copy_words` meets its contract: after i turns the first i words are copied and the others as they came.
+-- `basics::table::copy_words` meets its contract: after i turns the first i words are copied, the others unchanged.
 -- Assumes nothing.
 use mathlib.Core.Path.{_≡_, _∙_, refl, sym, ap}
 use mathlib.Core.List.{List, _++_}

@@ -1,4 +1,4 @@
--- `basics::table::empty` meets its contract: after i turns the first i bytes are 0 and the others as they came.
+-- `basics::table::empty` meets its contract: after i turns the first i bytes are 0, the others unchanged.
 -- Assumes nothing.
 use mathlib.Core.Path.{_≡_, _∙_, refl, ap}
 use mathlib.Core.List.{List, _++_}

@@ -1,4 +1,5 @@
--- `batch::ballots::bad_row` meets its contract: after i words, `once` and `twice` say of each lane whether it had a 1 and whether it had a second one.
+-- `batch::ballots::bad_row` meets its contract: after i words, `once` and `twice` say for each lane whether it had a
+-- 1, and a second one.
 -- Assumes nothing.
 use mathlib.Core.Path.{sym, ap, subst}
 use Prim.Native.Nat.{ℕ, _-_, _≤_, _<_}

@@ -1,4 +1,5 @@
--- `batch::ballots::bad_rows` meets its contract: in each lane, the faults so far and those of the rows that are left are the faults of all rows.
+-- `batch::ballots::bad_rows` meets its contract: in each lane, the faults so far and those of the rows left are the
+-- faults of all rows.
 -- Assumes nothing.
 use mathlib.Core.Path.{_≡_, _∙_, sym, ap}
 use mathlib.Core.Bool.{cond}
@@ -43,7 +44,7 @@ loop-holds c =
           ∙ ap (λ (n : ℕ). foundBit (firstBadRow 0 (rowsOf (a .d) n (laneOf j (a .words .now))))) (sub-zero (a .rows)),
     )
 
--- the row of a turn lies within the words
+-- a turn's row lies within the words
 end-within : (c : tie.In-loop Inv-loop μ-loop) → c .before .loop .at + c .before .before .before .args .d ≤ length (c .before .before .before .args .words .now)
 end-within c =
     let at = c .before in
@@ -74,7 +75,7 @@ add-row c = omega arith
 loop-less : tie.Need-loop-less Inv-loop μ-loop
 loop-less c = omega arith
 
--- what the call says of a lane of the row
+-- what the call says about a lane of the row
 row-says : (c : tie.After-bad-row Inv-loop μ-loop) → let at = c .before .before .before in let a = at .before .before .args in
     (j : ℕ) → j < laneCount → lane j (c .bad-row .result) ≡ cond (eqb (ones (take (a .d) (drop (at .loop .at) (laneOf j (a .words .now))))) 1) 0 1
 row-says c =

@@ -1,4 +1,4 @@
--- `batch::ballots::first_jury` meets its contract: below its trailing zeros a word has no bit, and there it has one.
+-- `batch::ballots::first_jury` meets its contract: the lowest set bit of a word is after its trailing zeros.
 -- Assumes nothing.
 use native.Mathlib.Omega.{arith}
 use Rattle.batch.proofs.JuryLaws.{first-at, first-nowhere}

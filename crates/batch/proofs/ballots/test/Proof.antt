@@ -1,4 +1,4 @@
--- `batch::ballots::test` meets its contract: past the length, the answer is that of the tests of the kind.
+-- `batch::ballots::test` meets its contract: after the length, the tests of the shape's kind decide.
 -- Assumes nothing.
 use mathlib.Core.Path.{_≡_, _∙_, sym}
 use mathlib.Core.Bool.{true, false}
@@ -25,7 +25,7 @@ returns c =
     let xs = start .args .ballots .now in
     sym (ballots-by s xs false (ne-eqb (length xs) (ballotBytes s) (λ e. c .if1 .taken (e ∙ sym (c .before .ballot-bytes .ensures)))))
 
--- the length is as it must be
+-- the length is right
 size-known : (c : tie.Else1) → length (c .before .before .before .args .ballots .now) ≡ ballotBytes (c .before .before .before .args .shape)
 size-known c = c .if1 .left ∙ c .before .ballot-bytes .ensures
 
@@ -52,7 +52,10 @@ test-grades-requires c κs =
     let start = passed .before .before .before in
     let s = start .args .shape in
     let graded = ranking (c .before) ∙ c .if2 .left in
-    (true-T (gradedLimits s) (limits.graded-kind s (T-true (withinLimits s) (start .pre)) graded), size-known passed ∙ limits.grades-columns s graded)
+    record {
+      within = true-T (gradedLimits s) (limits.graded-kind s (T-true (withinLimits s) (start .pre)) graded);
+      size = size-known passed ∙ limits.grades-columns s graded;
+    }
 
 returns-2 : tie.Need-returns-2
 returns-2 c =

@@ -1,4 +1,4 @@
--- `batch::ballots::test_grades` meets its contract: the answer is the definition's at the outcome of the search.
+-- `batch::ballots::test_grades` meets its contract: the answer is the definition's for what the search found.
 -- Assumes nothing.
 use mathlib.Core.Path.{_≡_, _∙_, sym, ap}
 use mathlib.Core.List.{[], _∷_}
@@ -17,7 +17,7 @@ use Rattle.batch.proofs.ballots.test_grades.Tie as tie
 mul-bad-rows : tie.Need-mul-bad-rows
 mul-bad-rows c =
     let start = c .before .before in
-    omega (arith, rows-bound (start .args .shape) (within-T (start .args .shape) (start .pre .0)))
+    omega (arith, rows-bound (start .args .shape) (within-T (start .args .shape) (start .pre .within)))
 
 bad-rows-requires : tie.Need-bad-rows-requires
 bad-rows-requires c κs = search needs

@@ -1,4 +1,4 @@
--- `batch::ballots::test_rankings` meets its contract: each answer is the definition's at the outcomes of the searches that led there.
+-- `batch::ballots::test_rankings` meets its contract: each answer is the definition's for what the searches found.
 -- Assumes nothing.
 use mathlib.Core.Path.{_≡_, _∙_, sym, ap}
 use mathlib.Core.Option.{Option}
@@ -46,7 +46,7 @@ returns c =
 enum-told : tie.Need-enum-told
 enum-told c = search needs
 
--- no jury has a clash
+-- 11 finds nothing in any jury
 no-clash : (c : tie.After-enum-told) → let a = c .before .before .before .before .before .args in firstJury (clash (a .shape)) (a .ballots .now) ≡ Nowhere
 no-clash c = sym (clash-found (c .before .before)) ∙ c .enum-told .given .1
 

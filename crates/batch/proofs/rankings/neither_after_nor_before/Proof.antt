@@ -1,4 +1,5 @@
--- `batch::rankings::neither_after_nor_before` meets its contract: in each lane, the word says whether some candidate below l keeps i and j apart.
+-- `batch::rankings::neither_after_nor_before` meets its contract: in each lane, the word says whether some candidate
+-- below l is not after i and not before j.
 -- Assumes nothing.
 use mathlib.Core.Path.{_≡_, _∙_, ap}
 use mathlib.Core.Bool.{not, _&&_}

@@ -1,4 +1,5 @@
--- `batch::rankings::not_asymmetric` meets its contract: in each lane, the word says whether a ballot before b has a byte that clashes.
+-- `batch::rankings::not_asymmetric` meets its contract: in each lane, the word says whether 11 finds a byte in the
+-- ballots before b.
 -- Assumes nothing.
 use mathlib.Core.Path.{_≡_, _∙_, ap}
 use Prim.Native.Nat.{ℕ, _-_, _≤_, _<_}

@@ -1,4 +1,5 @@
--- `batch::rankings::not_asymmetric_in_row` meets its contract: in each lane, the word says whether a byte of the row before j clashes.
+-- `batch::rankings::not_asymmetric_in_row` meets its contract: in each lane, the word says whether 11 finds a byte of
+-- the row before j.
 -- Assumes nothing.
 use mathlib.Core.Path.{_≡_, _∙_, ap}
 use Prim.Native.Nat.{ℕ, _-_, _≤_, _<_}

@@ -1,4 +1,5 @@
--- `batch::rankings::not_weak_order_after` meets its contract: in each lane, the word says whether i is put before a candidate below j with a gap.
+-- `batch::rankings::not_weak_order_after` meets its contract: in each lane, the word says whether the test fails for
+-- a candidate below j.
 -- Assumes nothing.
 use mathlib.Core.Path.{_≡_, _∙_, ap}
 use mathlib.Core.Bool.{_&&_}

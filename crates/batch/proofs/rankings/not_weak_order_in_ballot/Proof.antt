@@ -1,4 +1,5 @@
--- `batch::rankings::not_weak_order_in_ballot` meets its contract: in each lane, the word says whether a candidate before i is put before another with a gap.
+-- `batch::rankings::not_weak_order_in_ballot` meets its contract: in each lane, the word says whether the test fails
+-- for a candidate below i.
 -- Assumes nothing.
 use mathlib.Core.Path.{_≡_, _∙_, ap}
 use Prim.Native.Nat.{ℕ, _-_, _≤_, _<_}

@@ -1,4 +1,5 @@
--- `batch::rankings::puts_before` meets its contract: the place of the word lies within the ballots, and its lanes are the bytes of the juries.
+-- `batch::rankings::puts_before` meets its contract: the word lies within the ballots, and its lanes are the juries'
+-- bytes.
 -- Assumes nothing.
 use Prim.Native.Nat.{_+_, _*_}
 use native.Mathlib.Omega.{arith}

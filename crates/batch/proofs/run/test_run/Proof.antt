@@ -1,4 +1,4 @@
--- `batch::run::test_run` meets its contract: the list is tested first, then the ballots, then what else is lent.
+-- `batch::run::test_run` meets its contract: it tests the list, then the ballots, then the buffers.
 -- Assumes nothing.
 use mathlib.Core.Path.{_≡_, _∙_, sym, ap}
 use mathlib.Core.Option.{Option, none, some}
@@ -18,7 +18,7 @@ use Rattle.batch.proofs.Reasons.{by-test, by-ballots, by-lent}
 use Rattle.batch.proofs.run.test_run.Statement.{statement}
 use Rattle.batch.proofs.run.test_run.Tie as tie
 
--- The call that this is, from where the function starts.
+-- This call, by its arguments at the start.
 abbrev call : tie.Start → Call
 call s =
     let a = s .args in
@@ -41,13 +41,13 @@ list-passed c = c .before .before .before
 abbrev ballots-passed : tie.After-test-buffers → tie.After-enum-told2
 ballots-passed c = c .before .before
 
--- the first reason decides of the answer
+-- the first reason decides the answer
 refuses : (s : tie.Start) (r : Reason) → firstOf (batchReasons (call s)) ≡ some r
     → refused r ≡ outcome (firstOf (batchReasons (call s))) (sizeOf (gatesOf (call s .table)))
 unfolding outcome
 refuses s r e = sym (ap (λ (o : Option Reason). outcome o (sizeOf (gatesOf (call s .table)))) e)
 
--- past the test of the list
+-- after the test of the list
 size : tie.After-known-told → Size
 size c = let g = c .before .answer .given in record { gates = g .0 .0; conditional = g .0 .1 .0 }
 
@@ -58,7 +58,7 @@ passed c =
     test-passed (of .shape) (of .table) (size c)
     (sym (c .before .before .before .test .ensures) ∙ ap outcomeOf (c .before .answer .given .1))
 
--- past the test of the ballots
+-- after the test of the ballots
 no-reason : (c : tie.After-enum-told2)
     → let of = call (started (list-passed c)) in firstOf (wordBallotReasons (of .shape) (of .ballots)) ≡ none
 unfolding refusedFor

@@ -1,4 +1,4 @@
--- `batch_lanes::step::close` meets its contract: what is copied is the last wires, and it fills the board to its end.
+-- `batch_lanes::step::close` meets its contract: it copies the last wires, which fill the board to its end.
 -- Assumes nothing.
 use mathlib.Core.Path.{_≡_, _∙_, ap}
 use mathlib.Core.List.{List, [], _++_, append-nil}

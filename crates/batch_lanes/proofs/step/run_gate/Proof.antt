@@ -1,4 +1,5 @@
--- `batch_lanes::step::run_gate` meets its contract: the gate's operands are wires that there are, and its mark says whether it shows a word.
+-- `batch_lanes::step::run_gate` meets its contract: the gate's operands name wires that exist, and its mark says
+-- whether it shows a word.
 -- Assumes nothing.
 use mathlib.Core.Path.{_≡_, _∙_, ap}
 use mathlib.Core.Bool.{Bool, cond}

@@ -1,4 +1,5 @@
--- `batch_lanes::step::step` meets its contract: after each gate, what is left makes in every lane what the whole range makes there.
+-- `batch_lanes::step::step` meets its contract: after each gate, the gates that are left make in every lane what the
+-- whole range makes there.
 -- Assumes nothing.
 use mathlib.Core.Path.{refl}
 use Prim.Native.Nat.{_-_}
@@ -14,7 +15,7 @@ Inv-loop inputs table from to tape shown wires₀ board₀ marks next₀ g₀ wi
 abbrev μ-loop : tie.MeasureT-loop
 μ-loop inputs table from to tape shown wires₀ board₀ marks next₀ g₀ wires board next g = to - g
 
--- From a turn to where the function starts.
+-- From a turn back to where the function starts.
 abbrev begun : tie.In-loop Inv-loop μ-loop → tie.Start Inv-loop μ-loop
 begun c = c .before .before .before .before .before .before
 

@@ -1,4 +1,4 @@
--- `batch_lanes::word::value` meets its contract: each arm's word has in every lane its kind's value.
+-- `batch_lanes::word::value` meets its contract: in every lane, each arm's word is its kind's value.
 -- Assumes nothing.
 use Prim.Native.Nat.{_≤_}
 use native.Mathlib.Omega.{arith}

@@ -1,4 +1,4 @@
--- `jugyvaros::answer::put` meets its contract: after i turns the first i numbers are copied.
+-- `c_answers::array::put` meets its contract: after i turns the first i numbers are copied.
 -- Assumes nothing.
 use mathlib.Core.Path.{_∙_, refl, ap}
 use mathlib.Core.List.{List}

@@ -1,4 +1,4 @@
--- `c_answers::array::put_eight` meets its contract: reason and place stand before the eight numbers.
+-- `c_answers::array::put_eight` meets its contract: reason and place come before the eight numbers.
 -- Assumes nothing.
 use mathlib.Core.Path.{_∙_, refl, ap}
 use mathlib.Core.List.{List, _∷_, _++_}

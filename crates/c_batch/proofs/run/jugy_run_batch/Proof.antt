@@ -1,5 +1,5 @@
--- `c_batch::run::jugy_run_batch` meets its contract: where the answer array is long enough, it says what the entry point
--- says.
+-- `c_batch::run::jugy_run_batch` meets its contract: if the answer array is long enough, it answers what the entry
+-- point does.
 -- Assumes nothing.
 use mathlib.Core.Path.{ap}
 use mathlib.Core.List.{[], _∷_}
@@ -12,7 +12,7 @@ use Rattle.batch.specs.Run.{batchResult}
 use Rattle.c_batch.proofs.run.jugy_run_batch.Statement.{statement}
 use Rattle.c_batch.proofs.run.jugy_run_batch.Tie as tie
 
--- The call that this is, from where the function starts.
+-- This call, by its arguments at the start.
 abbrev call : tie.Start → Call
 call s =
     let a = s .args in

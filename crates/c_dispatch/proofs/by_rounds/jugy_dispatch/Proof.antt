@@ -1,5 +1,5 @@
--- `c_dispatch::by_rounds::jugy_dispatch` meets its contract: where the answer array is long enough, it says what the
--- dispatcher says.
+-- `c_dispatch::by_rounds::jugy_dispatch` meets its contract: if the answer array is long enough, it answers what the
+-- dispatcher does.
 -- Assumes nothing.
 use mathlib.Core.Path.{_∙_, ap}
 use mathlib.Core.List.{List, [], _∷_}
@@ -13,7 +13,7 @@ use Rattle.c_answers.proofs.Answering.{short-call, put-call}
 use Rattle.c_dispatch.proofs.by_rounds.jugy_dispatch.Statement.{statement}
 use Rattle.c_dispatch.proofs.by_rounds.jugy_dispatch.Tie as tie
 
--- The call that this is with these headers, from where the function starts.
+-- This call with these headers, by its other arguments at the start.
 abbrev with-headers : tie.Start → List JuryHeader → Call
 with-headers s headers =
     let a = s .args in

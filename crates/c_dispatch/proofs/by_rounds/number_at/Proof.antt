@@ -1,4 +1,4 @@
--- `c_dispatch::by_rounds::number_at` meets its contract: past the end there is the default.
+-- `c_dispatch::by_rounds::number_at` meets its contract: past the end the number is 0.
 -- Assumes nothing.
 use mathlib.Core.Path.{sym}
 use lib.ListN.{List·getD-eq-default}

@@ -1,4 +1,4 @@
--- `c_dispatch::by_rounds::put_rounds` meets its contract: reason and jury stand before the eight numbers of rounds.
+-- `c_dispatch::by_rounds::put_rounds` meets its contract: reason and jury come before the eight numbers of rounds.
 -- Assumes nothing.
 use mathlib.Core.Path.{_∙_, sym, ap}
 use mathlib.Core.List.{_∷_}

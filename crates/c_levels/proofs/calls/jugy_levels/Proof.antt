@@ -1,11 +1,10 @@
--- `c_levels::calls::jugy_levels` meets its contract: where the answer array is long enough, it says what the entry
--- point says.
+-- `c_levels::calls::jugy_levels` meets its contract: if the answer array is long enough, it answers what the entry
+-- point does.
 -- Assumes nothing.
 use mathlib.Core.Path.{ap}
-use mathlib.Core.List.{List, [], _∷_}
-use Prim.Native.Nat.{ℕ}
+use mathlib.Core.List.{[], _∷_}
 use borrow.Author.Needs.{needs}
-use Rattle.levels.specs.Levels.{levelsOutcome, levelsWritten}
+use Rattle.levels.specs.Levels.{LevelsResult, levelsOutcome, levelsWritten}
 use Rattle.c_answers.specs.Numbers.{shapeOf}
 use Rattle.c_answers.proofs.Answering.{short-call, put-call}
 use Rattle.c_levels.specs.Numbers.{depthAnswer, depthNumbers}
@@ -40,9 +39,9 @@ returns-2 c =
     let h = c .before .before .before .before .before .before .before .before .if1 .left in
     let s = shapeOf (a .candidates) (a .grades) (a .ballots) in
     put-call depthAnswer (a .answer .now) h (depthNumbers (levelsOutcome s (a .table .now) (a .levels .now))) _ _ _
-    (put .ensures) (ap depthNumbers (outcome .ensures .0))
+    (put .ensures) (ap (λ (q : LevelsResult). depthNumbers (q .answer)) (outcome .ensures))
     (a .levels .now ∷ []) (levelsWritten s (a .table .now) (a .levels .now) ∷ []) _
-    (ap (λ (l : List ℕ). l ∷ []) (outcome .ensures .1))
+    (ap (λ (q : LevelsResult). q .levels ∷ []) (outcome .ensures))
 
 pub jugy-levels-spec : {M : Type 1} → statement M
 jugy-levels-spec =

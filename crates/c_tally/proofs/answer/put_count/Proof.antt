@@ -1,4 +1,4 @@
--- `c_tally::answer::put_count` meets its contract: reason and place stand before the eight closing bytes.
+-- `c_tally::answer::put_count` meets its contract: reason and place come before the eight closing bytes.
 -- Assumes nothing.
 use mathlib.Core.Path.{_∙_, sym, ap}
 use mathlib.Core.List.{List, _∷_}

@@ -1,4 +1,5 @@
--- `c_tally::count::jugy_count` meets its contract: where the answer array is long enough, it says what the entry point says, or what it would say of a shape outside the limits.
+-- `c_tally::count::jugy_count` meets its contract: if the answer array is long enough, it answers what the entry
+-- point does.
 -- Assumes nothing.
 use mathlib.Core.Path.{_∙_, refl, sym, ap}
 use mathlib.Core.List.{[]}
@@ -46,7 +47,7 @@ returns-2 c =
     let long = made .before in
     let a = long .before .before .before .args in
     let s = shapeOf (a .candidates) (a .grades) (a .ballots) in
-    let outside = outside-is (withinLimits s) s (sym (made .new .ensures .0) ∙ told .enum-told .given .1) in
+    let outside = outside-is (withinLimits s) s (sym (made .new .ensures .result) ∙ told .enum-told .given .1) in
     put-call 10 (a .answer .now) (long .if1 .left) (answerNumbers (countReason s (a .bytes .now)) (plainClosing s (a .bytes .now))) _ _ _
     (c .before .before .put-count .ensures)
     (counted _ _ _ _ (sym (outside-reason s (a .bytes .now) outside)) (sym (outside-closing s outside (a .bytes .now)))) [] [] [] refl
@@ -69,7 +70,7 @@ returns-3 c =
     let long = made .before in
     let a = long .before .before .before .args in
     let s = shapeOf (a .candidates) (a .grades) (a .ballots) in
-    let same = shape-is (withinLimits s) s (known .shape .given .0 .0) (sym (made .new .ensures .0) ∙ known .shape .given .1) in
+    let same = shape-is (withinLimits s) s (known .shape .given .0 .0) (sym (made .new .ensures .result) ∙ known .shape .given .1) in
     put-call 10 (a .answer .now) (long .if1 .left) (answerNumbers (countReason s (a .bytes .now)) (plainClosing s (a .bytes .now))) _ _ _
     (c .before .before .put-count2 .ensures)
     (counted _ _ _ _ (outcome .count .ensures .verdict ∙ ap (λ (z : Shape). countReason z (a .bytes .now)) same)

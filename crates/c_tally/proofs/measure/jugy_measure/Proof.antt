@@ -1,4 +1,5 @@
--- `c_tally::measure::jugy_measure` meets its contract: where the answer array is long enough, it says what the entry point says, or what it would say of a shape outside the limits.
+-- `c_tally::measure::jugy_measure` meets its contract: if the answer array is long enough, it answers what the entry
+-- point does.
 -- Assumes nothing.
 use mathlib.Core.Path.{_∙_, refl, sym, ap}
 use mathlib.Core.List.{[]}
@@ -42,7 +43,7 @@ returns-2 c =
     let long = made .before in
     let a = long .before .before .args in
     let s = shapeOf (a .candidates) (a .grades) (a .ballots) in
-    let outside = outside-is (withinLimits s) s (sym (made .new .ensures .0) ∙ told .enum-told .given .1) in
+    let outside = outside-is (withinLimits s) s (sym (made .new .ensures .result) ∙ told .enum-told .given .1) in
     put-call 5 (a .answer .now) (long .if1 .left) (measureNumbers (measureOutcome s)) _ _ _ (c .before .before .put-measures .ensures)
     (ap measureNumbers (sym (outside-measure s outside))) [] [] [] refl
 
@@ -64,7 +65,7 @@ returns-3 c =
     let long = made .before in
     let a = long .before .before .args in
     let s = shapeOf (a .candidates) (a .grades) (a .ballots) in
-    let same = shape-is (withinLimits s) s (known .shape .given .0 .0) (sym (made .new .ensures .0) ∙ known .shape .given .1) in
+    let same = shape-is (withinLimits s) s (known .shape .given .0 .0) (sym (made .new .ensures .result) ∙ known .shape .given .1) in
     put-call 5 (a .answer .now) (long .if1 .left) (measureNumbers (measureOutcome s)) _ _ _ (c .before .before .put-measures2 .ensures)
     (ap measureNumbers (outcome .measure .ensures ∙ ap measureOutcome same)) [] [] [] refl
 

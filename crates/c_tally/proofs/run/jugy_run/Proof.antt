@@ -1,4 +1,5 @@
--- `c_tally::run::jugy_run` meets its contract: where the answer array is long enough, it says what the entry point says, or what it would say of a shape outside the limits.
+-- `c_tally::run::jugy_run` meets its contract: if the answer array is long enough, it answers what the entry point
+-- does.
 -- Assumes nothing.
 use mathlib.Core.Path.{_∙_, sym, ap}
 use mathlib.Core.List.{[], _∷_}
@@ -45,7 +46,7 @@ returns-2 c =
     let long = made .before in
     let a = long .before .before .before .before .before .before .before .args in
     let s = shapeOf (a .candidates) (a .grades) (a .ballots) in
-    let outside = outside-is (withinLimits s) s (sym (made .new .ensures .0) ∙ told .enum-told .given .1) in
+    let outside = outside-is (withinLimits s) s (sym (made .new .ensures .result) ∙ told .enum-told .given .1) in
     let r = runResult s (a .table .now) (a .bytes .now) (a .tape .now) (a .wires .now) (a .board .now) in
     let left = outside-run s outside (a .table .now) (a .bytes .now) (a .tape .now) (a .wires .now) (a .board .now) in
     put-call 4 (a .answer .now) (long .if1 .left) (sizeNumbers (r .answer)) _ _ _ (c .before .before .put-size .ensures)
@@ -76,7 +77,7 @@ returns-3 c =
     let long = made .before in
     let a = long .before .before .before .before .before .before .before .args in
     let s = shapeOf (a .candidates) (a .grades) (a .ballots) in
-    let same = shape-is (withinLimits s) s (known .shape .given .0 .0) (sym (made .new .ensures .0) ∙ known .shape .given .1) in
+    let same = shape-is (withinLimits s) s (known .shape .given .0 .0) (sym (made .new .ensures .result) ∙ known .shape .given .1) in
     let r = runResult s (a .table .now) (a .bytes .now) (a .tape .now) (a .wires .now) (a .board .now) in
     let left = outcome .run .ensures ∙ ap (λ (z : Shape). runResult z (a .table .now) (a .bytes .now) (a .tape .now) (a .wires .now) (a .board .now)) same in
     put-call 4 (a .answer .now) (long .if1 .left) (sizeNumbers (r .answer)) _ _ _ (c .before .before .put-size2 .ensures)

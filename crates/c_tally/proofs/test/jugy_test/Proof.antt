@@ -1,4 +1,5 @@
--- `c_tally::test::jugy_test` meets its contract: where the answer array is long enough, it says what the entry point says, or what it would say of a shape outside the limits.
+-- `c_tally::test::jugy_test` meets its contract: if the answer array is long enough, it answers what the entry point
+-- does.
 -- Assumes nothing.
 use mathlib.Core.Path.{_∙_, refl, sym, ap}
 use mathlib.Core.List.{[]}
@@ -44,7 +45,7 @@ returns-2 c =
     let long = made .before in
     let a = long .before .before .before .args in
     let s = shapeOf (a .candidates) (a .grades) (a .ballots) in
-    let outside = outside-is (withinLimits s) s (sym (made .new .ensures .0) ∙ told .enum-told .given .1) in
+    let outside = outside-is (withinLimits s) s (sym (made .new .ensures .result) ∙ told .enum-told .given .1) in
     put-call 4 (a .answer .now) (long .if1 .left) (sizeNumbers (testOutcome s (a .table .now))) _ _ _ (c .before .before .put-size .ensures)
     (ap sizeNumbers (sym (outside-list s (a .table .now) outside))) [] [] [] refl
 
@@ -66,7 +67,7 @@ returns-3 c =
     let long = made .before in
     let a = long .before .before .before .args in
     let s = shapeOf (a .candidates) (a .grades) (a .ballots) in
-    let same = shape-is (withinLimits s) s (known .shape .given .0 .0) (sym (made .new .ensures .0) ∙ known .shape .given .1) in
+    let same = shape-is (withinLimits s) s (known .shape .given .0 .0) (sym (made .new .ensures .result) ∙ known .shape .given .1) in
     put-call 4 (a .answer .now) (long .if1 .left) (sizeNumbers (testOutcome s (a .table .now))) _ _ _ (c .before .before .put-size2 .ensures)
     (ap sizeNumbers (outcome .test .ensures ∙ ap (λ (z : Shape). testOutcome z (a .table .now)) same)) [] [] [] refl
 

@@ -1,4 +1,5 @@
--- `c_tally::write::jugy_write` meets its contract: where the answer array is long enough, it says what the entry point says, or what it would say of a shape outside the limits.
+-- `c_tally::write::jugy_write` meets its contract: if the answer array is long enough, it answers what the entry
+-- point does.
 -- Assumes nothing.
 use mathlib.Core.Path.{_∙_, sym, ap}
 use mathlib.Core.List.{List, [], _∷_}
@@ -22,10 +23,11 @@ returns : tie.Need-returns
 unfolding shapeOf
 returns c =
     let a = c .before .before .before .args in
-    let s = shapeOf (a .candidates) (a .grades) (a .ballots) in (
-      short-call 4 (a .answer .now) (c .if1 .taken) (sizeNumbers (writeOutcome s (a .table .now))) (a .table .now ∷ []) (writeResult s (a .table .now) ∷ []),
-      λ t. own-list-holds s (T-true (withinLimits s) t),
-    )
+    let s = shapeOf (a .candidates) (a .grades) (a .ballots) in
+    record {
+      leaves = short-call 4 (a .answer .now) (c .if1 .taken) (sizeNumbers (writeOutcome s (a .table .now))) (a .table .now ∷ []) (writeResult s (a .table .now) ∷ []);
+      holds = λ t. own-list-holds s (T-true (withinLimits s) t);
+    }
 
 new-requires : tie.Need-new-requires
 new-requires c κs = search needs
@@ -50,12 +52,13 @@ returns-2 c =
     let long = made .before in
     let a = long .before .before .before .args in
     let s = shapeOf (a .candidates) (a .grades) (a .ballots) in
-    let outside = outside-is (withinLimits s) s (sym (made .new .ensures .0) ∙ told .enum-told .given .1) in
-    let refusal = write-refused s (a .table .now) (reasonAt 1 0) (outside-write s (a .table .now) outside) in (
-      put-call 4 (a .answer .now) (long .if1 .left) (sizeNumbers (writeOutcome s (a .table .now))) _ _ _ (c .before .before .put-size .ensures)
-          (ap sizeNumbers (sym (refusal .0))) (a .table .now ∷ []) (writeResult s (a .table .now) ∷ []) _ (ap (λ (z : List ℕ). z ∷ []) (sym (refusal .1))),
-      λ t. own-list-holds s (T-true (withinLimits s) t),
-    )
+    let outside = outside-is (withinLimits s) s (sym (made .new .ensures .result) ∙ told .enum-told .given .1) in
+    let refusal = write-refused s (a .table .now) (reasonAt 1 0) (outside-write s (a .table .now) outside) in
+    record {
+      leaves = put-call 4 (a .answer .now) (long .if1 .left) (sizeNumbers (writeOutcome s (a .table .now))) _ _ _ (c .before .before .put-size .ensures)
+          (ap sizeNumbers (sym (refusal .0))) (a .table .now ∷ []) (writeResult s (a .table .now) ∷ []) _ (ap (λ (z : List ℕ). z ∷ []) (sym (refusal .1)));
+      holds = λ t. own-list-holds s (T-true (withinLimits s) t);
+    }
 
 write-requires : tie.Need-write-requires
 write-requires c κs = search needs
@@ -78,13 +81,14 @@ returns-3 c =
     let long = made .before in
     let a = long .before .before .before .args in
     let s = shapeOf (a .candidates) (a .grades) (a .ballots) in
-    let same = shape-is (withinLimits s) s (known .shape .given .0 .0) (sym (made .new .ensures .0) ∙ known .shape .given .1) in
-    let wrote = outcome .write .ensures in (
-      put-call 4 (a .answer .now) (long .if1 .left) (sizeNumbers (writeOutcome s (a .table .now))) _ _ _ (c .before .before .put-size2 .ensures)
+    let same = shape-is (withinLimits s) s (known .shape .given .0 .0) (sym (made .new .ensures .result) ∙ known .shape .given .1) in
+    let wrote = outcome .write .ensures in
+    record {
+      leaves = put-call 4 (a .answer .now) (long .if1 .left) (sizeNumbers (writeOutcome s (a .table .now))) _ _ _ (c .before .before .put-size2 .ensures)
           (ap sizeNumbers (wrote .answers ∙ ap (λ (z : Shape). writeOutcome z (a .table .now)) same)) (a .table .now ∷ []) (writeResult s (a .table .now) ∷ []) _
-          (ap (λ (z : List ℕ). z ∷ []) (wrote .leaves ∙ ap (λ (z : Shape). writeResult z (a .table .now)) same)),
-      λ t. own-list-holds s (T-true (withinLimits s) t),
-    )
+          (ap (λ (z : List ℕ). z ∷ []) (wrote .leaves ∙ ap (λ (z : Shape). writeResult z (a .table .now)) same));
+      holds = λ t. own-list-holds s (T-true (withinLimits s) t);
+    }
 
 pub jugy-write-spec : {M : Type 1} → statement M
 jugy-write-spec =

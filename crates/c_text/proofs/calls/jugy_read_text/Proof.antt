@@ -1,4 +1,5 @@
--- `c_text::calls::jugy_read_text` meets its contract: where the answer array is long enough, it says what the entry point says, or what it would say of a shape outside the limits.
+-- `c_text::calls::jugy_read_text` meets its contract: if the answer array is long enough, it answers what the entry
+-- point does.
 -- Assumes nothing.
 use mathlib.Core.Path.{_∙_, sym, ap}
 use mathlib.Core.List.{List, [], _∷_}
@@ -46,7 +47,7 @@ returns-2 c =
     let long = made .before in
     let a = long .before .before .before .before .args in
     let s = shapeOf (a .candidates) (a .grades) (a .ballots) in
-    let outside = outside-is (withinLimits s) s (sym (made .new .ensures .0) ∙ told .enum-told .given .1) in
+    let outside = outside-is (withinLimits s) s (sym (made .new .ensures .result) ∙ told .enum-told .given .1) in
     let r = readTextResult s (a .text .now) (a .output .now) in
     let left = read-refused s (a .text .now) (a .output .now) (reasonAt 1 0) (shape-outside s (a .text .now) (a .output .now) outside) in
     put-call 3 (a .answer .now) (long .if1 .left) (oneNumber (r .answer)) _ _ _ (c .before .before .put-length .ensures)
@@ -73,7 +74,7 @@ returns-3 c =
     let long = made .before in
     let a = long .before .before .before .before .args in
     let s = shapeOf (a .candidates) (a .grades) (a .ballots) in
-    let same = shape-is (withinLimits s) s (known .shape .given .0 .0) (sym (made .new .ensures .0) ∙ known .shape .given .1) in
+    let same = shape-is (withinLimits s) s (known .shape .given .0 .0) (sym (made .new .ensures .result) ∙ known .shape .given .1) in
     let r = readTextResult s (a .text .now) (a .output .now) in
     let left = outcome .read .ensures ∙ ap (λ (z : Shape). readTextResult z (a .text .now) (a .output .now)) same in
     put-call 3 (a .answer .now) (long .if1 .left) (oneNumber (r .answer)) _ _ _ (c .before .before .put-length2 .ensures)

@@ -1,11 +1,10 @@
--- `c_trustee::calls::jugy_trustee_finish` meets its contract: where the answer array is long enough, it says what the
--- entry point says.
+-- `c_trustee::calls::jugy_trustee_finish` meets its contract: if the answer array is long enough, it answers what the
+-- entry point does.
 -- Assumes nothing.
 use mathlib.Core.Path.{ap}
-use mathlib.Core.List.{List, [], _∷_}
-use Prim.Native.Nat.{ℕ}
+use mathlib.Core.List.{[], _∷_}
 use borrow.Author.Needs.{needs}
-use Rattle.trustee_alone.specs.Finish.{finishOutcome, finishedWires}
+use Rattle.trustee_alone.specs.Finish.{FinishResult, finishOutcome, finishedWires}
 use Rattle.c_answers.specs.Numbers.{sizeAnswer, sizeNumbers, shapeOf}
 use Rattle.c_answers.proofs.Answering.{short-call, put-call}
 use Rattle.c_trustee.proofs.calls.jugy_trustee_finish.Statement.{statement}
@@ -40,9 +39,9 @@ returns-2 c =
     let s = shapeOf (a .candidates) (a .grades) (a .ballots) in
     let left = outcome .finish .ensures in
     put-call sizeAnswer (a .answer .now) (long .if1 .left) (sizeNumbers (finishOutcome s (a .table .now) (a .wires .now))) _ _ _
-    (put .put-size .ensures) (ap sizeNumbers (left .0)) (a .wires .now ∷ [])
+    (put .put-size .ensures) (ap (λ (q : FinishResult). sizeNumbers (q .answer)) left) (a .wires .now ∷ [])
     (finishedWires s (a .table .now) (a .wires .now) ∷ []) _
-    (ap (λ (l : List ℕ). l ∷ []) (left .1))
+    (ap (λ (q : FinishResult). q .wires ∷ []) left)
 
 pub jugy-trustee-finish-spec : {M : Type 1} → statement M
 jugy-trustee-finish-spec =

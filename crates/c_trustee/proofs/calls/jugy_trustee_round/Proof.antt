@@ -1,14 +1,15 @@
--- `c_trustee::calls::jugy_trustee_round` meets its contract: where the answer array is long enough, it says what the
--- entry point says.
+-- `c_trustee::calls::jugy_trustee_round` meets its contract: if the answer array is long enough, it answers what the
+-- entry point does.
 -- Assumes nothing.
 use mathlib.Core.Path.{ap}
 use mathlib.Core.List.{[], _∷_}
 use borrow.Author.Needs.{needs}
+use Rattle.levels.specs.Answer.{Depths}
+use Rattle.trustee_alone.specs.Own.{OwnResult}
 use Rattle.trustee_alone.specs.Rounds.{roundOutcome, roundedWires, roundedPublished}
 use Rattle.c_answers.specs.Numbers.{shapeOf}
 use Rattle.c_levels.specs.Numbers.{depthAnswer, depthNumbers}
 use Rattle.c_answers.proofs.Answering.{short-call, put-call}
-use Rattle.c_trustee.proofs.Tables.{both}
 use Rattle.c_trustee.proofs.calls.jugy_trustee_round.Statement.{statement}
 use Rattle.c_trustee.proofs.calls.jugy_trustee_round.Tie as tie
 
@@ -44,9 +45,9 @@ returns-2 c =
     let s = shapeOf (a .candidates) (a .grades) (a .ballots) in
     let left = outcome .round .ensures in
     put-call depthAnswer (a .answer .now) (long .if1 .left) (depthNumbers (roundOutcome s (a .table .now) (a .trustees) (a .trustee) (a .round) (a .levels .now) (a .dealt .now) (a .heard .now) (a .wires .now) (a .published .now))) _ _ _
-    (put .put-depths .ensures) (ap depthNumbers (left .0)) (a .wires .now ∷ a .published .now ∷ [])
+    (put .put-depths .ensures) (ap (λ (q : OwnResult Depths). depthNumbers (q .answer)) left) (a .wires .now ∷ a .published .now ∷ [])
     (roundedWires s (a .table .now) (a .trustees) (a .trustee) (a .round) (a .levels .now) (a .dealt .now) (a .heard .now) (a .wires .now) (a .published .now) ∷ roundedPublished s (a .table .now) (a .trustees) (a .trustee) (a .round) (a .levels .now) (a .dealt .now) (a .heard .now) (a .wires .now) (a .published .now) ∷ []) _
-    (both (left .1 .0) (left .1 .1))
+    (ap (λ (q : OwnResult Depths). q .wires ∷ q .published ∷ []) left)
 
 pub jugy-trustee-round-spec : {M : Type 1} → statement M
 jugy-trustee-round-spec =

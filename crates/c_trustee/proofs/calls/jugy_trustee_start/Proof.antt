@@ -1,13 +1,14 @@
--- `c_trustee::calls::jugy_trustee_start` meets its contract: where the answer array is long enough, it says what the
--- entry point says.
+-- `c_trustee::calls::jugy_trustee_start` meets its contract: if the answer array is long enough, it answers what the
+-- entry point does.
 -- Assumes nothing.
 use mathlib.Core.Path.{ap}
 use mathlib.Core.List.{[], _∷_}
 use borrow.Author.Needs.{needs}
+use Rattle.tally.specs.Answer.{Size}
+use Rattle.trustee_alone.specs.Own.{OwnResult}
 use Rattle.trustee_alone.specs.Start.{startOutcome, startedWires, startedPublished}
 use Rattle.c_answers.specs.Numbers.{sizeAnswer, sizeNumbers, shapeOf}
 use Rattle.c_answers.proofs.Answering.{short-call, put-call}
-use Rattle.c_trustee.proofs.Tables.{both}
 use Rattle.c_trustee.proofs.calls.jugy_trustee_start.Statement.{statement}
 use Rattle.c_trustee.proofs.calls.jugy_trustee_start.Tie as tie
 
@@ -43,9 +44,9 @@ returns-2 c =
     let s = shapeOf (a .candidates) (a .grades) (a .ballots) in
     let left = outcome .start .ensures in
     put-call sizeAnswer (a .answer .now) (long .if1 .left) (sizeNumbers (startOutcome s (a .table .now) (a .trustees) (a .trustee) (a .parts .now) (a .dealt .now) (a .wires .now) (a .published .now))) _ _ _
-    (put .put-size .ensures) (ap sizeNumbers (left .0)) (a .wires .now ∷ a .published .now ∷ [])
+    (put .put-size .ensures) (ap (λ (q : OwnResult Size). sizeNumbers (q .answer)) left) (a .wires .now ∷ a .published .now ∷ [])
     (startedWires s (a .table .now) (a .trustees) (a .trustee) (a .parts .now) (a .dealt .now) (a .wires .now) (a .published .now) ∷ startedPublished s (a .table .now) (a .trustees) (a .trustee) (a .parts .now) (a .dealt .now) (a .wires .now) (a .published .now) ∷ []) _
-    (both (left .1 .0) (left .1 .1))
+    (ap (λ (q : OwnResult Size). q .wires ∷ q .published ∷ []) left)
 
 pub jugy-trustee-start-spec : {M : Type 1} → statement M
 jugy-trustee-start-spec =

@@ -1,5 +1,5 @@
--- `c_trustees::by_trustees::jugy_trustees` meets its contract: where the answer array is long enough, it says what the
--- entry point says.
+-- `c_trustees::by_trustees::jugy_trustees` meets its contract: if the answer array is long enough, it answers what
+-- the entry point does.
 -- Assumes nothing.
 use borrow.Author.Needs.{needs}
 use mathlib.Core.Path.{ap}
@@ -12,7 +12,7 @@ use Rattle.c_answers.proofs.Answering.{short-call, put-call}
 use Rattle.c_trustees.proofs.by_trustees.jugy_trustees.Statement.{statement}
 use Rattle.c_trustees.proofs.by_trustees.jugy_trustees.Tie as tie
 
--- The call that this is, from where the function starts.
+-- This call, by its arguments at the start.
 abbrev call : tie.Start → Call
 call s =
     let a = s .args in

@@ -1,4 +1,4 @@
--- `c_trustees::by_trustees::put_closing` meets its contract: what is left to copy gives what all of it gives.
+-- `c_trustees::by_trustees::put_closing` meets its contract: copying the rest is copying all.
 -- Assumes nothing.
 use borrow.Author.Needs.{needs}
 use mathlib.Core.Path.{_≡_, _∙_, refl, sym, ap}

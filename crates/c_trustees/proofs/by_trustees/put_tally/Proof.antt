@@ -1,4 +1,4 @@
--- `c_trustees::by_trustees::put_tally` meets its contract: four numbers, and the eight bytes behind them.
+-- `c_trustees::by_trustees::put_tally` meets its contract: four numbers, then the eight bytes.
 -- Assumes nothing.
 use borrow.Author.Needs.{needs}
 use mathlib.Core.Path.{_∙_}

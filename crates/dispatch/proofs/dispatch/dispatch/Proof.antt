@@ -1,5 +1,5 @@
--- `dispatch::dispatch::dispatch` meets its contract: the first reason decides, and where none applies the rounds leave
--- every jury finished.
+-- `dispatch::dispatch::dispatch` meets its contract: the first reason decides; if there is none, the rounds finish
+-- every jury.
 -- Assumes nothing.
 use mathlib.Core.Path.{_≡_, _∙_, sym, ap}
 use mathlib.Core.Bool.{true, _&&_}
@@ -22,7 +22,7 @@ use Rattle.dispatch.proofs.Whole.{bad-count, bad-quantum, by-juries, re
 use Rattle.dispatch.proofs.dispatch.dispatch.Statement.{statement}
 use Rattle.dispatch.proofs.dispatch.dispatch.Tie as tie
 
--- The call that this is, from where the function starts.
+-- This call, by its arguments at the start.
 abbrev call : tie.Start → Call
 call s =
     let a = s .args in
@@ -67,7 +67,7 @@ least c = let q = call (started (counted c)) .quantum in leb-true 1 q (and-first
 most : (c : tie.Else2) → call (started (counted c)) .quantum ≤ 65536
 most c = let q = call (started (counted c)) .quantum in leb-true q 65536 (and-second (leb 1 q) (leb q 65536) (quantum-good c))
 
--- the reason of the tests is that of the call
+-- the reason that the tests found is the call's
 by-tests : (c : tie.After-test-juries) (o : Option Reason) → verdictReason (c .test-juries .result .verdict) ≡ o
     → dispatchResult (call (begun c)) ≡ dispatchResultAfter o (call (begun c))
 by-tests c o e =
@@ -120,7 +120,7 @@ returns-3 c =
     same-result _ _ (told ∙ sym (ap (λ (d : DispatchResult). d .reason) e)) (sym (ap (λ (d : DispatchResult). d .rounds) e))
     (sym (ap (λ (d : DispatchResult). d .wires) e)) (sym (ap (λ (d : DispatchResult). d .boards) e))
 
--- past the tests
+-- after the tests
 passes : (c : tie.After-enum-told) → verdictReason (tested c .test-juries .result .verdict) ≡ none
 unfolding verdictReason
 passes c = ap verdictReason (c .enum-told .given .1)
@@ -141,7 +141,7 @@ run-rounds-requires c κs =
       conditionalAre = tested t .test-juries .ensures .conditional (passes t);
     }
 
--- the wires of all juries lie in the table
+-- the wires of all juries fit into the table
 room : (c : tie.After-run-rounds)
     → tested (passed c) .test-juries .result .wires ≤ length (c .run-rounds .last .1 .1 .1 .1 .1 .1 .1 .0)
 room c =

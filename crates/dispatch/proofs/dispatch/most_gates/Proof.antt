@@ -1,4 +1,5 @@
--- `dispatch::dispatch::most_gates` meets its contract: what was found so far and the most of the juries ahead make the most of all.
+-- `dispatch::dispatch::most_gates` meets its contract: the larger of what was found so far and the most of the juries
+-- ahead is the most of all.
 -- Assumes nothing.
 use mathlib.Core.Path.{_≡_, _∙_, ap}
 use mathlib.Core.List.{[]}

@@ -1,4 +1,4 @@
--- `dispatch::dispatch::rounds_of` meets its contract: the juries passed have their numbers, and zeros stand for those ahead.
+-- `dispatch::dispatch::rounds_of` meets its contract: the juries passed have their numbers, those ahead 0.
 -- Assumes nothing.
 use mathlib.Core.Path.{_≡_, refl, sym, ap, subst}
 use mathlib.Core.List.{List, []}
@@ -38,7 +38,7 @@ blank = record { candidates = 0; grades = 0; ballots = 0; gates = 0 }
 enough : (s : tie.Start Inv-loop μ-loop) → s .args .count ≤ length (s .args .t2)
 enough s = omega (arith, s .pre .few, s .good .1 .0 .1 .0 .1)
 
--- the gates of the jury whose turn it is
+-- how many gates this turn's jury has
 few : (c : tie.In-loop Inv-loop μ-loop) → getD (c .before .before .args .t2) (c .before .loop .j) blank .gates ≤ 1048576
 few c =
     let s = c .before .before in

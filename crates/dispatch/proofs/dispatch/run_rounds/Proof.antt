@@ -1,5 +1,5 @@
--- `dispatch::dispatch::run_rounds` meets its contract: each round leads all juries on by the gates of one round, and there
--- are at most as many rounds as gates.
+-- `dispatch::dispatch::run_rounds` meets its contract: each round gives every jury its next gates, and there are at
+-- most as many rounds as gates.
 -- Assumes nothing.
 use mathlib.Core.Path.{_≡_, _∙_, refl, sym, subst}
 use mathlib.Core.Logic.{⊎-elim}
@@ -26,7 +26,7 @@ Inv-loop count headers conditional quantum lists ballots tapes wires₀ boards�
 abbrev μ-loop : tie.MeasureT-loop
 μ-loop count headers conditional quantum lists ballots tapes wires₀ boards₀ most shown₀ done₀ wires boards shown done = most - done
 
--- From a round to where the function starts.
+-- From a round back to where the function starts.
 abbrev begun : tie.In-loop Inv-loop μ-loop → tie.Start Inv-loop μ-loop
 begun c = c .before .before .before .before .before .before .before .before
 
@@ -40,7 +40,7 @@ few c =
     let s = c .before .before .before .before .before .before .before in
     omega (arith, c .before .most-gates .ensures, few-gates 0 (take (s .args .count) (s .args .headers)) (all s) (s .pre .accepted))
 
--- a round gives a gate at least
+-- a round gives at least one gate
 below : (done quantum most : ℕ) → 1 ≤ quantum → done * quantum < most → done < most
 below done quantum most h l = omega (arith, mul-le-mul {n₁ = done} {m₁ = 1} {n₂ = done} {m₂ = quantum} (omega arith) h)
 
@@ -86,7 +86,7 @@ add-done c =
     let l = c .before .before .before .before .before .before .before .before in
     omega (arith, l .loop .inv .3, few l)
 
--- a round that is done was needed
+-- no round was idle
 needed : (c : tie.In-loop Inv-loop μ-loop) → c .before .loop .done < c .before .before .most-gates .result
 needed c =
     let s = c .before .before .before .before .before .before .before .before in

@@ -1,4 +1,5 @@
--- `dispatch::tests::numbers_fitting` meets its contract: four numbers a gate fit where a quarter of what is left is enough.
+-- `dispatch::tests::numbers_fitting` meets its contract: four numbers a gate fit if a quarter of what is left is
+-- enough.
 -- Assumes nothing.
 use Prim.Native.Nat.{_*_}
 use native.Mathlib.Omega.{arith}

@@ -67,7 +67,7 @@ found c =
     (lent-same _ _ _ _ _ _ _ _ _ _ (rest-is (at .lists) (s .args .lists .now)) (rest-is (at .ballots) (s .args .ballots .now)) (rest-is (at .tapes) (s .args .tapes .now))
     (rest-is (at .wires) (s .args .wires .now)) (rest-is (at .boards) (s .args .boards .now)))
 
--- From where a jury was tested to the begin of its turn.
+-- From the test of a jury back to the start of its turn.
 abbrev in-turn : tie.After-test-jury Inv-loop μ-loop → tie.In-loop Inv-loop μ-loop
 in-turn c = c .before .before .before .before .before .before .before
 

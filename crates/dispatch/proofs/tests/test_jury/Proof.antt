@@ -1,4 +1,5 @@
--- `dispatch::tests::test_jury` meets its contract: the list is tested first, then the ballots, then what else is lent, each on the jury's own piece.
+-- `dispatch::tests::test_jury` meets its contract: it tests the list, then the ballots, then the buffers, each on the
+-- jury's own piece.
 -- Assumes nothing.
 use mathlib.Core.Path.{_≡_, _∙_, sym, ap}
 use mathlib.Core.Option.{Option, none, some}
@@ -47,7 +48,7 @@ to-ballots-test c = c .before .before
 abbrev to-ballots-passed : tie.After-test-buffers → tie.After-enum-told2
 to-ballots-passed c = c .before .before .before .before .before .before .before
 
--- From where the list passed, the ballots passed and the buffers were tested to the start.
+-- From after the list passed, the ballots passed, or the buffers were tested, back to the start.
 abbrev listed : tie.After-known-told → tie.Start
 listed c = to-start (to-list-test c)
 
@@ -57,7 +58,7 @@ balloted c = to-list-passed (to-ballots-test c)
 abbrev buffered : tie.After-test-buffers → tie.After-known-told
 buffered c = balloted (to-ballots-passed c)
 
--- the first reason decides of the answer
+-- the first reason decides the answer
 refuses : (s : tie.Start) (r : Reason) → firstOf (reasonsOf (s .args .header) (all s)) ≡ some r
     → refused r ≡ outcome (firstOf (reasonsOf (s .args .header) (all s))) (sizeOf (gatesOf (listOf (s .args .header) (all s))))
 unfolding outcome
@@ -189,7 +190,7 @@ enum-known-reason-2 c = search needs
 enum-told-3 : tie.Need-enum-told-3
 enum-told-3 c = search needs
 
--- the tests of what else is lent, on their pieces
+-- the tests of the buffers, on their pieces
 lent-outcome : (c : tie.After-test-buffers) → let s = listed (buffered c) in let p = pieces s in
     refusedFor (c .test-buffers .result) ≡ firstOf (bufferReasons (ballotBytes (shapeOf (s .args .header))) (s .args .header .candidates) (size (buffered c)) (p .tapes) (p .wires) (p .boards))
 unfolding size
@@ -211,7 +212,7 @@ lent-outcome c =
     ∙ ap (λ (x : List ℕ). firstOf (bufferReasons (ballotBytes (shapeOf st)) k z (p .tapes) x (take (o .result) (s .args .boards .now)))) (wires-piece st (all s) (i .result) (z .gates) (v .result) (i .ensures) (facts .0) (v .ensures))
     ∙ ap (λ (x : List ℕ). firstOf (bufferReasons (ballotBytes (shapeOf st)) k z (p .tapes) (p .wires) x)) (board-piece st (all s) (z .conditional) (o .result) (facts .1) (o .ensures))
 
--- what they answer is what the whole answers
+-- what they answer is the answer of the whole
 whole-outcome : (c : tie.After-test-buffers) → let s = listed (buffered c) in firstOf (reasonsOf (s .args .header) (all s)) ≡ refusedFor (c .test-buffers .result)
 unfolding reasonsOf
 whole-outcome c =

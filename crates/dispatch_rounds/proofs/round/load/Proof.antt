@@ -1,4 +1,4 @@
--- `dispatch_rounds::round::load` meets its contract: the ballots are copied where no gate was given yet.
+-- `dispatch_rounds::round::load` meets its contract: the ballots are copied if no gate was given yet.
 -- Assumes nothing.
 use mathlib.Core.Path.{_∙_, sym, ap}
 use mathlib.Core.Bool.{Bool, cond}
@@ -7,6 +7,7 @@ use Prim.Native.Nat.{ℕ}
 use lib.ListN.{length, take, drop}
 use borrow.Author.Needs.{needs}
 use borrow.Author.Tests.{eq-eqb, ne-eqb}
+use Rattle.basics.proofs.Tables.{copied}
 use Rattle.dispatch_rounds.proofs.round.load.Statement.{statement}
 use Rattle.dispatch_rounds.proofs.round.load.Tie as tie
 
@@ -23,7 +24,7 @@ same-length c = search needs
 returns : tie.Need-returns
 returns c =
     let a = c .before .before .before .before .before .before .before .args in
-    c .before .before .copy .ensures .1
+    copied (c .before .before .copy .ensures)
     ∙ ap (λ (x : Bool). cond x (loaded (a .ballots .now) (a .wires .now)) (a .wires .now)) (sym (eq-eqb (a .given) 0 (c .before .before .before .before .if1 .taken)))
 
 returns-2 : tie.Need-returns-2

@@ -1,5 +1,5 @@
--- `dispatch_rounds::round::round` meets its contract: after each turn the juries passed have had their part of the round,
--- and those ahead stand as before it.
+-- `dispatch_rounds::round::round` meets its contract: after each turn the juries passed have had their share of the
+-- round, and those ahead are as before it.
 -- Assumes nothing.
 use mathlib.Core.Path.{_≡_, _∙_, refl, sym, ap, subst}
 use mathlib.Core.List.{List, [], _∷_, _++_}
@@ -31,7 +31,7 @@ Inv-loop count done quantum lists ballots tapes wires₀ boards₀ headers condi
 abbrev μ-loop : tie.MeasureT-loop
 μ-loop count done quantum lists ballots tapes wires₀ boards₀ headers conditional given shown₀ at₀ j₀ wires boards shown at j = count - j
 
--- The stages of a turn: it begins; the places behind the jury are known; the jury has had its turn.
+-- The stages of a turn: it begins; the places after the jury are known; the jury has had its turn.
 abbrev begun : tie.In-loop Inv-loop μ-loop → tie.Start Inv-loop μ-loop
 begun c = c .before .before .before .before .before .before .before
 
@@ -41,11 +41,11 @@ in-loop c = c .before .before
 abbrev placed : tie.After-turn Inv-loop μ-loop → tie.After-after Inv-loop μ-loop
 placed c = c .before .before .before .before .before .before
 
--- what a header past the last would be
+-- a header past the last
 abbrev blank : JuryHeader
 blank = record { candidates = 0; grades = 0; ballots = 0; gates = 0 }
 
--- the tables as they were lent, for some earlier contents of wires and boards
+-- the tables as they were lent, for some old contents of wires and boards
 abbrev lentTo : tie.Start Inv-loop μ-loop → List ℕ → List ℕ → Tables
 lentTo s ws bs = lent (s .args .lists .now) (s .args .ballots .now) (s .args .tapes .now) ws bs
 
@@ -76,7 +76,7 @@ mid c ws bs st =
     subst (λ (left : List JuryHeader). Mid (take (s .args .count) (s .args .t2)) (lentTo s ws bs) (given s) (given s + s .args .quantum) (s .args .t3) (l .j) left (l .at) (l .wires) (l .boards) (l .shown))
     (left-cons (s .args .count) (l .j) (s .args .t2) blank (c .loop-test .taken) (enough s)) (l .inv .1 ws bs st)
 
--- what is known of it, whatever stood in the wires and on the boards
+-- what is known of it, whatever the wires and boards held
 record Turn (c : tie.In-loop Inv-loop μ-loop) (ws bs : List ℕ) : Type 0 where
   pub passed : Passed (jury c) (here c ws bs)
   pub mark : getD (c .before .before .before .before .before .before .before .args .t3) (c .before .loop .j) 0 ≡ conditionalIn (jury c) (here c ws bs)
@@ -118,7 +118,7 @@ in-turn c ws bs st =
 abbrev known : (c : tie.In-loop Inv-loop μ-loop) → Turn c (c .before .before .before .before .before .before .before .pre .wires-lent) (c .before .before .before .before .before .before .before .pre .boards-lent)
 known c = let s = c .before .before .before .before .before .before .before in in-turn c (s .pre .wires-lent) (s .pre .boards-lent) (s .pre .state)
 
--- the places behind the jury
+-- the places after the jury
 places-are : (c : tie.After-after Inv-loop μ-loop) (ws bs : List ℕ) → Turn (c .before .before) ws bs
     → c .after .result ≡ placesAfter (c .before .before .before .loop .at) (jury (c .before .before)) (conditionalIn (jury (c .before .before)) (here (c .before .before) ws bs))
 places-are c ws bs k = c .after .ensures ∙ ap (placesAfter (c .before .before .before .loop .at) (jury (c .before .before))) (k .mark)

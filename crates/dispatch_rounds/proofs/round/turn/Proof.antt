@@ -1,5 +1,5 @@
--- `dispatch_rounds::round::turn` meets its contract: a finished jury stands as it is, and any other is led on by a step,
--- and closed with its last gate.
+-- `dispatch_rounds::round::turn` meets its contract: a finished jury stays as it is; for any other the step does the
+-- next gates, and the last gate closes the board.
 -- Assumes nothing.
 use mathlib.Core.Path.{sym, ap, subst}
 use mathlib.Core.List.{List}
@@ -75,7 +75,7 @@ finished c ws bs j =
     let r = c .step in
     subst (λ (n : ℕ). Stands (a .ballots .now) (a .list .now) (a .tape .now) ws bs n (r .last .1 .1 .1 .1 .1 .1 .0) (r .last .1 .1 .1 .1 .1 .1 .1 .0) (r .result)) (sym (j .gates))
     (step-stands (a .ballots .now) (a .list .now) (a .header .candidates) (a .tape .now) ws bs (j .run) (a .given) (a .header .gates) (omega arith) (omega (arith, j .gates))
-    _ (a .board .now) (a .shown) (begun l ws bs j) _ _ (r .result) (r .ensures .0) (r .ensures .1 .0) (r .ensures .1 .1))
+    _ (a .board .now) (a .shown) (begun l ws bs j) _ _ (r .result) (r .ensures .next) (r .ensures .wires) (r .ensures .board))
 
 close-requires : tie.Need-close-requires
 close-requires c κs =
@@ -83,8 +83,7 @@ close-requires c κs =
     let s = started (loaded e) in
     let a = s .args in
     let j = s .pre .state in
-    let q = can-close (a .ballots .now) (a .list .now) (a .header .candidates) (a .tape .now) (s .pre .wires-lent) (s .pre .board-lent) (j .run) _ _ _ (finished e (s .pre .wires-lent) (s .pre .board-lent) j) in
-    (q .0, q .1)
+    can-close (a .ballots .now) (a .list .now) (a .header .candidates) (a .tape .now) (s .pre .wires-lent) (s .pre .board-lent) (j .run) _ _ _ (finished e (s .pre .wires-lent) (s .pre .board-lent) j)
 
 same-length : tie.Need-same-length
 same-length c = search needs
@@ -132,7 +131,7 @@ returns-3 c =
     λ (ws bs : List ℕ) j.
     turn-goes-on (a .header) (lent (a .list .now) (a .ballots .now) (a .tape .now) ws bs) (j .run) (j .some-gate) (j .gates) (a .given + a .quantum) _ _ _ (omega arith) (omega arith)
     (step-stands (a .ballots .now) (a .list .now) (a .header .candidates) (a .tape .now) ws bs (j .run) (a .given) (a .given + a .quantum) (omega arith) (omega (arith, j .gates))
-    _ (a .board .now) (a .shown) (begun l ws bs j) _ _ (r .result) (r .ensures .0) (r .ensures .1 .0) (r .ensures .1 .1))
+    _ (a .board .now) (a .shown) (begun l ws bs j) _ _ (r .result) (r .ensures .next) (r .ensures .wires) (r .ensures .board))
 
 pub turn-spec : {M : Type 1} → statement M
 turn-spec =

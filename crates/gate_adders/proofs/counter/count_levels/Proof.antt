@@ -30,20 +30,20 @@ some-bit c = let l = c .before .loop in countable-step (l .m) (l .rest) (l .left
 wires-fit : (c : tie.After-level-arg Inv-loop μ-loop) → c .before .before .loop .w .wire < writerLimit
 wires-fit c =
     let a = c .before .before .before .before .args in
-    omega (arith, c .before .before .before .before .pre .0 .small, c .before .before .loop .inv .4 .wireLeft, length-count (a .start .wire) (a .first) (a .stride) (a .count) (a .extra) (a .levels))
+    omega (arith, c .before .before .before .before .pre .room .small, c .before .before .loop .inv .4 .wireLeft, length-count (a .start .wire) (a .first) (a .stride) (a .count) (a .extra) (a .levels))
 
 loop-holds : tie.Need-loop-holds Inv-loop μ-loop
 loop-holds c =
     let a = c .before .args in (
-      c .before .pre .1 .0,
-      c .before .pre .1 .1 .0,
-      c .before .pre .1 .1 .1,
-      c .before .pre .1 .1 .2,
-      goes-start (a .start) (a .table .now) (countLevels (a .start .wire) (a .first) (a .stride) (a .count) (a .extra) (a .levels)) (countSize (a .count) (a .extra) (a .levels)) (c .before .pre .0),
+      c .before .pre .below,
+      c .before .pre .near,
+      c .before .pre .few,
+      c .before .pre .countable,
+      goes-start (a .start) (a .table .now) (countLevels (a .start .wire) (a .first) (a .stride) (a .count) (a .extra) (a .levels)) (countSize (a .count) (a .extra) (a .levels)) (c .before .pre .room),
     )
 
 add-level : tie.Need-add-level Inv-loop μ-loop
-add-level c = let s = c .before .before .before .before in let l = c .before .before .loop in omega (arith, s .pre .0 .small, l .inv .4 .wireLeft, first-bit (l .w .wire) (l .at) (l .d) (l .m) (l .rest) (l .left) (c .before .loop-test .taken) (l .inv .0) (l .inv .3), l .inv .1, wires-fit c)
+add-level c = let s = c .before .before .before .before in let l = c .before .before .loop in omega (arith, s .pre .room .small, l .inv .4 .wireLeft, first-bit (l .w .wire) (l .at) (l .d) (l .m) (l .rest) (l .left) (c .before .loop-test .taken) (l .inv .0) (l .inv .3), l .inv .1, wires-fit c)
 
 sub-level : tie.Need-sub-level Inv-loop μ-loop
 sub-level c = some-bit (c .before)
@@ -52,11 +52,12 @@ level-requires : tie.Need-level-requires Inv-loop μ-loop
 level-requires c κs =
     let s = c .before .before .before .before in
     let a = s .args in
-    let l = c .before .before .loop in (
-      goes-room (a .start) (a .table .now) (countLevels (a .start .wire) (a .first) (a .stride) (a .count) (a .extra) (a .levels)) (l .w) (l .table) (countLevels (l .w .wire) (l .at) (l .d) (l .m) (l .rest) (l .left)) (length (level (l .w .wire) (l .at) (l .at + l .d) (l .d) (l .rest % 2) (l .m - 1))) (countSize (a .count) (a .extra) (a .levels)) (l .inv .4)
-          (omega (arith, ap length (count-step (l .w .wire) (l .at) (l .d) (l .m) (l .rest) (l .left) (c .before .loop-test .taken)), length-append (level (l .w .wire) (l .at) (l .at + l .d) (l .d) (l .rest % 2) (l .m - 1)) (countLevels (l .w .wire + 3 * adders (l .m - 1) (l .rest % 2)) (l .w .wire + 2) 3 (adders (l .m - 1) (l .rest % 2)) (l .rest / 2) (l .left - 1)))) (omega (arith, length-count (a .start .wire) (a .first) (a .stride) (a .count) (a .extra) (a .levels))) (s .pre .0),
-      below-rest (l .w .wire) (l .at) (l .d) (l .m) (some-bit (c .before)) (l .inv .0),
-    )
+    let l = c .before .before .loop in
+    record {
+      room = goes-room (a .start) (a .table .now) (countLevels (a .start .wire) (a .first) (a .stride) (a .count) (a .extra) (a .levels)) (l .w) (l .table) (countLevels (l .w .wire) (l .at) (l .d) (l .m) (l .rest) (l .left)) (length (level (l .w .wire) (l .at) (l .at + l .d) (l .d) (l .rest % 2) (l .m - 1))) (countSize (a .count) (a .extra) (a .levels)) (l .inv .4)
+          (omega (arith, ap length (count-step (l .w .wire) (l .at) (l .d) (l .m) (l .rest) (l .left) (c .before .loop-test .taken)), length-append (level (l .w .wire) (l .at) (l .at + l .d) (l .d) (l .rest % 2) (l .m - 1)) (countLevels (l .w .wire + 3 * adders (l .m - 1) (l .rest % 2)) (l .w .wire + 2) 3 (adders (l .m - 1) (l .rest % 2)) (l .rest / 2) (l .left - 1)))) (omega (arith, length-count (a .start .wire) (a .first) (a .stride) (a .count) (a .extra) (a .levels))) (s .pre .room);
+      below = below-rest (l .w .wire) (l .at) (l .d) (l .m) (some-bit (c .before)) (l .inv .0);
+    }
 
 add-at : tie.Need-add-at Inv-loop μ-loop
 add-at c = let l = c .before .before .before .before .before .loop in omega (arith, wires-fit (c .before .before .before))

@@ -2,6 +2,7 @@
 -- Assumes nothing.
 use native.Mathlib.Omega.{arith}
 use borrow.Author.Needs.{needs}
+use Rattle.gates.proofs.Laws.{operand-counts}
 use Rattle.gate_words.specs.Counter.{counter}
 use Rattle.gate_words.proofs.Writing.{wrote-both, room-after}
 use Rattle.gate_words.proofs.CounterSteps.{length-count}
@@ -16,10 +17,15 @@ count-digits-requires c κs =
     let s = c .before .before .before .before .before .before in
     let a = s .args in
     let w = c .before .before .before .count-levels in
-    let n = length-count (a .start .wire) (a .first) (a .stride) (a .count) (a .extra) (a .levels) in (
-      room-after (a .start) (a .table .now) _ (w .last .1 .0) (w .result) _ _ (w .ensures) (omega (arith, n)) (s .pre .0),
-      (omega (arith, n, w .ensures .wires), (s .pre .1 .1 .1, s .pre .1 .1 .2)),
-    )
+    let n = length-count (a .start .wire) (a .first) (a .stride) (a .count) (a .extra) (a .levels) in
+    record {
+      room = room-after (a .start) (a .table .now) _ (w .last .1 .0) (w .result) _ _ (w .ensures) (omega (arith, n)) (s .pre .room);
+      lowOne = operand-counts .2;
+      topOne = operand-counts .2;
+      levelsBelow = omega (arith, n, w .ensures .wires);
+      few = s .pre .few;
+      countable = s .pre .countable;
+    }
 
 same-length : tie.Need-same-length
 same-length c = omega arith

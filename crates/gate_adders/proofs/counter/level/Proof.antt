@@ -31,8 +31,8 @@ abbrev μ-loop : tie.MeasureT-loop
 loop-holds : tie.Need-loop-holds Inv-loop μ-loop
 loop-holds c =
     let a = c .before .args in (
-      c .before .pre .1,
-      goes-start (a .start) (a .table .now) (level (a .start .wire) (a .sum) (a .first) (a .stride) (a .e) (a .count)) (length (level (a .start .wire) (a .sum) (a .first) (a .stride) (a .e) (a .count))) (c .before .pre .0),
+      c .before .pre .below,
+      goes-start (a .start) (a .table .now) (level (a .start .wire) (a .sum) (a .first) (a .stride) (a .e) (a .count)) (length (level (a .start .wire) (a .sum) (a .first) (a .stride) (a .e) (a .count))) (c .before .pre .room),
     )
 
 -- two bits are left in the loop
@@ -40,7 +40,7 @@ two-left : (c : tie.In-loop Inv-loop μ-loop) → 1 < c .before .loop .left
 two-left c = omega arith
 
 add-full-adder : tie.Need-add-full-adder Inv-loop μ-loop
-add-full-adder c = let s = c .before .before .before .before in let l = c .before .before .loop in omega (arith, s .pre .0 .small, below-two (s .args .start .wire) (l .at) (s .args .stride) (l .left) (two-left (c .before)) (l .inv .0) .0)
+add-full-adder c = let s = c .before .before .before .before in let l = c .before .before .loop in omega (arith, s .pre .room .small, below-two (s .args .start .wire) (l .at) (s .args .stride) (l .left) (two-left (c .before)) (l .inv .0) .0)
 
 full-adder-requires : tie.Need-full-adder-requires Inv-loop μ-loop
 full-adder-requires c κs =
@@ -48,16 +48,16 @@ full-adder-requires c κs =
     let a = s .args in
     let l = c .before .before .loop in
     goes-room (a .start) (a .table .now) (level (a .start .wire) (a .sum) (a .first) (a .stride) (a .e) (a .count)) (l .w) (l .table) (level (l .w .wire) (l .s) (l .at) (a .stride) (a .e) (l .left)) 3 (length (level (a .start .wire) (a .sum) (a .first) (a .stride) (a .e) (a .count))) (l .inv .1)
-    (omega (arith, long (l .w .wire) (l .s) (l .at) (a .stride) (a .e) (l .left) (two-left (c .before)))) (omega (arith, s .pre .0 .small)) (s .pre .0)
+    (omega (arith, long (l .w .wire) (l .s) (l .at) (a .stride) (a .e) (l .left) (two-left (c .before)))) (omega (arith, s .pre .room .small)) (s .pre .room)
 
 add-s : tie.Need-add-s Inv-loop μ-loop
-add-s c = let s = c .before .before .before .before .before .before .before in let a = s .args in let l = c .before .before .before .before .before .loop in omega (arith, s .pre .0 .small, l .inv .1 .wireLeft, long (l .w .wire) (l .s) (l .at) (a .stride) (a .e) (l .left) (two-left (c .before .before .before .before)))
+add-s c = let s = c .before .before .before .before .before .before .before in let a = s .args in let l = c .before .before .before .before .before .loop in omega (arith, s .pre .room .small, l .inv .1 .wireLeft, long (l .w .wire) (l .s) (l .at) (a .stride) (a .e) (l .left) (two-left (c .before .before .before .before)))
 
 add-at : tie.Need-add-at Inv-loop μ-loop
-add-at c = let s = c .before .before .before .before .before .before .before in let l = c .before .before .before .before .before .loop in omega (arith, s .pre .0 .small, below-two (s .args .start .wire) (l .at) (s .args .stride) (l .left) (two-left (c .before .before .before .before)) (l .inv .0) .0)
+add-at c = let s = c .before .before .before .before .before .before .before in let l = c .before .before .before .before .before .loop in omega (arith, s .pre .room .small, below-two (s .args .start .wire) (l .at) (s .args .stride) (l .left) (two-left (c .before .before .before .before)) (l .inv .0) .0)
 
 add-at-2 : tie.Need-add-at-2 Inv-loop μ-loop
-add-at-2 c = let s = c .before .before .before .before .before .before .before in let l = c .before .before .before .before .before .loop in omega (arith, s .pre .0 .small, below-two (s .args .start .wire) (l .at) (s .args .stride) (l .left) (two-left (c .before .before .before .before)) (l .inv .0) .0)
+add-at-2 c = let s = c .before .before .before .before .before .before .before in let l = c .before .before .before .before .before .loop in omega (arith, s .pre .room .small, below-two (s .args .start .wire) (l .at) (s .args .stride) (l .left) (two-left (c .before .before .before .before)) (l .inv .0) .0)
 
 sub-left : tie.Need-sub-left Inv-loop μ-loop
 sub-left c = omega arith
@@ -86,7 +86,7 @@ half-adder-requires c κs =
     let a = s .args in
     let l = c .before .before .before .loop in
     goes-room (a .start) (a .table .now) (level (a .start .wire) (a .sum) (a .first) (a .stride) (a .e) (a .count)) (l .w) (l .table) (level (l .w .wire) (l .s) (l .at) (a .stride) (a .e) (l .left)) 3 (length (level (a .start .wire) (a .sum) (a .first) (a .stride) (a .e) (a .count))) (l .inv .1)
-    (omega (arith, ap length (level-one (l .w .wire) (l .s) (l .at) (a .stride) (a .e) (l .left) (c .before .if1 .taken)), length-append (halfAdder (l .w .wire) (l .s) (l .at) (a .e)) [], length-half (l .w .wire) (l .s) (l .at) (a .e))) (omega arith) (s .pre .0)
+    (omega (arith, ap length (level-one (l .w .wire) (l .s) (l .at) (a .stride) (a .e) (l .left) (c .before .if1 .taken)), length-append (halfAdder (l .w .wire) (l .s) (l .at) (a .e)) [], length-half (l .w .wire) (l .s) (l .at) (a .e))) (omega arith) (s .pre .room)
 
 same-length : tie.Need-same-length Inv-loop μ-loop
 same-length c = wrote-long _ _ _ _ _ (c .before .before .half-adder .ensures) ∙ c .before .before .before .before .before .before .loop .inv .1 .long
@@ -115,7 +115,7 @@ increment-requires c κs =
     let a = s .args in
     let l = c .before .before .before .before .loop in
     goes-room (a .start) (a .table .now) (level (a .start .wire) (a .sum) (a .first) (a .stride) (a .e) (a .count)) (l .w) (l .table) (level (l .w .wire) (l .s) (l .at) (a .stride) (a .e) (l .left)) 3 (length (level (a .start .wire) (a .sum) (a .first) (a .stride) (a .e) (a .count))) (l .inv .1)
-    (omega (arith, ap length (level-bit (l .w .wire) (l .s) (l .at) (a .stride) (a .e) (l .left) (c .before .before .before .loop-test .left) (c .before .before .if1 .left) (c .before .if2 .left)), length-append (increment (l .w .wire) (l .s)) [], length-increment (l .w .wire) (l .s))) (omega arith) (s .pre .0)
+    (omega (arith, ap length (level-bit (l .w .wire) (l .s) (l .at) (a .stride) (a .e) (l .left) (c .before .before .before .loop-test .left) (c .before .before .if1 .left) (c .before .if2 .left)), length-append (increment (l .w .wire) (l .s)) [], length-increment (l .w .wire) (l .s))) (omega arith) (s .pre .room)
 
 same-length-3 : tie.Need-same-length-3 Inv-loop μ-loop
 same-length-3 c = wrote-long _ _ _ _ _ (c .before .before .increment .ensures) ∙ c .before .before .before .before .before .before .before .loop .inv .1 .long

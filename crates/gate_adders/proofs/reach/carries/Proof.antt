@@ -23,7 +23,7 @@ loop-holds c =
     let whole = carries (a .w .wire) (a .x) (a .y) (a .carry) (a .digits) in (
       omega arith,
       goes-as (a .w) (a .table .now) whole (a .w) (a .table .now) _ _ (sym (ap (λ (n : ℕ). carries (a .w .wire) n (a .y + 0) (a .carry) (a .digits - 0)) (add-zero (a .x)) ∙ ap (λ (n : ℕ). carries (a .w .wire) (a .x) n (a .carry) (a .digits - 0)) (add-zero (a .y)) ∙ ap (carries (a .w .wire) (a .x) (a .y) (a .carry)) (sub-zero (a .digits))))
-          (goes-start (a .w) (a .table .now) whole (2 * a .digits) (c .before .pre .0)),
+          (goes-start (a .w) (a .table .now) whole (2 * a .digits) (c .before .pre .room)),
     )
 
 add-carry-next : tie.Need-add-carry-next Inv-loop μ-loop
@@ -38,14 +38,14 @@ carry-next-requires c κs =
     let a = s .args in
     let l = c .before .before .loop in
     goes-room (a .w) (a .table .now) (carries (a .w .wire) (a .x) (a .y) (a .carry) (a .digits)) (l .next) (l .table) (carries (l .next .wire) (a .x + l .i) (a .y + l .i) (l .last) (a .digits - l .i)) 2 (2 * a .digits) (l .inv .1)
-    (omega (arith, length-carries (l .next .wire) (a .x + l .i) (a .y + l .i) (l .last) (a .digits - l .i))) (omega (arith, length-carries (a .w .wire) (a .x) (a .y) (a .carry) (a .digits))) (s .pre .0)
+    (omega (arith, length-carries (l .next .wire) (a .x + l .i) (a .y + l .i) (l .last) (a .digits - l .i))) (omega (arith, length-carries (a .w .wire) (a .x) (a .y) (a .carry) (a .digits))) (s .pre .room)
 
 add-last : tie.Need-add-last Inv-loop μ-loop
 add-last c =
     let s = c .before .before .before .before .before .before .before in
     let a = s .args in
     let l = c .before .before .before .before .before .loop in
-    omega (arith, l .inv .1 .wireLeft, s .pre .0 .small, length-carries (l .next .wire) (a .x + l .i) (a .y + l .i) (l .last) (a .digits - l .i), length-carries (a .w .wire) (a .x) (a .y) (a .carry) (a .digits))
+    omega (arith, l .inv .1 .wireLeft, s .pre .room .small, length-carries (l .next .wire) (a .x + l .i) (a .y + l .i) (l .last) (a .digits - l .i), length-carries (a .w .wire) (a .x) (a .y) (a .carry) (a .digits))
 
 add-i : tie.Need-add-i Inv-loop μ-loop
 add-i c = omega arith

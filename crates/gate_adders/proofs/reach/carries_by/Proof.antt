@@ -23,7 +23,7 @@ loop-holds c =
     let a = c .before .args in (
       omega arith,
       goes-as (a .w) (a .table .now) (carriesBy (a .w .wire) (a .f) (a .x) (a .carry) (a .digits)) (a .w) (a .table .now) _ _ (sym (ap (λ (n : ℕ). carriesBy (a .w .wire) n (a .x + 0) (a .carry) (a .digits - 0)) (add-zero (a .f)) ∙ ap (λ (n : ℕ). carriesBy (a .w .wire) (a .f) n (a .carry) (a .digits - 0)) (add-zero (a .x)) ∙ ap (carriesBy (a .w .wire) (a .f) (a .x) (a .carry)) (sub-zero (a .digits))))
-          (goes-start (a .w) (a .table .now) (carriesBy (a .w .wire) (a .f) (a .x) (a .carry) (a .digits)) (a .digits) (c .before .pre .0)),
+          (goes-start (a .w) (a .table .now) (carriesBy (a .w .wire) (a .f) (a .x) (a .carry) (a .digits)) (a .digits) (c .before .pre .room)),
     )
 
 add-emit : tie.Need-add-emit Inv-loop μ-loop
@@ -38,7 +38,7 @@ emit-requires c κs =
     let a = s .args in
     let l = c .before .before .loop in
     goes-room (a .w) (a .table .now) (carriesBy (a .w .wire) (a .f) (a .x) (a .carry) (a .digits)) (l .next) (l .table) (carriesBy (l .next .wire) (a .f + l .i) (a .x + l .i) (l .last) (a .digits - l .i)) 1 (a .digits) (l .inv .1)
-    (omega (arith, length-carries-by (l .next .wire) (a .f + l .i) (a .x + l .i) (l .last) (a .digits - l .i))) (omega (arith, length-carries-by (a .w .wire) (a .f) (a .x) (a .carry) (a .digits))) (s .pre .0)
+    (omega (arith, length-carries-by (l .next .wire) (a .f + l .i) (a .x + l .i) (l .last) (a .digits - l .i))) (omega (arith, length-carries-by (a .w .wire) (a .f) (a .x) (a .carry) (a .digits))) (s .pre .room)
 
 add-i : tie.Need-add-i Inv-loop μ-loop
 add-i c = omega arith

@@ -20,12 +20,16 @@ use Rattle.gate_adders.proofs.reach.high_reach.Tie as tie
 
 add-differences : tie.Need-add-differences
 add-differences c =
-    omega (arith, (c .before .before) .pre .0 .small)
+    omega (arith, (c .before .before) .pre .room .small)
 
 differences-requires : tie.Need-differences-requires
 differences-requires c κs =
     let s = (c .before .before) in
-    (room-less (s .args .w) _ _ (omega arith) (s .pre .0), (omega (arith, s .pre .1), omega (arith, s .pre .1)))
+    record {
+      room = room-less (s .args .w) _ _ (omega arith) (s .pre .room);
+      firstBelow = omega (arith, s .pre);
+      secondBelow = omega (arith, s .pre);
+    }
 
 -- behind the differences, the carries and the chain that says that all digits differ
 
@@ -34,20 +38,24 @@ differ c =
     let s = (c .before .before .before) in
     let a = s .args in
     stands-after (a .w) (a .table .now) _ (c .differences .last .1 .0) (c .differences .result) _ _ _ (c .differences .ensures) (length-differences (a .x) (a .y) (a .high + 1))
-    (stands (a .w) (a .w .wire) _ _ refl (omega arith) (s .pre .0))
+    (stands (a .w) (a .w .wire) _ _ refl (omega arith) (s .pre .room))
 
 add-carries-by : tie.Need-add-carries-by
 add-carries-by c =
-    omega (arith, (c .before .before .before .before .before .before) .pre .0 .small)
+    omega (arith, (c .before .before .before .before .before .before) .pre .room .small)
 
 add-carries-by-2 : tie.Need-add-carries-by-2
 add-carries-by-2 c =
-    omega (arith, (c .before .before .before .before .before .before) .pre .0 .small, (c .before .before .before .before .before .before) .pre .1)
+    omega (arith, (c .before .before .before .before .before .before) .pre)
 
 carries-by-requires : tie.Need-carries-by-requires
 carries-by-requires c κs =
     let d = differ (c .before .before .before) in
-    (room-of ((c .before .before .before .differences) .result) _ _ _ d (omega arith), (omega (arith, d .place), omega (arith, d .place, (c .before .before .before .before .before .before) .pre .1)))
+    record {
+      room = room-of ((c .before .before .before .differences) .result) _ _ _ d (omega arith);
+      firstBelow = omega (arith, d .place);
+      secondBelow = omega (arith, d .place, (c .before .before .before .before .before .before) .pre);
+    }
 
 free : (c : tie.After-carries-by) → Stands (c .carries-by .result) ((c .before .before .before .before .before .before .before) .args .w .wire + ((c .before .before .before .before .before .before .before) .args .high + 1) + (c .before .before .before .before .before .before .before) .args .high) ((c .before .before .before .before .before .before .before) .args .high + 1)
 free c =
@@ -58,13 +66,17 @@ free c =
 
 add-all-of : tie.Need-add-all-of
 add-all-of c =
-    omega (arith, (c .before .before .before .before .before .before .before .before .before .before) .pre .0 .small)
+    omega (arith, (c .before .before .before .before .before .before .before .before .before .before) .pre .room .small)
 
 all-of-requires : tie.Need-all-of-requires
 all-of-requires c κs =
     let a = (c .before .before .before .before .before .before .before .before .before .before) .args in
     let f = free (c .before .before .before) in
-    (room-of ((c .before .before .before .carries-by) .result) _ _ _ f (omega arith), (beside ((c .before .before .before .carries-by) .result .wire) (a .w .wire + 1) (a .high) (omega (arith, f .place)), omega arith))
+    record {
+      room = room-of ((c .before .before .before .carries-by) .result) _ _ _ f (omega arith);
+      below = beside ((c .before .before .before .carries-by) .result .wire) (a .w .wire + 1) (a .high) (omega (arith, f .place));
+      near = omega arith;
+    }
 
 every : (c : tie.After-all-of) → Stands (c .all-of .result) ((c .before .before .before .before .before .before .before .before .before .before .before) .args .w .wire + ((c .before .before .before .before .before .before .before .before .before .before .before) .args .high + 1) + (c .before .before .before .before .before .before .before .before .before .before .before) .args .high + (c .before .before .before .before .before .before .before .before .before .before .before) .args .high) 1
 every c =
@@ -75,11 +87,11 @@ every c =
 
 chain-end-requires : tie.Need-chain-end-requires
 chain-end-requires c κs =
-    omega (arith, (c .before .before .before .before .before .before .before .before .before .before .before .before .before) .pre .0 .small, free (c .before .before .before .before .before .before) .place)
+    omega (arith, (c .before .before .before .before .before .before .before .before .before .before .before .before .before) .pre .room .small, free (c .before .before .before .before .before .before) .place)
 
 chain-end-requires-2 : tie.Need-chain-end-requires-2
 chain-end-requires-2 c κs =
-    omega (arith, (c .before .before .before .before .before .before .before .before .before .before .before .before .before .before) .pre .0 .small, differ (c .before .before .before .before .before .before .before .before .before .before .before) .place)
+    omega (arith, (c .before .before .before .before .before .before .before .before .before .before .before .before .before .before) .pre .room .small, differ (c .before .before .before .before .before .before .before .before .before .before .before) .place)
 
 emit-requires : tie.Need-emit-requires
 emit-requires c κs =

@@ -10,7 +10,7 @@ use Rattle.gate_adders.proofs.reach.reach.Tie as tie
 
 carry-bit-requires : tie.Need-carry-bit-requires
 carry-bit-requires c κs =
-    room-less ((c .before .before .before) .args .w) _ _ (omega (arith, reach-last-none ((c .before .before .before) .args .above) ((c .before .if1) .taken))) ((c .before .before .before) .pre .0)
+    room-less ((c .before .before .before) .args .w) _ _ (omega (arith, reach-last-none ((c .before .before .before) .args .above) ((c .before .if1) .taken))) ((c .before .before .before) .pre .room)
 
 same-length : tie.Need-same-length
 same-length c =
@@ -38,7 +38,11 @@ reach-halves-requires c κs =
     let a = (c .before .before .before) .args in
     let more = (c .before .if1) .left in
     let e = reach-last-some (a .above) (omega arith) in
-    (room-less (a .w) _ _ (omega arith) ((c .before .before .before) .pre .0), (omega (arith, (c .before .before .before) .pre .1), omega (arith, (c .before .before .before) .pre .1)))
+    record {
+      room = room-less (a .w) _ _ (omega arith) ((c .before .before .before) .pre .room);
+      firstBelow = omega (arith, (c .before .before .before) .pre);
+      secondBelow = omega (arith, (c .before .before .before) .pre);
+    }
 
 same-length-2 : tie.Need-same-length-2
 same-length-2 c =

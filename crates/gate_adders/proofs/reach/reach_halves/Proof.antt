@@ -13,7 +13,7 @@ use Rattle.gate_adders.proofs.reach.reach_halves.Tie as tie
 
 carry-bit-requires : tie.Need-carry-bit-requires
 carry-bit-requires c κs =
-    room-less ((c .before .before) .args .w) _ _ (omega arith) ((c .before .before) .pre .0)
+    room-less ((c .before .before) .args .w) _ _ (omega arith) ((c .before .before) .pre .room)
 
 -- behind the lowest digit, and behind the low half
 
@@ -22,20 +22,24 @@ first c =
     let s = (c .before .before .before) in
     let a = s .args in
     stands-after (a .w) (a .table .now) _ (c .carry-bit .last .1 .0) (c .carry-bit .result) _ 1 _ (c .carry-bit .ensures) (length-carry-bit (a .x) (a .y) (a .bit))
-    (stands (a .w) (a .w .wire) _ _ refl (omega arith) (s .pre .0))
+    (stands (a .w) (a .w .wire) _ _ refl (omega arith) (s .pre .room))
 
 add-carries : tie.Need-add-carries
 add-carries c =
-    omega (arith, (c .before .before .before .before .before .before) .pre .0 .small, (c .before .before .before .before .before .before) .pre .1)
+    omega (arith, (c .before .before .before .before .before .before) .pre)
 
 add-carries-2 : tie.Need-add-carries-2
 add-carries-2 c =
-    omega (arith, (c .before .before .before .before .before .before) .pre .0 .small, (c .before .before .before .before .before .before) .pre .1)
+    omega (arith, (c .before .before .before .before .before .before) .pre)
 
 carries-requires : tie.Need-carries-requires
 carries-requires c κs =
     let f = first (c .before .before .before) in
-    (room-of ((c .before .before .before .carry-bit) .result) _ _ _ f (omega arith), (omega (arith, f .place, (c .before .before .before .before .before .before) .pre .1), omega (arith, f .place, (c .before .before .before .before .before .before) .pre .1)))
+    record {
+      room = room-of ((c .before .before .before .carry-bit) .result) _ _ _ f (omega arith);
+      firstBelow = omega (arith, f .place, (c .before .before .before .before .before .before) .pre);
+      secondBelow = omega (arith, f .place, (c .before .before .before .before .before .before) .pre);
+    }
 
 lower : (c : tie.After-carries) → Stands (c .carries .result) ((c .before .before .before .before .before .before .before) .args .w .wire + 1 + 2 * (c .before .before .before .before .before .before .before) .args .low) (3 * (c .before .before .before .before .before .before .before) .args .high + 2)
 lower c =
@@ -46,32 +50,36 @@ lower c =
 
 add-high-reach : tie.Need-add-high-reach
 add-high-reach c =
-    omega (arith, (c .before .before .before .before .before .before .before .before .before .before) .pre .0 .small, (c .before .before .before .before .before .before .before .before .before .before) .pre .1)
+    omega (arith, (c .before .before .before .before .before .before .before .before .before .before) .pre)
 
 add-high-reach-2 : tie.Need-add-high-reach-2
 add-high-reach-2 c =
-    omega (arith, (c .before .before .before .before .before .before .before .before .before .before) .pre .0 .small, (c .before .before .before .before .before .before .before .before .before .before) .pre .1)
+    omega (arith, (c .before .before .before .before .before .before .before .before .before .before) .pre)
 
 add-high-reach-3 : tie.Need-add-high-reach-3
 add-high-reach-3 c =
-    omega (arith, (c .before .before .before .before .before .before .before .before .before .before) .pre .0 .small, (c .before .before .before .before .before .before .before .before .before .before) .pre .1)
+    omega (arith, (c .before .before .before .before .before .before .before .before .before .before) .pre)
 
 add-high-reach-4 : tie.Need-add-high-reach-4
 add-high-reach-4 c =
-    omega (arith, (c .before .before .before .before .before .before .before .before .before .before) .pre .0 .small, (c .before .before .before .before .before .before .before .before .before .before) .pre .1)
+    omega (arith, (c .before .before .before .before .before .before .before .before .before .before) .pre)
 
 mul-high-reach : tie.Need-mul-high-reach
 mul-high-reach c =
-    omega (arith, (c .before .before .before .before .before .before .before .before .before .before) .pre .0 .small)
+    omega (arith, (c .before .before .before .before .before .before .before .before .before .before) .pre .room .small)
 
 add-high-reach-5 : tie.Need-add-high-reach-5
 add-high-reach-5 c =
-    omega (arith, (c .before .before .before .before .before .before .before .before .before .before) .pre .0 .small)
+    omega (arith, (c .before .before .before .before .before .before .before .before .before .before) .pre .room .small)
 
 high-reach-requires : tie.Need-high-reach-requires
 high-reach-requires c κs =
     let l = lower (c .before .before .before) in
-    (l .left, (omega (arith, l .place, (c .before .before .before .before .before .before .before .before .before .before) .pre .1), omega (arith, l .place, (c .before .before .before .before .before .before .before .before .before .before) .pre .1)))
+    record {
+      room = l .left;
+      firstBelow = omega (arith, l .place, (c .before .before .before .before .before .before .before .before .before .before) .pre);
+      secondBelow = omega (arith, l .place, (c .before .before .before .before .before .before .before .before .before .before) .pre);
+    }
 
 same-length : tie.Need-same-length
 same-length c =

@@ -1,4 +1,5 @@
--- `gate_levels::level::compare` meets its contract: the first gate whose level differs decides, and else what is left is one gate less with each turn.
+-- `gate_levels::level::compare` meets its contract: the first gate whose level differs decides; without one,
+-- comparing the rest is comparing all.
 -- Assumes nothing.
 use borrow.Author.Needs.{needs}
 use mathlib.Core.Path.{_∙_, refl, ap}
@@ -27,7 +28,10 @@ gate-level-requires c κs =
     let l = at .loop in
     let s = at .before .before .before in
     let a = s .args in
-    (refl, level-ready (a .inputs) (a .table .now) (a .levels .now) (l .most) (l .g) (l .inv) (s .pre .some-input) (omega (arith, s .pre .levels-length, c .before .loop-test .taken)) (s .pre .few))
+    record {
+      marked = refl;
+      gate = level-ready (a .inputs) (a .table .now) (a .levels .now) (l .most) (l .g) (l .inv) (s .pre .some-input) (omega (arith, s .pre .levels-length, c .before .loop-test .taken)) (s .pre .few);
+    }
 
 mul-if1 : tie.Need-mul-if1 Inv-loop μ-loop
 mul-if1 c = search needs

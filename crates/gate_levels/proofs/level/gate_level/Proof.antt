@@ -1,4 +1,5 @@
--- `gate_levels::level::gate_level` meets its contract: the largest level of its operands, and one more where it is conditional.
+-- `gate_levels::level::gate_level` meets its contract: the largest level of the operands, plus one for a conditional
+-- gate.
 -- Assumes nothing.
 use borrow.Author.Needs.{needs}
 use mathlib.Core.Path.{_≡_, _∙_, sym, ap}
@@ -23,7 +24,7 @@ shared-slice-read-wire-level : tie.Need-shared-slice-read-wire-level
 shared-slice-read-wire-level c = search needs
 
 wire-level-requires : tie.Need-wire-level-requires
-wire-level-requires c κs = let s = c .before .before .before in operands-in (s .args .inputs) (s .args .table .now) (s .args .g) (s .args .levels .now) (s .pre .1) .0
+wire-level-requires c κs = let s = c .before .before .before in operands-in (s .args .inputs) (s .args .table .now) (s .args .g) (s .args .levels .now) (s .pre .gate) .0
 
 add-wire-level-2 : tie.Need-add-wire-level-2
 add-wire-level-2 c = search needs
@@ -35,7 +36,7 @@ shared-slice-read-wire-level-2 : tie.Need-shared-slice-read-wire-level-2
 shared-slice-read-wire-level-2 c = search needs
 
 wire-level-requires-2 : tie.Need-wire-level-requires-2
-wire-level-requires-2 c κs = let s = c .before .before .before .before .before in operands-in (s .args .inputs) (s .args .table .now) (s .args .g) (s .args .levels .now) (s .pre .1) .1
+wire-level-requires-2 c κs = let s = c .before .before .before .before .before in operands-in (s .args .inputs) (s .args .table .now) (s .args .g) (s .args .levels .now) (s .pre .gate) .1
 
 add-wire-level-3 : tie.Need-add-wire-level-3
 add-wire-level-3 c = search needs
@@ -47,7 +48,7 @@ shared-slice-read-wire-level-3 : tie.Need-shared-slice-read-wire-level-3
 shared-slice-read-wire-level-3 c = search needs
 
 wire-level-requires-3 : tie.Need-wire-level-requires-3
-wire-level-requires-3 c κs = let s = c .before .before .before .before .before .before .before in operands-in (s .args .inputs) (s .args .table .now) (s .args .g) (s .args .levels .now) (s .pre .1) .2
+wire-level-requires-3 c κs = let s = c .before .before .before .before .before .before .before in operands-in (s .args .inputs) (s .args .table .now) (s .args .g) (s .args .levels .now) (s .pre .gate) .2
 
 larger-requires : tie.Need-larger-requires
 larger-requires c κs = search needs
@@ -74,7 +75,7 @@ add-result c =
     let y = three .before .before .wire-level2 in
     let z = three .wire-level3 in
     let most : l .larger2 .result ≡ max (max (x .result) (y .result)) (z .result) = l .larger2 .ensures ∙ ap (λ (n : ℕ). max n (z .result)) (l .before .larger .ensures) in
-    omega (arith, small-level (a .inputs) (a .table .now) (a .g) (a .levels .now) (s .pre .1) (x .result) (y .result) (z .result) (x .ensures) (y .ensures) (z .ensures) (l .larger2 .result) most)
+    omega (arith, small-level (a .inputs) (a .table .now) (a .g) (a .levels .now) (s .pre .gate) (x .result) (y .result) (z .result) (x .ensures) (y .ensures) (z .ensures) (l .larger2 .result) most)
 
 returns : tie.Need-returns
 returns c =
@@ -86,7 +87,7 @@ returns c =
     let y = three .before .before .wire-level2 in
     let z = three .wire-level3 in
     let most : l .larger2 .result ≡ max (max (x .result) (y .result)) (z .result) = l .larger2 .ensures ∙ ap (λ (n : ℕ). max n (z .result)) (l .before .larger .ensures) in
-    level-by (a .inputs) (a .table .now) (a .g) (a .levels .now) (s .pre .1) (x .result) (y .result) (z .result) (x .ensures) (y .ensures) (z .ensures) (l .larger2 .result) true most (sym (c .if1 .taken) ∙ c .before .conditional .ensures)
+    level-by (a .inputs) (a .table .now) (a .g) (a .levels .now) (s .pre .gate) (x .result) (y .result) (z .result) (x .ensures) (y .ensures) (z .ensures) (l .larger2 .result) true most (sym (c .if1 .taken) ∙ c .before .conditional .ensures)
 
 returns-2 : tie.Need-returns-2
 returns-2 c =
@@ -98,7 +99,7 @@ returns-2 c =
     let y = three .before .before .wire-level2 in
     let z = three .wire-level3 in
     let most : l .larger2 .result ≡ max (max (x .result) (y .result)) (z .result) = l .larger2 .ensures ∙ ap (λ (n : ℕ). max n (z .result)) (l .before .larger .ensures) in
-    sym (add-zero (l .larger2 .result)) ∙ level-by (a .inputs) (a .table .now) (a .g) (a .levels .now) (s .pre .1) (x .result) (y .result) (z .result) (x .ensures) (y .ensures) (z .ensures) (l .larger2 .result) false most (sym (c .if1 .left) ∙ c .before .conditional .ensures)
+    sym (add-zero (l .larger2 .result)) ∙ level-by (a .inputs) (a .table .now) (a .g) (a .levels .now) (s .pre .gate) (x .result) (y .result) (z .result) (x .ensures) (y .ensures) (z .ensures) (l .larger2 .result) false most (sym (c .if1 .left) ∙ c .before .conditional .ensures)
 
 pub gate-level-spec : {M : Type 1} → statement M
 gate-level-spec =

@@ -1,4 +1,4 @@
--- `gate_levels::level::write` meets its contract: what is left is one gate less with each turn.
+-- `gate_levels::level::write` meets its contract: writing the rest is writing all.
 -- Assumes nothing.
 use borrow.Author.Needs.{needs}
 use mathlib.Core.Path.{_∙_, refl, sym}
@@ -26,7 +26,10 @@ gate-level-requires c κs =
     let l = at .loop in
     let s = at .before .before .before in
     let a = s .args in
-    (refl, level-ready (a .inputs) (a .table .now) (l .levels) (l .most) (l .g) (l .inv) (s .pre .some-input) (omega (arith, s .pre .levels-length, c .before .before .loop-test .taken)) (s .pre .few))
+    record {
+      marked = refl;
+      gate = level-ready (a .inputs) (a .table .now) (l .levels) (l .most) (l .g) (l .inv) (s .pre .some-input) (omega (arith, s .pre .levels-length, c .before .before .loop-test .taken)) (s .pre .few);
+    }
 
 mul-levels : tie.Need-mul-levels Inv-loop μ-loop
 mul-levels c = search needs
@@ -77,7 +80,7 @@ returns c =
     let s = at .before .before .before in
     let a = s .args in
     let e = left-end (a .inputs) (a .table .now) (l .levels) (l .most) (l .g) (l .inv) (omega (arith, s .pre .levels-length, c .before .loop-test .left)) in
-    (c .rounds .ensures ∙ e .1, e .0)
+    record { rounds = c .rounds .ensures ∙ e .1; levels = e .0 }
 
 pub write-spec : {M : Type 1} → statement M
 write-spec =

@@ -14,7 +14,7 @@ use borrow.Author.Needs.{needs}
 use Rattle.gates.proofs.kind.value.Statement.{statement}
 use Rattle.gates.proofs.kind.value.Tie as tie
 
--- the number in an answer, 0 where there is none
+-- the number in an answer, 0 if there is none
 taken : GateValue → ℕ
 taken (Value v) = v
 taken NoSuchKind = 0

@@ -1,4 +1,4 @@
--- `gates::list::are_zero` meets its contract: each early return is one part of the test that fails.
+-- `gates::list::are_zero` meets its contract: each early return is a part of the test that fails.
 -- Assumes nothing.
 use mathlib.Core.Path.{_≡_, _∙_, sym, ap}
 use mathlib.Core.Bool.{Bool, true, false, _&&_}

@@ -1,4 +1,5 @@
--- `gates::list::gate_is_good` meets its contract: each return is the test of the operands that the kind uses, and of those that it does not.
+-- `gates::list::gate_is_good` meets its contract: each return tests the operands that the kind uses and those that it
+-- does not.
 -- Assumes nothing.
 use mathlib.Core.Path.{_≡_, _∙_, refl, sym, ap}
 use mathlib.Core.Bool.{Bool, true, false, _&&_}
@@ -29,11 +30,11 @@ unused : (i count own x : ℕ) → count ≤ i → eqb x 0 ≡ goodOperand (ltb 
 unfolding goodOperand
 unused i count own x h = sym (ap (λ (u : Bool). goodOperand u own x) (le-ltb i count h))
 
--- past the first test the kind has a value
+-- after the first test the kind is known
 known : (c : tie.After-enum-told) → ltb (c .before .before .before .args .kind) 8 ≡ true
 known c = has-value (c .before .before .before .args .kind) 0 0 0 _ (sym (c .before .before .apply .ensures) ∙ c .enum-told .given .1)
 
--- the test from those of its operands, once the kind is known
+-- the test of the gate from those of its operands, once the kind is known
 parts-of : (w : tie.After-own-wire) (x y z : Bool) → let a = w .before .before .before .before .before .args in let n = w .before .operands .result in
     x ≡ goodOperand (ltb 0 n) (a .inputs + a .g) (a .a) → y ≡ goodOperand (ltb 1 n) (a .inputs + a .g) (a .b) → z ≡ goodOperand (ltb 2 n) (a .inputs + a .g) (a .c)
     → (true && x && y && z) ≡ goodGate (a .inputs + a .g) (record { kind = a .kind; a = a .a; b = a .b; c = a .c })
@@ -65,10 +66,10 @@ returns c =
     (has-no-value (a .kind) 0 0 0 (sym (at .apply .ensures) ∙ c .enum-told2 .given .1)) refl refl refl refl
 
 operands-requires : tie.Need-operands-requires
-operands-requires c κs = c .before .before .before .pre .1
+operands-requires c κs = c .before .before .before .pre .counted
 
 own-wire-requires : tie.Need-own-wire-requires
-own-wire-requires c κs = c .before .before .before .before .pre .0
+own-wire-requires c κs = c .before .before .before .before .pre .few
 
 are-zero-requires : tie.Need-are-zero-requires
 are-zero-requires c κs = search needs
@@ -101,7 +102,7 @@ returns-4 c =
     c .are-zero2 .ensures
     ∙ parts-of w true (eqb (a .b) 0) (eqb (a .c) 0) (below w 0 (a .a) (s .fits .a .fits) (c .before .before .if2 .left) (omega (arith, h))) (unused 1 n _ (a .b) (omega (arith, h))) (unused 2 n _ (a .c) (omega (arith, h)))
 
--- past the tests of the first operand
+-- after the tests of the first operand
 second : (c : tie.Else3) → 1 < c .before .before .before .before .operands .result
 second c = omega (arith, c .if3 .left, c .before .before .if1 .left)
 

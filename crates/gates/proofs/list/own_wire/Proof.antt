@@ -1,4 +1,5 @@
--- `gates::list::own_wire` meets its contract: below 2 ^ 32 every number is below inputs past it.
+-- `gates::list::own_wire` meets its contract: if there are 2 ^ 32 inputs or more, every operand names an earlier
+-- wire.
 -- Assumes nothing.
 use mathlib.Core.Path.{_∙_, refl, sym}
 use Prim.Native.Nat.{_+_}

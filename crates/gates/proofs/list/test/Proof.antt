@@ -1,4 +1,4 @@
--- `gates::list::test` meets its contract: its tests are those of the definition, in their order.
+-- `gates::list::test` meets its contract: its tests are those of the definition, in the same order.
 -- Assumes nothing.
 use Prim.Native.Nat.{_/_, _%_}
 use lib.ListN.{length}

@@ -1,4 +1,5 @@
--- `gates::list::test_gates` meets its contract: judging the rest from here, with the conditional gates counted so far, equals judging the whole list.
+-- `gates::list::test_gates` meets its contract: judging the rest, with the conditional gates counted so far, is
+-- judging the whole list.
 -- Assumes nothing.
 use mathlib.Core.Path.{_∙_, refl, sym, ap}
 use mathlib.Core.List.{List}
@@ -77,7 +78,7 @@ shared-slice-read-gate-is-good-3 : tie.Need-shared-slice-read-gate-is-good-3 Inv
 shared-slice-read-gate-is-good-3 c = omega arith
 
 gate-is-good-requires : tie.Need-gate-is-good-requires Inv-loop μ-loop
-gate-is-good-requires c κs = (omega arith, refl)
+gate-is-good-requires c κs = record { few = omega arith; counted = refl }
 
 returns : tie.Need-returns Inv-loop μ-loop
 unfolding gateAt

@@ -1,4 +1,4 @@
--- `gates::place::first_above_one` meets its contract: searching the rest from here is searching all from the start.
+-- `gates::place::first_above_one` meets its contract: searching the rest is searching all.
 -- Assumes nothing.
 use mathlib.Core.Path.{_≡_, _∙_, refl, sym, ap}
 use Prim.Native.Nat.{ℕ, _-_, _≤_}

@@ -1,4 +1,4 @@
--- `gates::step::close` meets its contract: what is copied is the last wiresOf, and it fills the board to its end.
+-- `gates::step::close` meets its contract: it copies the last wires, which fill the board to its end.
 -- Assumes nothing.
 use mathlib.Core.Path.{_≡_, _∙_, ap}
 use mathlib.Core.List.{List, [], _++_, append-nil}
@@ -7,6 +7,7 @@ use native.Mathlib.Omega.{arith}
 use lib.ListN.{length, take, drop, length-take, length-drop, drop-of-length-le}
 use lib.Seq.{take-all, take-length}
 use borrow.Author.Needs.{needs}
+use Rattle.basics.proofs.Tables.{copied}
 use Rattle.gates.specs.Open.Wires.{outputsOf}
 use Rattle.gates.proofs.step.close.Statement.{statement}
 use Rattle.gates.proofs.step.close.Tie as tie
@@ -70,7 +71,7 @@ returns : tie.Need-returns
 unfolding from to
 returns c =
     let s = c .before .before .before .before .before .before .before in
-    closed (s .args .wires .now) (s .args .board .now) (c .before .before .copy .last .1 .0) (s .args .outputs) (s .args .shown) (s .pre .0) (s .pre .1) (c .before .before .copy .ensures .1)
+    closed (s .args .wires .now) (s .args .board .now) (c .before .before .copy .last .1 .0) (s .args .outputs) (s .args .shown) (s .pre .enough) (s .pre .boardLength) (copied (c .before .before .copy .ensures))
 
 pub close-spec : {M : Type 1} → statement M
 close-spec =

@@ -1,4 +1,5 @@
--- `gates::step::finish` meets its contract: stepping over all gates and closing leave the wires and the board of the whole list.
+-- `gates::step::finish` meets its contract: stepping over all gates, then closing, leaves the wires and the board of
+-- the list.
 -- Assumes nothing.
 use mathlib.Core.Path.{sym}
 use native.Mathlib.Omega.{arith}
@@ -23,8 +24,7 @@ close-requires c κs =
     let p = s .pre in
     let e = sym (length-gates (a .table .now)) in
     let r = c .before .before .before .before .before .before .step in
-    let q = can-close (a .inputs) (a .table .now) _ (a .outputs) (a .tape .now) (a .wires .now) (a .board .now) e (omega (arith, e, p .wiresLength)) (omega (arith, e, p .enough)) (p .good) (p .tapeLength) (p .boardLength) (r .result) _ _ (r .ensures .0) (r .ensures .1 .0) (r .ensures .1 .1) in
-    (q .0, q .1)
+    can-close (a .inputs) (a .table .now) _ (a .outputs) (a .tape .now) (a .wires .now) (a .board .now) e (omega (arith, e, p .wiresLength)) (omega (arith, e, p .enough)) (p .good) (p .tapeLength) (p .boardLength) (r .result) _ _ (r .ensures .next) (r .ensures .wires) (r .ensures .board)
 
 same-length : tie.Need-same-length
 same-length c = search needs
@@ -38,10 +38,11 @@ returns c =
     let a = s .args in
     let p = s .pre in
     let e = sym (length-gates (a .table .now)) in
-    let r = c .before .before .before .before .before .before .before .before .before .step in (
-      final-wires (a .inputs) (a .table .now) _ (a .outputs) (a .tape .now) (a .wires .now) (a .board .now) e (omega (arith, e, p .wiresLength)) (omega (arith, e, p .enough)) (p .good) (p .tapeLength) (p .boardLength) (r .result) _ _ (r .ensures .0) (r .ensures .1 .0) (r .ensures .1 .1),
-      final-board (a .inputs) (a .table .now) _ (a .outputs) (a .tape .now) (a .wires .now) (a .board .now) e (omega (arith, e, p .wiresLength)) (omega (arith, e, p .enough)) (p .good) (p .tapeLength) (p .boardLength) (r .result) _ _ (r .ensures .0) (r .ensures .1 .0) (r .ensures .1 .1) _ (c .before .before .close .ensures),
-    )
+    let r = c .before .before .before .before .before .before .before .before .before .step in
+    record {
+      wires = final-wires (a .inputs) (a .table .now) _ (a .outputs) (a .tape .now) (a .wires .now) (a .board .now) e (omega (arith, e, p .wiresLength)) (omega (arith, e, p .enough)) (p .good) (p .tapeLength) (p .boardLength) (r .result) _ _ (r .ensures .next) (r .ensures .wires) (r .ensures .board);
+      board = final-board (a .inputs) (a .table .now) _ (a .outputs) (a .tape .now) (a .wires .now) (a .board .now) e (omega (arith, e, p .wiresLength)) (omega (arith, e, p .enough)) (p .good) (p .tapeLength) (p .boardLength) (r .result) _ _ (r .ensures .next) (r .ensures .wires) (r .ensures .board) _ (c .before .before .close .ensures);
+    }
 
 pub finish-spec : {M : Type 1} → statement M
 finish-spec = tie.close (tie.spec step-requires close-requires same-length same-length-2 returns)

@@ -1,9 +1,10 @@
--- `gates::step::run` meets its contract: inputs that were copied to the front of the wire table are what the rest starts from.
+-- `gates::step::run` meets its contract: the rest starts from the inputs, copied to the front of the wire table.
 -- Assumes nothing.
 use mathlib.Core.Path.{_∙_, ap}
 use mathlib.Core.List.{List}
 use Prim.Native.Nat.{ℕ}
 use borrow.Author.Needs.{needs}
+use Rattle.basics.proofs.Tables.{copied}
 use Rattle.gates.specs.Open.Gate.{gatesOf}
 use Rattle.gates.specs.Open.Wires.{wiresOf}
 use Rattle.gates.specs.Open.Board.{boardOf}
@@ -27,11 +28,12 @@ returns : tie.Need-returns
 returns c =
     let a = c .before .before .before .before .before .before .before .before .before .before .before .before .before .before .before .before .args in
     let gs = gatesOf (a .table .now) in
-    let f = copied-front (a .inputs .now) (a .wires .now) _ (c .before .before .before .before .before .before .before .before .before .copy .ensures .1) in
-    let r = c .before .before .before .before .finish .ensures in (
-      r .0 ∙ ap (λ (xs : List ℕ). wiresOf xs gs) f,
-      r .1 ∙ ap (λ (xs : List ℕ). boardOf (wiresOf xs gs) gs (a .outputs) (a .tape .now)) f,
-    )
+    let f = copied-front (a .inputs .now) (a .wires .now) _ (copied (c .before .before .before .before .before .before .before .before .before .copy .ensures)) in
+    let r = c .before .before .before .before .finish .ensures in
+    record {
+      wires = r .wires ∙ ap (λ (xs : List ℕ). wiresOf xs gs) f;
+      board = r .board ∙ ap (λ (xs : List ℕ). boardOf (wiresOf xs gs) gs (a .outputs) (a .tape .now)) f;
+    }
 
 pub run-spec : {M : Type 1} → statement M
 run-spec = tie.close (tie.spec copy-requires finish-requires same-length same-length-2 returns)

@@ -1,4 +1,5 @@
--- `gates::step::run_gate` meets its contract: the gate's operands are wires that there are, and its mark says whether it shows a bit.
+-- `gates::step::run_gate` meets its contract: the gate's operands name wires that exist, and its mark says whether it
+-- shows a bit.
 -- Assumes nothing.
 use mathlib.Core.Path.{_≡_, _∙_, refl, sym, ap}
 use mathlib.Core.Bool.{Bool, true, false, cond}
@@ -18,9 +19,9 @@ use Rattle.gates.proofs.step.run_gate.Statement.{statement}
 use Rattle.gates.proofs.step.run_gate.Tie as tie
 
 good : (c : tie.Start) → GoodGate (c .args .own) (gateAt (c .args .table .now) (c .args .g))
-good c = good-gate (c .args .own) (gateAt (c .args .table .now) (c .args .g)) (c .pre .1 .good)
+good c = good-gate (c .args .own) (gateAt (c .args .table .now) (c .args .g)) (c .pre .gate .good)
 
--- a gate with the mark counts one, and one without it none
+-- a gate with the mark counts 1, one without it 0
 marked : (kind : ℕ) (t : Bool) (g : Gate) → t ≡ true → t ≡ conditionalOf kind → g .kind ≡ kind → conditionalCount (g ∷ []) ≡ 1
 marked kind t g e m k = count-one g ∙ ap (λ (x : ℕ). cond {A = ℕ} (conditionalOf x) 1 0) k ∙ ap (λ (u : Bool). cond {A = ℕ} u 1 0) (sym m ∙ e)
 
@@ -74,15 +75,15 @@ cast-c-wire c = omega (arith, c .shared-slice-known6 .given (4 * c .before .befo
 
 slice-read-a : tie.Need-slice-read-a
 unfolding gateAt
-slice-read-a c = let s = c .before .before .before .before .before .before .before .before .before in omega (arith, good s .a-most, s .pre .1 .inWires)
+slice-read-a c = let s = c .before .before .before .before .before .before .before .before .before in omega (arith, good s .a-most, s .pre .gate .inWires)
 
 slice-read-b : tie.Need-slice-read-b
 unfolding gateAt
-slice-read-b c = let s = c .before .before .before .before .before .before .before .before .before .before in omega (arith, good s .b-most, s .pre .1 .inWires)
+slice-read-b c = let s = c .before .before .before .before .before .before .before .before .before .before in omega (arith, good s .b-most, s .pre .gate .inWires)
 
 slice-read-c : tie.Need-slice-read-c
 unfolding gateAt
-slice-read-c c = let s = c .before .before .before .before .before .before .before .before .before .before .before in omega (arith, good s .c-most, s .pre .1 .inWires)
+slice-read-c c = let s = c .before .before .before .before .before .before .before .before .before .before .before in omega (arith, good s .c-most, s .pre .gate .inWires)
 
 value-requires : tie.Need-value-requires
 value-requires c κs = search needs
@@ -91,7 +92,7 @@ slice-write-wires : tie.Need-slice-write-wires
 slice-write-wires c = search needs
 
 conditional-requires : tie.Need-conditional-requires
-conditional-requires c κs = c .before .before .before .before .before .before .before .before .before .before .before .before .pre .0
+conditional-requires c κs = c .before .before .before .before .before .before .before .before .before .before .before .before .pre .marked
 
 -- the board with a shown bit, and without one
 with-bit : (kind : ℕ) (t : Bool) (x y z : List ℕ) → t ≡ true → t ≡ conditionalOf kind → z ≡ x → z ≡ cond (conditionalOf kind) x y
@@ -106,13 +107,13 @@ unfolding gateAt
 shows c = let s = c .before .before .before .before .before .before .before .before .before .before .before .before .before .before in marked (getD (s .args .table .now) (4 * s .args .g) 0) (c .before .conditional .result) (gateAt (s .args .table .now) (s .args .g)) (c .if1 .taken) (c .before .conditional .ensures) refl
 
 shared-slice-read-masked : tie.Need-shared-slice-read-masked
-shared-slice-read-masked c = omega (arith, shows (c .before), c .before .before .before .before .before .before .before .before .before .before .before .before .before .before .before .pre .1 .inTape)
+shared-slice-read-masked c = omega (arith, shows (c .before), c .before .before .before .before .before .before .before .before .before .before .before .before .before .before .before .pre .gate .inTape)
 
 masked-requires : tie.Need-masked-requires
 masked-requires c κs = search needs
 
 slice-write-board : tie.Need-slice-write-board
-slice-write-board c = omega (arith, shows (c .before .before), c .before .before .before .before .before .before .before .before .before .before .before .before .before .before .before .before .pre .1 .inBoard)
+slice-write-board c = omega (arith, shows (c .before .before), c .before .before .before .before .before .before .before .before .before .before .before .before .before .before .before .before .pre .gate .inBoard)
 
 add-result : tie.Need-add-result
 add-result c = search needs
@@ -127,14 +128,13 @@ returns : tie.Need-returns
 unfolding gateAt value wire shownBit
 returns c =
     let s = c .before .before .before .before .before .before .before .before .before .before .before .before .before .before .before .before in
-    let w = c .before .before .before .before in (
-      omega (arith, shows (c .before .before)),
-      (
-        ap (set (s .args .wires .now) (s .args .own)) (w .value .ensures),
-        with-bit (getD (s .args .table .now) (4 * s .args .g) 0) (c .before .before .before .conditional .result) _ (s .args .board .now) _ (c .before .before .if1 .taken) (c .before .before .before .conditional .ensures)
-            (ap (set (s .args .board .now) (s .args .shown)) (c .masked .ensures)),
-      ),
-    )
+    let w = c .before .before .before .before in
+    record {
+      next = omega (arith, shows (c .before .before));
+      wires = ap (set (s .args .wires .now) (s .args .own)) (w .value .ensures);
+      board = with-bit (getD (s .args .table .now) (4 * s .args .g) 0) (c .before .before .before .conditional .result) _ (s .args .board .now) _ (c .before .before .if1 .taken) (c .before .before .before .conditional .ensures)
+          (ap (set (s .args .board .now) (s .args .shown)) (c .masked .ensures));
+    }
 
 same-length-3 : tie.Need-same-length-3
 same-length-3 c = search needs
@@ -143,13 +143,12 @@ returns-2 : tie.Need-returns-2
 unfolding gateAt value wire shownBit
 returns-2 c =
     let s = c .before .before .before .before .before .before .before .before .before .before .before .before .before .before in
-    let n = unmarked (getD (s .args .table .now) (4 * s .args .g) 0) (c .before .conditional .result) (gateAt (s .args .table .now) (s .args .g)) (c .if1 .left) (c .before .conditional .ensures) refl in (
-      omega (arith, n),
-      (
-        ap (set (s .args .wires .now) (s .args .own)) (c .before .before .value .ensures),
-        without-bit (getD (s .args .table .now) (4 * s .args .g) 0) (c .before .conditional .result) _ (s .args .board .now) (c .if1 .left) (c .before .conditional .ensures),
-      ),
-    )
+    let n = unmarked (getD (s .args .table .now) (4 * s .args .g) 0) (c .before .conditional .result) (gateAt (s .args .table .now) (s .args .g)) (c .if1 .left) (c .before .conditional .ensures) refl in
+    record {
+      next = omega (arith, n);
+      wires = ap (set (s .args .wires .now) (s .args .own)) (c .before .before .value .ensures);
+      board = without-bit (getD (s .args .table .now) (4 * s .args .g) 0) (c .before .conditional .result) _ (s .args .board .now) (c .if1 .left) (c .before .conditional .ensures);
+    }
 
 pub run-gate-spec : {M : Type 1} → statement M
 run-gate-spec =

@@ -1,4 +1,5 @@
--- `gates::step::step` meets its contract: after each gate, what is left makes of the wires and the board what the whole range makes of them.
+-- `gates::step::step` meets its contract: after each gate, the gates that are left make the wires and the board of
+-- the whole range.
 -- Assumes nothing.
 use mathlib.Core.Path.{refl}
 use Prim.Native.Nat.{_+_, _-_}
@@ -38,11 +39,12 @@ add-run-gate c = omega (arith, c .before .before .before .before .before .before
 run-gate-requires : tie.Need-run-gate-requires Inv-loop μ-loop
 run-gate-requires c κs =
     let s = c .before .before .before .before .before .before .before .before .before in
-    let l = c .before .before .before .before .loop in (
-      refl,
-      next-ready (s .args .inputs) (s .args .table .now) (s .args .to) (s .args .tape .now) _ _ _ _ _ (s .pre .inTable) (s .pre .inWires) (s .pre .inTape) (s .pre .inBoard)
-          (l .wires) (l .board) (l .next) (l .g) (l .inv) (c .before .before .before .loop-test .taken),
-    )
+    let l = c .before .before .before .before .loop in
+    record {
+      marked = refl;
+      gate = next-ready (s .args .inputs) (s .args .table .now) (s .args .to) (s .args .tape .now) _ _ _ _ _ (s .pre .inTable) (s .pre .inWires) (s .pre .inTape) (s .pre .inBoard)
+          (l .wires) (l .board) (l .next) (l .g) (l .inv) (c .before .before .before .loop-test .taken);
+    }
 
 add-g : tie.Need-add-g Inv-loop μ-loop
 add-g c = omega arith
@@ -59,7 +61,7 @@ loop-again c =
     _ _ _ _ _ _ _ _
     (left-turn (s .args .inputs) (s .args .table .now) (s .args .to) (s .args .tape .now) _ _ _ _ _ (s .pre .inTable) (s .pre .inWires) (s .pre .inTape) (s .pre .inBoard)
     (l .wires) (l .board) (l .next) (l .g) (l .inv) (c .before .before .before .before .before .before .before .before .loop-test .taken))
-    (r .ensures .1 .0) (r .ensures .1 .1) (r .ensures .0) (add-one (l .g))
+    (r .ensures .wires) (r .ensures .board) (r .ensures .next) (add-one (l .g))
 
 same-length : tie.Need-same-length Inv-loop μ-loop
 same-length c = c .before .loop .inv .wiresLength
@@ -73,7 +75,7 @@ returns c =
     let l = c .before .loop in
     let e = left-end (s .args .inputs) (s .args .table .now) (s .args .to) (s .args .tape .now) _ _ _ _ _ (s .pre .inTable) (s .pre .inWires) (s .pre .inTape) (s .pre .inBoard)
     (l .wires) (l .board) (l .next) (l .g) (l .inv) (c .loop-test .left) in
-    (e .0, (e .1, e .2))
+    record { next = e .0; wires = e .1; board = e .2 }
 
 pub step-spec : {M : Type 1} → statement M
 step-spec =

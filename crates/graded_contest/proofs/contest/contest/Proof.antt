@@ -20,7 +20,11 @@ use Rattle.graded_contest.proofs.contest.contest.Tie as tie
 
 key-median-requires : tie.Need-key-median-requires
 key-median-requires c κs =
-    ((c .before .before) .pre .0, (room-less ((c .before .before) .args .w) _ _ (omega arith) ((c .before .before) .pre .1 .0), (c .before .before) .pre .1 .1 .1))
+    record {
+      plan = (c .before .before) .pre .plan;
+      room = room-less ((c .before .before) .args .w) _ _ (omega arith) ((c .before .before) .pre .room);
+      below = (c .before .before) .pre .secondBelow;
+    }
 
 -- behind each part
 
@@ -29,26 +33,34 @@ second c =
     let s = (c .before .before .before) in
     let a = s .args in
     stands-after (a .w) (a .table .now) _ (c .key-median .last .1 .0) (c .key-median .result) _ _ _ (c .key-median .ensures)
-    (median-block (a .w .wire) (a .y + a .p .digits) (wordSpan (a .p)) (a .p .grades - 1) (suc (a .p .places)) (grade-fits (a .p) (s .pre .0)) (flags-end (a .p) (s .pre .0) (a .y) (a .w .wire) (s .pre .1 .1 .1)) .long)
-    (stands (a .w) (a .w .wire) _ _ refl (omega arith) (s .pre .1 .0))
+    (median-block (a .w .wire) (a .y + a .p .digits) (wordSpan (a .p)) (a .p .grades - 1) (suc (a .p .places)) (grade-fits (a .p) (s .pre .plan)) (flags-end (a .p) (s .pre .plan) (a .y) (a .w .wire) (s .pre .secondBelow)) .long)
+    (stands (a .w) (a .w .wire) _ _ refl (omega arith) (s .pre .room))
 
 key-median-requires-2 : tie.Need-key-median-requires-2
 key-median-requires-2 c κs =
-    ((c .before .before .before .before .before .before) .pre .0, (room-of ((c .before .before .before .key-median) .result) _ _ _ (second (c .before .before .before)) (omega arith), omega (arith, second (c .before .before .before) .place, (c .before .before .before .before .before .before) .pre .1 .1 .0)))
+    record {
+      plan = (c .before .before .before .before .before .before) .pre .plan;
+      room = room-of ((c .before .before .before .key-median) .result) _ _ _ (second (c .before .before .before)) (omega arith);
+      below = omega (arith, second (c .before .before .before) .place, (c .before .before .before .before .before .before) .pre .firstBelow);
+    }
 
 first : (c : tie.After-key-median2) → Stands (c .key-median2 .result) ((c .before .before .before .before .before .before .before) .args .w .wire + medianSpan ((c .before .before .before .before .before .before .before) .args .p) + medianSpan ((c .before .before .before .before .before .before .before) .args .p)) (compareSpan (((c .before .before .before .before .before .before .before) .args .p) .places) + (lowerSpan (((c .before .before .before .before .before .before .before) .args .p) .digits) (((c .before .before .before .before .before .before .before) .args .p) .grades - 2) + 2))
 first c =
     let s = (c .before .before .before .before .before .before .before) in
     let a = s .args in
     stands-after ((c .before .before .before .before .key-median) .result) ((c .before .before .before .before .key-median) .last .1 .0) _ (c .key-median2 .last .1 .0) (c .key-median2 .result) _ _ _ (c .key-median2 .ensures)
-    (median-block ((c .before .before .before .before .key-median) .result .wire) (a .x + a .p .digits) (wordSpan (a .p)) (a .p .grades - 1) (suc (a .p .places)) (grade-fits (a .p) (s .pre .0)) (flags-end (a .p) (s .pre .0) (a .x) ((c .before .before .before .before .key-median) .result .wire) (omega (arith, second (c .before .before .before .before) .place, s .pre .1 .1 .0))) .long)
+    (median-block ((c .before .before .before .before .key-median) .result .wire) (a .x + a .p .digits) (wordSpan (a .p)) (a .p .grades - 1) (suc (a .p .places)) (grade-fits (a .p) (s .pre .plan)) (flags-end (a .p) (s .pre .plan) (a .x) ((c .before .before .before .before .key-median) .result .wire) (omega (arith, second (c .before .before .before .before) .place, s .pre .firstBelow))) .long)
     (second (c .before .before .before .before))
 
 compare-halves-requires : tie.Need-compare-halves-requires
 compare-halves-requires c κs =
     let f = first (c .before .before .before .before) in
     let o = second (c .before .before .before .before .before .before .before .before) in
-    (room-of ((c .before .before .before .before .key-median2) .result) _ _ _ f (omega arith), (omega (arith, f .place, o .place), omega (arith, f .place, o .place)))
+    record {
+      room = room-of ((c .before .before .before .before .key-median2) .result) _ _ _ f (omega arith);
+      firstBelow = omega (arith, f .place, o .place);
+      secondBelow = omega (arith, f .place, o .place);
+    }
 
 compared : (c : tie.After-compare-halves) → Stands (c .compare-halves .result) ((c .before .before .before .before .before .before .before .before .before .before .before .before) .args .w .wire + medianSpan ((c .before .before .before .before .before .before .before .before .before .before .before .before) .args .p) + medianSpan ((c .before .before .before .before .before .before .before .before .before .before .before .before) .args .p) + compareSpan (((c .before .before .before .before .before .before .before .before .before .before .before .before) .args .p) .places)) (lowerSpan (((c .before .before .before .before .before .before .before .before .before .before .before .before) .args .p) .digits) (((c .before .before .before .before .before .before .before .before .before .before .before .before) .args .p) .grades - 2) + 2)
 compared c =
@@ -68,17 +80,23 @@ sub-compare-halves c =
 
 unequal-at-requires : tie.Need-unequal-at-requires
 unequal-at-requires c κs =
-    omega (arith, first (c .before .before .before .before .before .before .before) .place, (c .before .before .before .before .before .before .before .before .before .before .before .before .before .before) .pre .1 .0 .small)
+    omega (arith, first (c .before .before .before .before .before .before .before) .place, (c .before .before .before .before .before .before .before .before .before .before .before .before .before .before) .pre .room .small)
 
 above-at-requires : tie.Need-above-at-requires
 above-at-requires c κs =
-    omega (arith, first (c .before .before .before .before .before .before .before .before) .place, (c .before .before .before .before .before .before .before .before .before .before .before .before .before .before .before) .pre .1 .0 .small)
+    omega (arith, first (c .before .before .before .before .before .before .before .before) .place, (c .before .before .before .before .before .before .before .before .before .before .before .before .before .before .before) .pre .room .small)
 
 lower-requires : tie.Need-lower-requires
 lower-requires c κs =
     let q = compared (c .before .before .before .before .before) in
     let s = (c .before .before .before .before .before .before .before .before .before .before .before .before .before .before .before .before .before) in
-    (s .pre .0, (q .left, (omega (arith, q .place, s .pre .1 .1 .0), omega (arith, q .place, s .pre .1 .1 .1), s .pre .1 .1 .2)))
+    record {
+      plan = s .pre .plan;
+      room = q .left;
+      firstBelow = omega (arith, q .place, s .pre .firstBelow);
+      secondBelow = omega (arith, q .place, s .pre .secondBelow);
+      cut = s .pre .cut;
+    }
 
 returns : tie.Need-returns
 unfolding contest
@@ -114,11 +132,11 @@ returns c =
 
 add-right : tie.Need-add-right
 add-right c =
-    omega (arith, (c .before .before .before .before .before .before .before .before .before) .pre .1 .0 .small, (c .before .before .before .before .before .before .before .before .before) .pre .0 .d-most, places-most ((c .before .before .before .before .before .before .before .before .before) .args .p) ((c .before .before .before .before .before .before .before .before .before) .pre .0))
+    omega (arith, (c .before .before .before .before .before .before .before .before .before) .pre .room .small, (c .before .before .before .before .before .before .before .before .before) .pre .plan .d-most, places-most ((c .before .before .before .before .before .before .before .before .before) .args .p) ((c .before .before .before .before .before .before .before .before .before) .pre .plan))
 
 add-compare-halves : tie.Need-add-compare-halves
 add-compare-halves c =
-    omega (arith, (c .before .before .before .before .before .before .before .before .before .before .before) .pre .1 .0 .small, (c .before .before .before .before .before .before .before .before .before .before .before) .pre .0 .d-most, places-most ((c .before .before .before .before .before .before .before .before .before .before .before) .args .p) ((c .before .before .before .before .before .before .before .before .before .before .before) .pre .0))
+    omega (arith, (c .before .before .before .before .before .before .before .before .before .before .before) .pre .room .small, (c .before .before .before .before .before .before .before .before .before .before .before) .pre .plan .d-most, places-most ((c .before .before .before .before .before .before .before .before .before .before .before) .args .p) ((c .before .before .before .before .before .before .before .before .before .before .before) .pre .plan))
 
 same-length : tie.Need-same-length
 same-length c =

@@ -15,25 +15,25 @@ use Rattle.graded_contest.proofs.contest.key_median.Tie as tie
 
 add-median : tie.Need-add-median
 add-median c =
-    omega (arith, (c .before .before .before) .pre .1 .0 .small, (c .before .before .before) .pre .1 .1, key-some ((c .before .before .before .args) .p) ((c .before .before .before) .pre .0))
+    omega (arith, (c .before .before .before) .pre .room .small, (c .before .before .before) .pre .below, key-some ((c .before .before .before .args) .p) ((c .before .before .before) .pre .plan))
 
 add-median-2 : tie.Need-add-median-2
 add-median-2 c =
-    omega (arith, digits-most ((c .before .before .before .before .args) .p) ((c .before .before .before .before) .pre .0))
+    omega (arith, digits-most ((c .before .before .before .before .args) .p) ((c .before .before .before .before) .pre .plan))
 
 sub-median : tie.Need-sub-median
 sub-median c =
-    omega (arith, (c .before .before .before .before .before) .pre .0 .d-least)
+    omega (arith, (c .before .before .before .before .before) .pre .plan .d-least)
 
 add-median-3 : tie.Need-add-median-3
 add-median-3 c =
-    omega (arith, (c .before .before .before .before .before .before) .pre .1 .0 .small)
+    omega (arith, (c .before .before .before .before .before .before) .pre .room .small)
 
 median-requires : tie.Need-median-requires
 median-requires c κs =
     let a = (c .before .before .before .before .before .before .args) in
     let e = ap (medianSize (a .p .grades - 1)) (add-one (a .p .places)) in
-    (room-less (a .w) _ _ (omega (arith, e)) ((c .before .before .before .before .before .before) .pre .1 .0), (subst (Fits (a .p .grades - 1)) (sym (add-one (a .p .places))) (grade-fits (a .p) ((c .before .before .before .before .before .before) .pre .0)), omega (arith, (c .before .before .before .before .before .before) .pre .1 .1), omega (arith, (c .before .before .before .before .before .before) .pre .0 .d-most), omega (arith, digits-most (a .p) ((c .before .before .before .before .before .before) .pre .0))))
+    (room-less (a .w) _ _ (omega (arith, e)) ((c .before .before .before .before .before .before) .pre .room), (subst (Fits (a .p .grades - 1)) (sym (add-one (a .p .places))) (grade-fits (a .p) ((c .before .before .before .before .before .before) .pre .plan)), omega (arith, (c .before .before .before .before .before .before) .pre .below), omega (arith, (c .before .before .before .before .before .before) .pre .plan .d-most), omega (arith, digits-most (a .p) ((c .before .before .before .before .before .before) .pre .plan))))
 
 returns : tie.Need-returns
 returns c =

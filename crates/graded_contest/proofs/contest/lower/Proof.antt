@@ -25,7 +25,7 @@ key-strides p h k =
 
 medians-alone-requires : tie.Need-medians-alone-requires
 medians-alone-requires c κs =
-    room-less ((c .before .before .before .before) .args .w) _ _ (omega arith) ((c .before .before .before .before) .pre .1 .0)
+    room-less ((c .before .before .before .before) .args .w) _ _ (omega arith) ((c .before .before .before .before) .pre .room)
 
 returns : tie.Need-returns
 returns c =
@@ -44,10 +44,15 @@ one-sum-requires : tie.Need-one-sum-requires
 one-sum-requires c κs =
     let s = (c .before .before .before .before .before) in
     let a = s .args in
-    let q = s .pre .1 .1 in
-    let k = key-some (a .p) (s .pre .0) in
+    let q = s .pre in
+    let k = key-some (a .p) (s .pre .plan) in
     let z = some (c .before .before) in
-    (room-less (a .w) _ _ (omega (arith, lower-span-one (a .p .digits) (a .p .grades - 2) z (omega (arith, (c .before .if2) .taken)))) (s .pre .1 .0), (omega (arith, q .0), omega (arith, q .1), q .2))
+    record {
+      room = room-less (a .w) _ _ (omega (arith, lower-span-one (a .p .digits) (a .p .grades - 2) z (omega (arith, (c .before .if2) .taken)))) (s .pre .room);
+      firstBelow = omega (arith, q .firstBelow);
+      secondBelow = omega (arith, q .secondBelow);
+      cut = q .cut;
+    }
 
 returns-2 : tie.Need-returns-2
 returns-2 c =
@@ -56,7 +61,7 @@ returns-2 c =
 
 more : (c : tie.Else2) → 2 < (c .before .before .before .before) .args .p .grades
 more c =
-    omega (arith, c .if2 .left, (c .before .before .before .before) .pre .0 .d-least)
+    omega (arith, c .if2 .left, (c .before .before .before .before) .pre .plan .d-least)
 
 sub-outward : tie.Need-sub-outward
 sub-outward c =
@@ -66,14 +71,21 @@ outward-requires : tie.Need-outward-requires
 outward-requires c κs =
     let s = (c .before .before .before .before .before) in
     let a = s .args in
-    let q = s .pre .1 .1 in
+    let q = s .pre in
     let d = a .p .digits - 1 in
     let z = some (c .before .before) in
     let m = more (c .before) in
     let k = key-strides (a .p) z m in
     let e : a .p .grades - 2 - 1 ≡ a .p .grades - 3 = omega arith in
     let f = lower-span-more (a .p .digits) (a .p .grades - 2) z (omega arith) in
-    (room-less (a .w) _ _ (omega (arith, f, ap (λ (i : ℕ). i * sideSpan d) e, ap (λ (i : ℕ). i * eitherSpan d) e)) (s .pre .1 .0), (omega (arith, q .0, k), omega (arith, q .1, k), omega (arith, digits-most (a .p) (s .pre .0)), omega (arith, s .pre .0 .d-most), q .2))
+    record {
+      room = room-less (a .w) _ _ (omega (arith, f, ap (λ (i : ℕ). i * sideSpan d) e, ap (λ (i : ℕ). i * eitherSpan d) e)) (s .pre .room);
+      firstBelow = omega (arith, q .firstBelow, k);
+      secondBelow = omega (arith, q .secondBelow, k);
+      narrow = omega (arith, digits-most (a .p) (s .pre .plan));
+      few = omega (arith, s .pre .plan .d-most);
+      cut = q .cut;
+    }
 
 returns-3 : tie.Need-returns-3
 returns-3 c =

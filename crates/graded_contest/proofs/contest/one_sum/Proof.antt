@@ -15,15 +15,19 @@ use Rattle.graded_contest.proofs.contest.one_sum.Tie as tie
 compare-halves-requires : tie.Need-compare-halves-requires
 compare-halves-requires c κs =
     let s = (c .before .before .before .before) in
-    let q = s .pre .1 in
-    (room-less (s .args .w) _ _ (omega (arith, q .2)) (s .pre .0), (omega (arith, q .0, q .2), omega (arith, q .1, q .2)))
+    let q = s .pre in
+    record {
+      room = room-less (s .args .w) _ _ (omega (arith, q .cut)) (s .pre .room);
+      firstBelow = omega (arith, q .firstBelow, q .cut);
+      secondBelow = omega (arith, q .secondBelow, q .cut);
+    }
 
 compared : (c : tie.After-compare-halves) → Stands (c .compare-halves .result) ((c .before .before .before .before .before) .args .w .wire + compareSpan ((c .before .before .before .before .before) .args .above)) 2
 compared c =
     let s = (c .before .before .before .before .before) in
     let a = s .args in
-    stands-after (a .w) (a .table .now) _ (c .compare-halves .last .1 .0) (c .compare-halves .result) _ _ _ (c .compare-halves .ensures) (length-compare-cut (a .w .wire) (a .x) (a .y) (a .above) (a .high) (s .pre .1 .2))
-    (stands (a .w) (a .w .wire) _ _ refl (omega arith) (s .pre .0))
+    stands-after (a .w) (a .table .now) _ (c .compare-halves .last .1 .0) (c .compare-halves .result) _ _ _ (c .compare-halves .ensures) (length-compare-cut (a .w .wire) (a .x) (a .y) (a .above) (a .high) (s .pre .cut))
+    (stands (a .w) (a .w .wire) _ _ refl (omega arith) (s .pre .room))
 
 emit-requires : tie.Need-emit-requires
 emit-requires c κs =
@@ -48,15 +52,15 @@ returns c =
 
 unequal-at-requires : tie.Need-unequal-at-requires
 unequal-at-requires c κs =
-    omega (arith, (c .before) .pre .0 .small, (c .before) .pre .1 .2)
+    omega (arith, (c .before) .pre .room .small, (c .before) .pre .cut)
 
 above-at-requires : tie.Need-above-at-requires
 above-at-requires c κs =
-    omega (arith, (c .before .before) .pre .0 .small, (c .before .before) .pre .1 .2)
+    omega (arith, (c .before .before) .pre .room .small, (c .before .before) .pre .cut)
 
 sub-compare-halves : tie.Need-sub-compare-halves
 sub-compare-halves c =
-    omega (arith, (c .before .before .before .before) .pre .0 .small, (c .before .before .before .before) .pre .1 .2)
+    omega (arith, (c .before .before .before .before) .pre .room .small, (c .before .before .before .before) .pre .cut)
 
 same-length : tie.Need-same-length
 same-length c =

@@ -16,13 +16,17 @@ use Rattle.graded_contest.proofs.outward.compare_and_reach.Tie as tie
 
 sub-low : tie.Need-sub-low
 sub-low c =
-    omega (arith, (c .before) .pre .1)
+    omega (arith, (c .before) .pre)
 
 compare-halves-requires : tie.Need-compare-halves-requires
 compare-halves-requires c κs =
     let s = (c .before .before) in
-    let q = s .pre .1 in
-    (room-less (s .args .w) _ _ (omega (arith, q .4)) (s .pre .0), (omega (arith, q .0, q .4), omega (arith, q .1, q .4)))
+    let q = s .pre in
+    record {
+      room = room-less (s .args .w) _ _ (omega (arith, q .cut)) (s .pre .room);
+      firstBelow = omega (arith, q .aBelow, q .cut);
+      secondBelow = omega (arith, q .cBelow, q .cut);
+    }
 
 -- behind each of them
 
@@ -30,27 +34,35 @@ down : (c : tie.After-compare-halves) → Stands (c .compare-halves .result) ((c
 down c =
     let s = (c .before .before .before) in
     let a = s .args in
-    stands-after (a .w) (a .table .now) _ (c .compare-halves .last .1 .0) (c .compare-halves .result) _ _ _ (c .compare-halves .ensures) (length-compare-cut (a .w .wire) (a .a) (a .c) (a .above) (a .high) (s .pre .1 .4))
-    (stands (a .w) (a .w .wire) _ _ refl (omega arith) (s .pre .0))
+    stands-after (a .w) (a .table .now) _ (c .compare-halves .last .1 .0) (c .compare-halves .result) _ _ _ (c .compare-halves .ensures) (length-compare-cut (a .w .wire) (a .a) (a .c) (a .above) (a .high) (s .pre .cut))
+    (stands (a .w) (a .w .wire) _ _ refl (omega arith) (s .pre .room))
 
 compare-halves-requires-2 : tie.Need-compare-halves-requires-2
 compare-halves-requires-2 c κs =
-    let q = (c .before .before .before .before .before .before) .pre .1 in
+    let q = (c .before .before .before .before .before .before) .pre in
     let d = down (c .before .before .before) in
-    (room-of ((c .before .before .before .compare-halves) .result) _ _ _ d (omega (arith, q .4)), (omega (arith, d .place, q .2, q .4), omega (arith, d .place, q .3, q .4)))
+    record {
+      room = room-of ((c .before .before .before .compare-halves) .result) _ _ _ d (omega (arith, q .cut));
+      firstBelow = omega (arith, d .place, q .uBelow, q .cut);
+      secondBelow = omega (arith, d .place, q .vBelow, q .cut);
+    }
 
 up : (c : tie.After-compare-halves2) → Stands (c .compare-halves2 .result) ((c .before .before .before .before .before .before .before) .args .w .wire + compareSpan ((c .before .before .before .before .before .before .before) .args .above) + compareSpan ((c .before .before .before .before .before .before .before) .args .above)) (reachSpan ((c .before .before .before .before .before .before .before) .args .above) + reachSpan ((c .before .before .before .before .before .before .before) .args .above))
 up c =
     let s = (c .before .before .before .before .before .before .before) in
     let a = s .args in
-    stands-after ((c .before .before .before .before .compare-halves) .result) ((c .before .before .before .before .compare-halves) .last .1 .0) _ (c .compare-halves2 .last .1 .0) (c .compare-halves2 .result) _ _ _ (c .compare-halves2 .ensures) (length-compare-cut ((c .before .before .before .before .compare-halves) .result .wire) (a .u) (a .v) (a .above) (a .high) (s .pre .1 .4))
+    stands-after ((c .before .before .before .before .compare-halves) .result) ((c .before .before .before .before .compare-halves) .last .1 .0) _ (c .compare-halves2 .last .1 .0) (c .compare-halves2 .result) _ _ _ (c .compare-halves2 .ensures) (length-compare-cut ((c .before .before .before .before .compare-halves) .result .wire) (a .u) (a .v) (a .above) (a .high) (s .pre .cut))
     (down (c .before .before .before .before))
 
 reach-requires : tie.Need-reach-requires
 reach-requires c κs =
-    let q = (c .before .before .before .before .before .before .before .before .before .before) .pre .1 in
+    let q = (c .before .before .before .before .before .before .before .before .before .before) .pre in
     let d = up (c .before .before .before) in
-    (room-of ((c .before .before .before .compare-halves2) .result) _ _ _ d (omega arith), (omega (arith, d .place, q .0), omega (arith, d .place, q .2)))
+    record {
+      room = room-of ((c .before .before .before .compare-halves2) .result) _ _ _ d (omega arith);
+      firstBelow = omega (arith, d .place, q .aBelow);
+      secondBelow = omega (arith, d .place, q .uBelow);
+    }
 
 left : (c : tie.After-reach) → Stands (c .reach .result) ((c .before .before .before .before .before .before .before .before .before .before .before) .args .w .wire + compareSpan ((c .before .before .before .before .before .before .before .before .before .before .before) .args .above) + compareSpan ((c .before .before .before .before .before .before .before .before .before .before .before) .args .above) + reachSpan ((c .before .before .before .before .before .before .before .before .before .before .before) .args .above)) (reachSpan ((c .before .before .before .before .before .before .before .before .before .before .before) .args .above))
 left c =
@@ -60,9 +72,9 @@ left c =
 
 reach-requires-2 : tie.Need-reach-requires-2
 reach-requires-2 c κs =
-    let q = (c .before .before .before .before .before .before .before .before .before .before .before .before .before .before) .pre .1 in
+    let q = (c .before .before .before .before .before .before .before .before .before .before .before .before .before .before) .pre in
     let d = left (c .before .before .before) in
-    (d .left, (omega (arith, d .place, q .1), omega (arith, d .place, q .3)))
+    record { room = d .left; firstBelow = omega (arith, d .place, q .cBelow); secondBelow = omega (arith, d .place, q .vBelow) }
 
 returns : tie.Need-returns
 unfolding compareAndReach

@@ -23,33 +23,33 @@ words x t r n h =
 
 small : (c : tie.After-slice-known) → ((c .before .args) .between + 1) * ((c .before .args) .above + 2) ≤ 63
 small c =
-    let q = (c .before) .pre .1 in
-    let p : ((c .before .args) .between + 1) * ((c .before .args) .above + 2) ≤ 7 * 9 = product-most ((c .before .args) .between + 1) ((c .before .args) .above + 2) 7 9 (omega (arith, q .3)) (omega (arith, q .2)) in
+    let q = (c .before) .pre in
+    let p : ((c .before .args) .between + 1) * ((c .before .args) .above + 2) ≤ 7 * 9 = product-most ((c .before .args) .between + 1) ((c .before .args) .above + 2) 7 9 (omega (arith, q .few)) (omega (arith, q .narrow)) in
     omega arith
 
 xs : (c : tie.After-slice-known) → ((c .before .args) .x + ((c .before .args) .above + 2) + (c .before .args) .between * stride ((c .before .args) .above) ≤ (c .before .args) .w .wire) × ((c .before .args) .x + ((c .before .args) .between + 1) * ((c .before .args) .above + 2) + stride ((c .before .args) .above) ≤ (c .before .args) .w .wire) × (((c .before .args) .between + 1) * ((c .before .args) .above + 2) ≡ suc ((c .before .args) .between) * stride ((c .before .args) .above))
 xs c =
-    words ((c .before .args) .x) ((c .before .args) .between) ((c .before .args) .above) ((c .before .args) .w .wire) ((c .before) .pre .1 .0)
+    words ((c .before .args) .x) ((c .before .args) .between) ((c .before .args) .above) ((c .before .args) .w .wire) ((c .before) .pre .firstBelow)
 
 ys : (c : tie.After-slice-known) → ((c .before .args) .y + ((c .before .args) .above + 2) + (c .before .args) .between * stride ((c .before .args) .above) ≤ (c .before .args) .w .wire) × ((c .before .args) .y + ((c .before .args) .between + 1) * ((c .before .args) .above + 2) + stride ((c .before .args) .above) ≤ (c .before .args) .w .wire) × (((c .before .args) .between + 1) * ((c .before .args) .above + 2) ≡ suc ((c .before .args) .between) * stride ((c .before .args) .above))
 ys c =
-    words ((c .before .args) .y) ((c .before .args) .between) ((c .before .args) .above) ((c .before .args) .w .wire) ((c .before) .pre .1 .1)
+    words ((c .before .args) .y) ((c .before .args) .between) ((c .before .args) .above) ((c .before .args) .w .wire) ((c .before) .pre .secondBelow)
 
 add-step : tie.Need-add-step
 add-step c =
-    omega (arith, (c .before) .pre .1)
+    omega (arith, (c .before) .pre)
 
 add-left : tie.Need-add-left
 add-left c =
-    omega (arith, xs c, (c .before) .pre .0 .small)
+    omega (arith, xs c, (c .before) .pre .room .small)
 
 add-right : tie.Need-add-right
 add-right c =
-    omega (arith, ys c, (c .before) .pre .0 .small)
+    omega (arith, ys c, (c .before) .pre .room .small)
 
 add-far : tie.Need-add-far
 add-far c =
-    omega (arith, (c .before) .pre .1)
+    omega (arith, (c .before) .pre)
 
 mul-far : tie.Need-mul-far
 mul-far c =
@@ -57,32 +57,46 @@ mul-far c =
 
 add-below : tie.Need-add-below
 add-below c =
-    omega (arith, (c .before) .pre .1)
+    omega (arith, (c .before) .pre)
 
 add-below-2 : tie.Need-add-below-2
 add-below-2 c =
-    omega (arith, (c .before .before) .pre .1, (c .before .before) .pre .0 .small)
+    omega (arith, (c .before .before) .pre)
 
 add-below-3 : tie.Need-add-below-3
 add-below-3 c =
-    omega (arith, (c .before .before) .pre .1, (c .before .before) .pre .0 .small)
+    omega (arith, (c .before .before) .pre)
 
 sides-requires : tie.Need-sides-requires
 sides-requires c κs =
-    (room-less ((c .before .before .before .args) .w) _ _ (omega arith) ((c .before .before .before) .pre .0), (omega (arith, xs (c .before .before)), omega (arith, ys (c .before .before)), (c .before .before .before) .pre .1 .2, (c .before .before .before) .pre .1 .4))
+    record {
+      room = room-less ((c .before .before .before .args) .w) _ _ (omega arith) ((c .before .before .before) .pre .room);
+      firstBelow = omega (arith, xs (c .before .before));
+      secondBelow = omega (arith, ys (c .before .before));
+      narrow = (c .before .before .before) .pre .narrow;
+      cut = (c .before .before .before) .pre .cut;
+    }
 
 sided : (c : tie.After-sides) → Stands ((c .sides) .result) ((c .before .before .before .before .args) .w .wire + (c .before .before .before .before .args) .between * sideSpan ((c .before .before .before .before .args) .above)) ((c .before .before .before .before .args) .between * eitherSpan ((c .before .before .before .before .args) .above) + (c .before .before .before .before .args) .between * eitherSpan ((c .before .before .before .before .args) .above))
 sided c =
     let a = (c .before .before .before .before .args) in
-    stands-after (a .w) (a .table .now) _ ((c .sides) .last .1 .0) ((c .sides) .result) _ _ _ ((c .sides) .ensures) (sides-block (a .w .wire) (a .x + (a .above + 2)) (a .y + (a .above + 2)) (a .above) (a .high) (a .between) ((c .before .before .before .before) .pre .1 .4) (omega (arith, xs (c .before .before .before))) (omega (arith, ys (c .before .before .before))) .long)
-    (stands (a .w) (a .w .wire) _ _ refl (omega arith) ((c .before .before .before .before) .pre .0))
+    stands-after (a .w) (a .table .now) _ ((c .sides) .last .1 .0) ((c .sides) .result) _ _ _ ((c .sides) .ensures) (sides-block (a .w .wire) (a .x + (a .above + 2)) (a .y + (a .above + 2)) (a .above) (a .high) (a .between) ((c .before .before .before .before) .pre .cut) (omega (arith, xs (c .before .before .before))) (omega (arith, ys (c .before .before .before))) .long)
+    (stands (a .w) (a .w .wire) _ _ refl (omega arith) ((c .before .before .before .before) .pre .room))
 
 last-of-requires : tie.Need-last-of-requires
 last-of-requires c κs =
     let x = xs (c .before .before .before .before .before .before) in
     let y = ys (c .before .before .before .before .before .before) in
     let p = sided (c .before .before .before) .place in
-    (room-of ((c .before .before .before .sides) .result) _ _ _ (sided (c .before .before .before)) (omega arith), (omega (arith, p), omega (arith, x .0, p), omega (arith, y .0, p), omega (arith, x .0, p), omega (arith, y .0, p), (c .before .before .before .before .before .before .before) .pre .1 .2))
+    record {
+      room = room-of ((c .before .before .before .sides) .result) _ _ _ (sided (c .before .before .before)) (omega arith);
+      sidesBelow = omega (arith, p);
+      xBelow = omega (arith, x .0, p);
+      yBelow = omega (arith, y .0, p);
+      uBelow = omega (arith, x .0, p);
+      vBelow = omega (arith, y .0, p);
+      narrow = (c .before .before .before .before .before .before .before) .pre .narrow;
+    }
 
 down : (c : tie.After-last-of) → Stands ((c .last-of) .result) ((c .before .before .before .before .before .before .before .before .args) .w .wire + (c .before .before .before .before .before .before .before .before .args) .between * sideSpan ((c .before .before .before .before .before .before .before .before .args) .above) + (c .before .before .before .before .before .before .before .before .args) .between * eitherSpan ((c .before .before .before .before .before .before .before .before .args) .above)) ((c .before .before .before .before .before .before .before .before .args) .between * eitherSpan ((c .before .before .before .before .before .before .before .before .args) .above))
 down c =
@@ -96,22 +110,31 @@ down c =
 
 add-first-of : tie.Need-add-first-of
 add-first-of c =
-    omega (arith, (c .before .before .before .before .before .before .before .before .before .before .before) .pre .1, (c .before .before .before .before .before .before .before .before .before .before .before) .pre .0 .small)
+    omega (arith, (c .before .before .before .before .before .before .before .before .before .before .before) .pre)
 
 add-first-of-2 : tie.Need-add-first-of-2
 add-first-of-2 c =
-    omega (arith, xs (c .before .before .before .before .before .before .before .before .before .before), small (c .before .before .before .before .before .before .before .before .before .before), (c .before .before .before .before .before .before .before .before .before .before .before) .pre .0 .small)
+    omega (arith, xs (c .before .before .before .before .before .before .before .before .before .before), small (c .before .before .before .before .before .before .before .before .before .before), (c .before .before .before .before .before .before .before .before .before .before .before) .pre .room .small)
 
 add-first-of-3 : tie.Need-add-first-of-3
 add-first-of-3 c =
-    omega (arith, ys (c .before .before .before .before .before .before .before .before .before .before), small (c .before .before .before .before .before .before .before .before .before .before), (c .before .before .before .before .before .before .before .before .before .before .before) .pre .0 .small)
+    omega (arith, ys (c .before .before .before .before .before .before .before .before .before .before), small (c .before .before .before .before .before .before .before .before .before .before), (c .before .before .before .before .before .before .before .before .before .before .before) .pre .room .small)
 
 first-of-requires : tie.Need-first-of-requires
 first-of-requires c κs =
     let x = xs (c .before .before .before .before .before .before .before .before .before .before) in
     let y = ys (c .before .before .before .before .before .before .before .before .before .before) in
     let p = down (c .before .before .before) .place in
-    (down (c .before .before .before) .left, (omega (arith, p), omega (arith, x .0, p), omega (arith, y .0, p), omega (arith, x .1, p), omega (arith, y .1, p), (c .before .before .before .before .before .before .before .before .before .before .before) .pre .1 .2, (c .before .before .before .before .before .before .before .before .before .before .before) .pre .1 .3))
+    record {
+      room = down (c .before .before .before) .left;
+      sidesBelow = omega (arith, p);
+      xBelow = omega (arith, x .0, p);
+      yBelow = omega (arith, y .0, p);
+      uBelow = omega (arith, x .1, p);
+      vBelow = omega (arith, y .1, p);
+      narrow = (c .before .before .before .before .before .before .before .before .before .before .before) .pre .narrow;
+      few = (c .before .before .before .before .before .before .before .before .before .before .before) .pre .few;
+    }
 
 returns : tie.Need-returns
 unfolding nearest

@@ -59,7 +59,7 @@ same-compared e r p₁ p₂ p₃ p₄ p₅ p₆ = cc
 
 prods : (c : tie.After-slice-known) → Products ((c .before) .args .above) ((c .before) .args .between)
 prods c =
-    products ((c .before) .args .above) ((c .before) .args .between) ((c .before) .pre .1 .2) ((c .before) .pre .1 .3)
+    products ((c .before) .args .above) ((c .before) .args .between) ((c .before) .pre .narrow) ((c .before) .pre .few)
 
 mul-down-2 : tie.Need-mul-down-2
 mul-down-2 c =
@@ -67,7 +67,7 @@ mul-down-2 c =
 
 add-down-2 : tie.Need-add-down-2
 add-down-2 c =
-    omega (arith, prods (c .before) .side-small, (c .before .before) .pre .0 .small)
+    omega (arith, prods (c .before) .side-small, (c .before .before) .pre .room .small)
 
 mul-up-2 : tie.Need-mul-up-2
 mul-up-2 c =
@@ -75,7 +75,7 @@ mul-up-2 c =
 
 add-up-2 : tie.Need-add-up-2
 add-up-2 c =
-    omega (arith, prods (c .before) .side-small, prods (c .before) .either-small, (c .before .before) .pre .0 .small)
+    omega (arith, prods (c .before) .side-small, prods (c .before) .either-small, (c .before .before) .pre .room .small)
 
 mul-far : tie.Need-mul-far
 mul-far c =
@@ -84,36 +84,36 @@ mul-far c =
 left-end-requires : tie.Need-left-end-requires
 left-end-requires c κs =
     let q = prods (c .before) in
-    (omega (arith, q .side-is, (c .before .before) .pre .0 .small), (c .before .before) .pre .1 .2, (c .before .before) .pre .1 .3)
+    (omega (arith, q .side-is, (c .before .before) .pre .room .small), (c .before .before) .pre .narrow, (c .before .before) .pre .few)
 
 right-end-requires : tie.Need-right-end-requires
 right-end-requires c κs =
     let q = prods (c .before .before) in
-    (omega (arith, q .side-is, (c .before .before .before) .pre .0 .small), (c .before .before .before) .pre .1 .2, (c .before .before .before) .pre .1 .3)
+    (omega (arith, q .side-is, (c .before .before .before) .pre .room .small), (c .before .before .before) .pre .narrow, (c .before .before .before) .pre .few)
 
 add-left-end : tie.Need-add-left-end
 add-left-end c =
     let q = prods (c .before .before .before) in
-    omega (arith, q .far-small, far-there ((c .before .before .before .before) .args .x) ((c .before .before .before .before) .args .above) ((c .before .before .before .before) .args .between) ((c .before .before .before .before) .args .w .wire) q ((c .before .before .before .before) .pre .1 .0), (c .before .before .before .before) .pre .0 .small)
+    omega (arith, q .far-small, far-there ((c .before .before .before .before) .args .x) ((c .before .before .before .before) .args .above) ((c .before .before .before .before) .args .between) ((c .before .before .before .before) .args .w .wire) q ((c .before .before .before .before) .pre .firstBelow), (c .before .before .before .before) .pre .room .small)
 
 left-end-requires-2 : tie.Need-left-end-requires-2
 left-end-requires-2 c κs =
     let q = prods (c .before .before .before) in
-    (omega (arith, q .side-is, q .either-is, (c .before .before .before .before) .pre .0 .small), (c .before .before .before .before) .pre .1 .2, (c .before .before .before .before) .pre .1 .3)
+    (omega (arith, q .side-is, q .either-is, (c .before .before .before .before) .pre .room .small), (c .before .before .before .before) .pre .narrow, (c .before .before .before .before) .pre .few)
 
 add-right-end : tie.Need-add-right-end
 add-right-end c =
     let q = prods (c .before .before .before .before) in
-    omega (arith, q .far-small, far-there ((c .before .before .before .before .before) .args .y) ((c .before .before .before .before .before) .args .above) ((c .before .before .before .before .before) .args .between) ((c .before .before .before .before .before) .args .w .wire) q ((c .before .before .before .before .before) .pre .1 .1), (c .before .before .before .before .before) .pre .0 .small)
+    omega (arith, q .far-small, far-there ((c .before .before .before .before .before) .args .y) ((c .before .before .before .before .before) .args .above) ((c .before .before .before .before .before) .args .between) ((c .before .before .before .before .before) .args .w .wire) q ((c .before .before .before .before .before) .pre .secondBelow), (c .before .before .before .before .before) .pre .room .small)
 
 right-end-requires-2 : tie.Need-right-end-requires-2
 right-end-requires-2 c κs =
     let q = prods (c .before .before .before .before) in
-    (omega (arith, q .side-is, q .either-is, (c .before .before .before .before .before) .pre .0 .small), (c .before .before .before .before .before) .pre .1 .2, (c .before .before .before .before .before) .pre .1 .3)
+    (omega (arith, q .side-is, q .either-is, (c .before .before .before .before .before) .pre .room .small), (c .before .before .before .before .before) .pre .narrow, (c .before .before .before .before .before) .pre .few)
 
 chosen-high-requires : tie.Need-chosen-high-requires
 chosen-high-requires c κs =
-    (c .before .before .before .before .before .before) .pre .1 .2
+    (c .before .before .before .before .before .before) .pre .narrow
 
 -- the words chosen
 
@@ -147,7 +147,14 @@ v-is c =
 
 nearest-requires : tie.Need-nearest-requires
 nearest-requires c κs =
-    (room-less ((c .before .before .before .before .before .before .before .before) .args .w) _ _ (omega arith) ((c .before .before .before .before .before .before .before .before) .pre .0), (c .before .before .before .before .before .before .before .before) .pre .1)
+    record {
+      room = room-less ((c .before .before .before .before .before .before .before .before) .args .w) _ _ (omega arith) ((c .before .before .before .before .before .before .before .before) .pre .room);
+      firstBelow = (c .before .before .before .before .before .before .before .before) .pre .firstBelow;
+      secondBelow = (c .before .before .before .before .before .before .before .before) .pre .secondBelow;
+      narrow = (c .before .before .before .before .before .before .before .before) .pre .narrow;
+      few = (c .before .before .before .before .before .before .before .before) .pre .few;
+      cut = (c .before .before .before .before .before .before .before .before) .pre .cut;
+    }
 
 -- behind the choice
 
@@ -155,16 +162,16 @@ chosen : (c : tie.After-nearest) → Stands (c .nearest .result) ((c .before .be
 chosen c =
     let s = (c .before .before .before .before .before .before .before .before .before) in
     let a = s .args in
-    stands-after (a .w) (a .table .now) _ (c .nearest .last .1 .0) (c .nearest .result) _ _ _ (c .nearest .ensures) (nearest-block (a .w .wire) (a .x) (a .y) (a .above) (a .high) (a .between) (s .pre .1 .4) (s .pre .1 .0) (s .pre .1 .1) .long)
-    (stands (a .w) (a .w .wire) _ _ refl (omega arith) (s .pre .0))
+    stands-after (a .w) (a .table .now) _ (c .nearest .last .1 .0) (c .nearest .result) _ _ _ (c .nearest .ensures) (nearest-block (a .w .wire) (a .x) (a .y) (a .above) (a .high) (a .between) (s .pre .cut) (s .pre .firstBelow) (s .pre .secondBelow) .long)
+    (stands (a .w) (a .w .wire) _ _ refl (omega arith) (s .pre .room))
 
 words : (c : tie.After-nearest) → ((c .before .before .before .before .before .before .left-end) .result + suc ((c .before .before .before .before .before .before .before .before .before) .args .above) ≤ c .nearest .result .wire) × ((c .before .before .before .before .before .right-end) .result + suc ((c .before .before .before .before .before .before .before .before .before) .args .above) ≤ c .nearest .result .wire) × ((c .before .before .before .before .left-end2) .result + suc ((c .before .before .before .before .before .before .before .before .before) .args .above) ≤ c .nearest .result .wire) × ((c .before .before .before .right-end2) .result + suc ((c .before .before .before .before .before .before .before .before .before) .args .above) ≤ c .nearest .result .wire)
 words c =
     let a = (c .before .before .before .before .before .before .before .before .before) .args in
     let p = chosen c .place in
     let n = a .w .wire in
-    let hx = (c .before .before .before .before .before .before .before .before .before) .pre .1 .0 in
-    let hy = (c .before .before .before .before .before .before .before .before .before) .pre .1 .1 in (
+    let hx = (c .before .before .before .before .before .before .before .before .before) .pre .firstBelow in
+    let hy = (c .before .before .before .before .before .before .before .before .before) .pre .secondBelow in (
       omega (arith, p, a-is (c .before .before .before .before .before .before), down-left-below n (a .x) (a .y) (a .above) (a .between) hx hy),
       omega (arith, p, c-is (c .before .before .before .before .before), down-right-below n (a .x) (a .y) (a .above) (a .between) hx hy),
       omega (arith, p, u-is (c .before .before .before .before), up-left-below n (a .x) (a .y) (a .above) (a .between) hx hy),
@@ -173,12 +180,19 @@ words c =
 
 cut-most : (c : tie.After-chosen-high) → c .chosen-high .result ≤ ((c .before .before .before .before .before .before .before) .args .above)
 cut-most c =
-    let a = (c .before .before .before .before .before .before .before) .args in omega (arith, c .chosen-high .ensures, chosen-high (a .above) (a .high) (a .between) ((c .before .before .before .before .before .before .before) .pre .1 .4))
+    let a = (c .before .before .before .before .before .before .before) .args in omega (arith, c .chosen-high .ensures, chosen-high (a .above) (a .high) (a .between) ((c .before .before .before .before .before .before .before) .pre .cut))
 
 compare-and-reach-requires : tie.Need-compare-and-reach-requires
 compare-and-reach-requires c κs =
     let q = words (c .before .before .before) in
-    (room-of ((c .before .before .before .nearest) .result) _ _ _ (chosen (c .before .before .before)) (omega arith), (q .0, q .1, q .2, q .3, cut-most (c .before .before .before .before .before)))
+    record {
+      room = room-of ((c .before .before .before .nearest) .result) _ _ _ (chosen (c .before .before .before)) (omega arith);
+      aBelow = q .0;
+      cBelow = q .1;
+      uBelow = q .2;
+      vBelow = q .3;
+      cut = cut-most (c .before .before .before .before .before);
+    }
 
 summed : (c : tie.After-compare-and-reach) → Stands (c .compare-and-reach .result) ((c .before .before .before .before .before .before .before .before .before .before .before .before .before) .args .w .wire + (((c .before .before .before .before .before .before .before .before .before .before .before .before .before) .args .between) * sideSpan ((c .before .before .before .before .before .before .before .before .before .before .before .before .before) .args .above) + ((c .before .before .before .before .before .before .before .before .before .before .before .before .before) .args .between) * eitherSpan ((c .before .before .before .before .before .before .before .before .before .before .before .before .before) .args .above) + ((c .before .before .before .before .before .before .before .before .before .before .before .before .before) .args .between) * eitherSpan ((c .before .before .before .before .before .before .before .before .before .before .before .before .before) .args .above)) + compareAndReachSpan ((c .before .before .before .before .before .before .before .before .before .before .before .before .before) .args .above)) resolveSpan
 summed c =
@@ -189,27 +203,32 @@ summed c =
 
 resolve-at-requires : tie.Need-resolve-at-requires
 resolve-at-requires c κs =
-    (summed (c .before .before .before) .left, (omega (arith, summed (c .before .before .before) .place, chosen (c .before .before .before .before .before .before .before) .place), omega arith, (c .before .before .before .before .before .before .before .before .before .before .before .before .before .before .before .before) .pre .1 .2))
+    record {
+      room = summed (c .before .before .before) .left;
+      place = omega (arith, summed (c .before .before .before) .place, chosen (c .before .before .before .before .before .before .before) .place);
+      spanIs = omega arith;
+      narrow = (c .before .before .before .before .before .before .before .before .before .before .before .before .before .before .before .before) .pre .narrow;
+    }
 
 add-resolve-at : tie.Need-add-resolve-at
 add-resolve-at c =
-    omega (arith, far-there ((c .before .before .before .before .before .before .before .before .before .before .before .before .before .before .before .before) .args .x) ((c .before .before .before .before .before .before .before .before .before .before .before .before .before .before .before .before) .args .above) ((c .before .before .before .before .before .before .before .before .before .before .before .before .before .before .before .before) .args .between) ((c .before .before .before .before .before .before .before .before .before .before .before .before .before .before .before .before) .args .w .wire) (prods (c .before .before .before .before .before .before .before .before .before .before .before .before .before .before .before)) ((c .before .before .before .before .before .before .before .before .before .before .before .before .before .before .before .before) .pre .1 .0), (c .before .before .before .before .before .before .before .before .before .before .before .before .before .before .before .before) .pre .0 .small, (c .before .before .before .before .before .before .before .before .before .before .before .before .before .before .before .before) .pre .1 .2)
+    omega (arith, far-there ((c .before .before .before .before .before .before .before .before .before .before .before .before .before .before .before .before) .args .x) ((c .before .before .before .before .before .before .before .before .before .before .before .before .before .before .before .before) .args .above) ((c .before .before .before .before .before .before .before .before .before .before .before .before .before .before .before .before) .args .between) ((c .before .before .before .before .before .before .before .before .before .before .before .before .before .before .before .before) .args .w .wire) (prods (c .before .before .before .before .before .before .before .before .before .before .before .before .before .before .before)) ((c .before .before .before .before .before .before .before .before .before .before .before .before .before .before .before .before) .pre .firstBelow), (c .before .before .before .before .before .before .before .before .before .before .before .before .before .before .before .before) .pre .room .small, (c .before .before .before .before .before .before .before .before .before .before .before .before .before .before .before .before) .pre .narrow)
 
 add-resolve-at-2 : tie.Need-add-resolve-at-2
 add-resolve-at-2 c =
-    omega (arith, far-there ((c .before .before .before .before .before .before .before .before .before .before .before .before .before .before .before .before) .args .x) ((c .before .before .before .before .before .before .before .before .before .before .before .before .before .before .before .before) .args .above) ((c .before .before .before .before .before .before .before .before .before .before .before .before .before .before .before .before) .args .between) ((c .before .before .before .before .before .before .before .before .before .before .before .before .before .before .before .before) .args .w .wire) (prods (c .before .before .before .before .before .before .before .before .before .before .before .before .before .before .before)) ((c .before .before .before .before .before .before .before .before .before .before .before .before .before .before .before .before) .pre .1 .0), (c .before .before .before .before .before .before .before .before .before .before .before .before .before .before .before .before) .pre .0 .small, (c .before .before .before .before .before .before .before .before .before .before .before .before .before .before .before .before) .pre .1 .2)
+    omega (arith, far-there ((c .before .before .before .before .before .before .before .before .before .before .before .before .before .before .before .before) .args .x) ((c .before .before .before .before .before .before .before .before .before .before .before .before .before .before .before .before) .args .above) ((c .before .before .before .before .before .before .before .before .before .before .before .before .before .before .before .before) .args .between) ((c .before .before .before .before .before .before .before .before .before .before .before .before .before .before .before .before) .args .w .wire) (prods (c .before .before .before .before .before .before .before .before .before .before .before .before .before .before .before)) ((c .before .before .before .before .before .before .before .before .before .before .before .before .before .before .before .before) .pre .firstBelow), (c .before .before .before .before .before .before .before .before .before .before .before .before .before .before .before .before) .pre .room .small, (c .before .before .before .before .before .before .before .before .before .before .before .before .before .before .before .before) .pre .narrow)
 
 add-resolve-at-3 : tie.Need-add-resolve-at-3
 add-resolve-at-3 c =
-    omega (arith, far-there ((c .before .before .before .before .before .before .before .before .before .before .before .before .before .before .before .before) .args .x) ((c .before .before .before .before .before .before .before .before .before .before .before .before .before .before .before .before) .args .above) ((c .before .before .before .before .before .before .before .before .before .before .before .before .before .before .before .before) .args .between) ((c .before .before .before .before .before .before .before .before .before .before .before .before .before .before .before .before) .args .w .wire) (prods (c .before .before .before .before .before .before .before .before .before .before .before .before .before .before .before)) ((c .before .before .before .before .before .before .before .before .before .before .before .before .before .before .before .before) .pre .1 .0), (c .before .before .before .before .before .before .before .before .before .before .before .before .before .before .before .before) .pre .0 .small, (c .before .before .before .before .before .before .before .before .before .before .before .before .before .before .before .before) .pre .1 .2)
+    omega (arith, far-there ((c .before .before .before .before .before .before .before .before .before .before .before .before .before .before .before .before) .args .x) ((c .before .before .before .before .before .before .before .before .before .before .before .before .before .before .before .before) .args .above) ((c .before .before .before .before .before .before .before .before .before .before .before .before .before .before .before .before) .args .between) ((c .before .before .before .before .before .before .before .before .before .before .before .before .before .before .before .before) .args .w .wire) (prods (c .before .before .before .before .before .before .before .before .before .before .before .before .before .before .before)) ((c .before .before .before .before .before .before .before .before .before .before .before .before .before .before .before .before) .pre .firstBelow), (c .before .before .before .before .before .before .before .before .before .before .before .before .before .before .before .before) .pre .room .small, (c .before .before .before .before .before .before .before .before .before .before .before .before .before .before .before .before) .pre .narrow)
 
 add-resolve-at-4 : tie.Need-add-resolve-at-4
 add-resolve-at-4 c =
-    omega (arith, far-there ((c .before .before .before .before .before .before .before .before .before .before .before .before .before .before .before .before) .args .x) ((c .before .before .before .before .before .before .before .before .before .before .before .before .before .before .before .before) .args .above) ((c .before .before .before .before .before .before .before .before .before .before .before .before .before .before .before .before) .args .between) ((c .before .before .before .before .before .before .before .before .before .before .before .before .before .before .before .before) .args .w .wire) (prods (c .before .before .before .before .before .before .before .before .before .before .before .before .before .before .before)) ((c .before .before .before .before .before .before .before .before .before .before .before .before .before .before .before .before) .pre .1 .0), (c .before .before .before .before .before .before .before .before .before .before .before .before .before .before .before .before) .pre .0 .small, (c .before .before .before .before .before .before .before .before .before .before .before .before .before .before .before .before) .pre .1 .2)
+    omega (arith, far-there ((c .before .before .before .before .before .before .before .before .before .before .before .before .before .before .before .before) .args .x) ((c .before .before .before .before .before .before .before .before .before .before .before .before .before .before .before .before) .args .above) ((c .before .before .before .before .before .before .before .before .before .before .before .before .before .before .before .before) .args .between) ((c .before .before .before .before .before .before .before .before .before .before .before .before .before .before .before .before) .args .w .wire) (prods (c .before .before .before .before .before .before .before .before .before .before .before .before .before .before .before)) ((c .before .before .before .before .before .before .before .before .before .before .before .before .before .before .before .before) .pre .firstBelow), (c .before .before .before .before .before .before .before .before .before .before .before .before .before .before .before .before) .pre .room .small, (c .before .before .before .before .before .before .before .before .before .before .before .before .before .before .before .before) .pre .narrow)
 
 add-resolve-at-5 : tie.Need-add-resolve-at-5
 add-resolve-at-5 c =
-    omega (arith, far-there ((c .before .before .before .before .before .before .before .before .before .before .before .before .before .before .before .before) .args .x) ((c .before .before .before .before .before .before .before .before .before .before .before .before .before .before .before .before) .args .above) ((c .before .before .before .before .before .before .before .before .before .before .before .before .before .before .before .before) .args .between) ((c .before .before .before .before .before .before .before .before .before .before .before .before .before .before .before .before) .args .w .wire) (prods (c .before .before .before .before .before .before .before .before .before .before .before .before .before .before .before)) ((c .before .before .before .before .before .before .before .before .before .before .before .before .before .before .before .before) .pre .1 .0), (c .before .before .before .before .before .before .before .before .before .before .before .before .before .before .before .before) .pre .0 .small, (c .before .before .before .before .before .before .before .before .before .before .before .before .before .before .before .before) .pre .1 .2)
+    omega (arith, far-there ((c .before .before .before .before .before .before .before .before .before .before .before .before .before .before .before .before) .args .x) ((c .before .before .before .before .before .before .before .before .before .before .before .before .before .before .before .before) .args .above) ((c .before .before .before .before .before .before .before .before .before .before .before .before .before .before .before .before) .args .between) ((c .before .before .before .before .before .before .before .before .before .before .before .before .before .before .before .before) .args .w .wire) (prods (c .before .before .before .before .before .before .before .before .before .before .before .before .before .before .before)) ((c .before .before .before .before .before .before .before .before .before .before .before .before .before .before .before .before) .pre .firstBelow), (c .before .before .before .before .before .before .before .before .before .before .before .before .before .before .before .before) .pre .room .small, (c .before .before .before .before .before .before .before .before .before .before .before .before .before .before .before .before) .pre .narrow)
 
 returns : tie.Need-returns
 unfolding outward resolved
@@ -230,35 +249,35 @@ returns c =
 
 mul-down : tie.Need-mul-down
 mul-down c =
-    omega (arith, (c .before) .pre .1, (c .before) .pre .0 .small)
+    omega (arith, (c .before) .pre)
 
 add-down : tie.Need-add-down
 add-down c =
-    omega (arith, (c .before) .pre .1, (c .before) .pre .0 .small)
+    omega (arith, (c .before) .pre)
 
 mul-up : tie.Need-mul-up
 mul-up c =
-    omega (arith, (c .before .before) .pre .1, (c .before .before) .pre .0 .small)
+    omega (arith, (c .before .before) .pre)
 
 add-up : tie.Need-add-up
 add-up c =
-    omega (arith, (c .before .before) .pre .1, (c .before .before) .pre .0 .small)
+    omega (arith, (c .before .before) .pre)
 
 add-far : tie.Need-add-far
 add-far c =
-    omega (arith, (c .before .before) .pre .1, (c .before .before) .pre .0 .small)
+    omega (arith, (c .before .before) .pre)
 
 add-far-2 : tie.Need-add-far-2
 add-far-2 c =
-    omega (arith, (c .before .before) .pre .1, (c .before .before) .pre .0 .small)
+    omega (arith, (c .before .before) .pre)
 
 mul-resolve-at : tie.Need-mul-resolve-at
 mul-resolve-at c =
-    omega (arith, (c .before .before .before .before .before .before .before .before .before .before .before .before .before .before .before .before) .pre .1, (c .before .before .before .before .before .before .before .before .before .before .before .before .before .before .before .before) .pre .0 .small)
+    omega (arith, (c .before .before .before .before .before .before .before .before .before .before .before .before .before .before .before .before) .pre)
 
 add-resolve-at-6 : tie.Need-add-resolve-at-6
 add-resolve-at-6 c =
-    omega (arith, (c .before .before .before .before .before .before .before .before .before .before .before .before .before .before .before .before) .pre .1, (c .before .before .before .before .before .before .before .before .before .before .before .before .before .before .before .before) .pre .0 .small)
+    omega (arith, (c .before .before .before .before .before .before .before .before .before .before .before .before .before .before .before .before) .pre)
 
 same-length : tie.Need-same-length
 same-length c =

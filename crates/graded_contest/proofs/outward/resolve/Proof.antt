@@ -12,7 +12,10 @@ use Rattle.graded_contest.proofs.outward.resolve.Tie as tie
 
 lower-first-requires : tie.Need-lower-first-requires
 lower-first-requires c κs =
-    (room-less ((c .before .before) .args .w) _ _ (omega arith) ((c .before .before) .pre), omega (arith, (c .before .before) .pre .small))
+    record {
+      room = room-less ((c .before .before) .args .w) _ _ (omega arith) ((c .before .before) .pre);
+      small = omega (arith, (c .before .before) .pre .small);
+    }
 
 after-lower-first : (c : tie.After-lower-first) → Stands (c .lower-first .result) ((c .before .before .before) .args .w .wire + 4) 12
 after-lower-first c =
@@ -20,7 +23,10 @@ after-lower-first c =
 
 both-say-requires : tie.Need-both-say-requires
 both-say-requires c κs =
-    (room-of ((c .before .before .before .lower-first) .result) _ _ _ (after-lower-first (c .before .before .before)) (omega arith), omega (arith, (c .before .before .before .before .before .before) .pre .small))
+    record {
+      room = room-of ((c .before .before .before .lower-first) .result) _ _ _ (after-lower-first (c .before .before .before)) (omega arith);
+      small = omega (arith, (c .before .before .before .before .before .before) .pre .small);
+    }
 
 after-both-say : (c : tie.After-both-say) → Stands (c .both-say .result) ((c .before .before .before .before .before .before .before) .args .w .wire + 4 + 5) 7
 after-both-say c =
@@ -28,7 +34,10 @@ after-both-say c =
 
 lower-decides-requires : tie.Need-lower-decides-requires
 lower-decides-requires c κs =
-    (room-of ((c .before .before .before .both-say) .result) _ _ _ (after-both-say (c .before .before .before)) (omega arith), omega (arith, (c .before .before .before .before .before .before .before .before .before .before) .pre .small))
+    record {
+      room = room-of ((c .before .before .before .both-say) .result) _ _ _ (after-both-say (c .before .before .before)) (omega arith);
+      small = omega (arith, (c .before .before .before .before .before .before .before .before .before .before) .pre .small);
+    }
 
 after-lower-decides : (c : tie.After-lower-decides) → Stands (c .lower-decides .result) ((c .before .before .before .before .before .before .before .before .before .before .before) .args .w .wire + 4 + 5 + 4) 3
 after-lower-decides c =
@@ -36,7 +45,10 @@ after-lower-decides c =
 
 answer-requires : tie.Need-answer-requires
 answer-requires c κs =
-    (room-of ((c .before .before .before .lower-decides) .result) _ _ _ (after-lower-decides (c .before .before .before)) (omega arith), omega (arith, (c .before .before .before .before .before .before .before .before .before .before .before .before .before .before) .pre .small))
+    record {
+      room = room-of ((c .before .before .before .lower-decides) .result) _ _ _ (after-lower-decides (c .before .before .before)) (omega arith);
+      small = omega (arith, (c .before .before .before .before .before .before .before .before .before .before .before .before .before .before) .pre .small);
+    }
 
 returns : tie.Need-returns
 unfolding resolve

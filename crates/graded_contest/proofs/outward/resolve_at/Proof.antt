@@ -16,57 +16,57 @@ same-wires n e s f g p₁ q₁ p₂ q₂ u v = cc
 
 resolve-requires : tie.Need-resolve-requires
 resolve-requires c κs =
-    (c .before .before .before .before .before .before .before .before) .pre .0
+    (c .before .before .before .before .before .before .before .before) .pre .room
 
 returns : tie.Need-returns
 returns c =
     let a = (c .before .before .before .before .before .before .before .before .before .before .before) .args in
-    let q = (c .before .before .before .before .before .before .before .before .before .before .before) .pre .1 in
-    let up = ap (λ (k : ℕ). a .m + k) (q .1) in
+    let q = (c .before .before .before .before .before .before .before .before .before .before .before) .pre in
+    let up = ap (λ (k : ℕ). a .m + k) (q .spanIs) in
     wrote-as (a .w) (a .table .now) _ _ _ _
     (same-wires (a .w .wire) (a .e) (a .s) (a .f) (a .g) ((c .before .before .before .before .before .before .before .before .before .unequal-at) .ensures) ((c .before .before .before .before .before .before .before .before .above-at) .ensures)
     ((c .before .before .before .before .before .before .before .unequal-at2) .ensures ∙ ap (λ (k : ℕ). unequalAt k (a .above)) up) ((c .before .before .before .before .before .before .above-at2) .ensures ∙ ap (λ (k : ℕ). aboveAt k (a .u) (a .above)) up)
-    (omega (arith, q .0, q .1)) (omega (arith, q .0))) ((c .before .before .resolve) .ensures)
+    (omega (arith, q .place, q .spanIs)) (omega (arith, q .place))) ((c .before .before .resolve) .ensures)
 
 add-up : tie.Need-add-up
 add-up c =
-    omega (arith, (c .before) .pre .0 .small, (c .before) .pre .1 .0, (c .before) .pre .1 .1)
+    omega (arith, (c .before) .pre .room .small, (c .before) .pre .place, (c .before) .pre .spanIs)
 
 unequal-at-requires : tie.Need-unequal-at-requires
 unequal-at-requires c κs =
-    omega (arith, (c .before) .pre .0 .small, (c .before) .pre .1 .0, (c .before) .pre .1 .1)
+    omega (arith, (c .before) .pre .room .small, (c .before) .pre .place, (c .before) .pre .spanIs)
 
 above-at-requires : tie.Need-above-at-requires
 above-at-requires c κs =
-    omega (arith, (c .before .before) .pre .0 .small, (c .before .before) .pre .1 .0, (c .before .before) .pre .1 .1)
+    omega (arith, (c .before .before) .pre .room .small, (c .before .before) .pre .place, (c .before .before) .pre .spanIs)
 
 unequal-at-requires-2 : tie.Need-unequal-at-requires-2
 unequal-at-requires-2 c κs =
-    omega (arith, (c .before .before .before) .pre .0 .small, (c .before .before .before) .pre .1 .0, (c .before .before .before) .pre .1 .1)
+    omega (arith, (c .before .before .before) .pre .room .small, (c .before .before .before) .pre .place, (c .before .before .before) .pre .spanIs)
 
 above-at-requires-2 : tie.Need-above-at-requires-2
 above-at-requires-2 c κs =
-    omega (arith, (c .before .before .before .before) .pre .0 .small, (c .before .before .before .before) .pre .1 .0, (c .before .before .before .before) .pre .1 .1)
+    omega (arith, (c .before .before .before .before) .pre .room .small, (c .before .before .before .before) .pre .place, (c .before .before .before .before) .pre .spanIs)
 
 add-sums : tie.Need-add-sums
 add-sums c =
-    omega (arith, (c .before .before .before .before .before) .pre .0 .small, (c .before .before .before .before .before) .pre .1 .0, (c .before .before .before .before .before) .pre .1 .1)
+    omega (arith, (c .before .before .before .before .before) .pre .room .small, (c .before .before .before .before .before) .pre .place, (c .before .before .before .before .before) .pre .spanIs)
 
 sub-right : tie.Need-sub-right
 sub-right c =
-    omega (arith, (c .before .before .before .before .before .before) .pre .0 .small, (c .before .before .before .before .before .before) .pre .1 .0, (c .before .before .before .before .before .before) .pre .1 .1)
+    omega (arith, (c .before .before .before .before .before .before) .pre .room .small, (c .before .before .before .before .before .before) .pre .place, (c .before .before .before .before .before .before) .pre .spanIs)
 
 sub-left : tie.Need-sub-left
 sub-left c =
-    omega (arith, (c .before .before .before .before .before .before .before) .pre .0 .small, (c .before .before .before .before .before .before .before) .pre .1 .0, (c .before .before .before .before .before .before .before) .pre .1 .1)
+    omega (arith, (c .before .before .before .before .before .before .before) .pre .room .small, (c .before .before .before .before .before .before .before) .pre .place, (c .before .before .before .before .before .before .before) .pre .spanIs)
 
 add-left : tie.Need-add-left
 add-left c =
-    omega (arith, (c .before .before .before .before .before .before .before) .pre .0 .small, (c .before .before .before .before .before .before .before) .pre .1 .0, (c .before .before .before .before .before .before .before) .pre .1 .1)
+    omega (arith, (c .before .before .before .before .before .before .before) .pre .room .small, (c .before .before .before .before .before .before .before) .pre .place, (c .before .before .before .before .before .before .before) .pre .spanIs)
 
 sub-left-2 : tie.Need-sub-left-2
 sub-left-2 c =
-    omega (arith, (c .before .before .before .before .before .before .before) .pre .0 .small, (c .before .before .before .before .before .before .before) .pre .1 .0, (c .before .before .before .before .before .before .before) .pre .1 .1)
+    omega (arith, (c .before .before .before .before .before .before .before) .pre .room .small, (c .before .before .before .before .before .before .before) .pre .place, (c .before .before .before .before .before .before .before) .pre .spanIs)
 
 same-length : tie.Need-same-length
 same-length c =

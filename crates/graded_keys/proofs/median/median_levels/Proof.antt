@@ -60,12 +60,14 @@ parity-requires : tie.Need-parity-requires Inv-loop μ-loop
 parity-requires c κs =
     let a = (c .before .before .before .before .args) in
     let l = (c .before .before .loop) in
-    let q = (c .before .before .before .before) .pre .1 in (
-      goes-room (a .w) (a .table .now) (medianLevels (a .w .wire) (a .first) (a .stride) (a .count) (a .digits)) (l .next) (l .table) (medianLevels (l .next .wire) (l .at) (l .step) (l .many) (l .left)) _ (medianSize (a .count) (a .digits)) (l .inv .3)
+    let q = (c .before .before .before .before) .pre .1 in
+    record {
+      room = goes-room (a .w) (a .table .now) (medianLevels (a .w .wire) (a .first) (a .stride) (a .count) (a .digits)) (l .next) (l .table) (medianLevels (l .next .wire) (l .at) (l .step) (l .many) (l .left)) _ (medianSize (a .count) (a .digits)) (l .inv .3)
           (omega (arith, levels-block (l .next .wire) (l .at) (l .step) (l .many) (l .left) (l .inv .0) (l .inv .1) .long, size-step (l .many) (l .left) ((c .before .loop-test) .taken)))
-          (omega (arith, levels-block (a .w .wire) (a .first) (a .stride) (a .count) (a .digits) (q .0) (q .1) .long)) ((c .before .before .before .before) .pre .0),
-      (all-below (l .next .wire) (l .at + l .step) (l .step) (l .many - 1) (there (c .before) .1), omega (arith, small (c .before))),
-    )
+          (omega (arith, levels-block (a .w .wire) (a .first) (a .stride) (a .count) (a .digits) (q .0) (q .1) .long)) ((c .before .before .before .before) .pre .0);
+      below = all-below (l .next .wire) (l .at + l .step) (l .step) (l .many - 1) (there (c .before) .1);
+      near = omega (arith, small (c .before));
+    }
 
 add-at : tie.Need-add-at Inv-loop μ-loop
 add-at c =

@@ -15,25 +15,33 @@ use Rattle.graded_keys.proofs.nearest.either.Tie as tie
 
 add-choose : tie.Need-add-choose
 add-choose c =
-    omega (arith, (c .before .before) .pre .0 .small)
+    omega (arith, (c .before .before) .pre .room .small)
 
 choose-requires : tie.Need-choose-requires
 choose-requires c κs =
-    (room-less ((c .before .before .args) .w) _ _ (omega arith) ((c .before .before) .pre .0), (omega (arith, (c .before .before) .pre .1), omega (arith, (c .before .before) .pre .1)))
+    record {
+      room = room-less ((c .before .before .args) .w) _ _ (omega arith) ((c .before .before) .pre .room);
+      firstBelow = omega (arith, (c .before .before) .pre);
+      secondBelow = omega (arith, (c .before .before) .pre);
+    }
 
 -- behind the first choice
 
 first : (c : tie.After-choose) → Stands ((c .choose) .result) ((c .before .before .before .args) .w .wire + ((c .before .before .before .args) .above + 1)) ((c .before .before .before .args) .above + 1)
 first c =
-    stands-after ((c .before .before .before .args) .w) ((c .before .before .before .args) .table .now) _ ((c .choose) .last .1 .0) ((c .choose) .result) _ _ _ ((c .choose) .ensures) (length-choose ((c .before .before .before .args) .f) ((c .before .before .before .args) .x) ((c .before .before .before .args) .u) ((c .before .before .before .args) .above + 1)) (stands ((c .before .before .before .args) .w) ((c .before .before .before .args) .w .wire) _ _ refl (omega arith) ((c .before .before .before) .pre .0))
+    stands-after ((c .before .before .before .args) .w) ((c .before .before .before .args) .table .now) _ ((c .choose) .last .1 .0) ((c .choose) .result) _ _ _ ((c .choose) .ensures) (length-choose ((c .before .before .before .args) .f) ((c .before .before .before .args) .x) ((c .before .before .before .args) .u) ((c .before .before .before .args) .above + 1)) (stands ((c .before .before .before .args) .w) ((c .before .before .before .args) .w .wire) _ _ refl (omega arith) ((c .before .before .before) .pre .room))
 
 add-choose-2 : tie.Need-add-choose-2
 add-choose-2 c =
-    omega (arith, (c .before .before .before .before .before .before) .pre .0 .small)
+    omega (arith, (c .before .before .before .before .before .before) .pre .room .small)
 
 choose-requires-2 : tie.Need-choose-requires-2
 choose-requires-2 c κs =
-    (first (c .before .before .before) .left, (omega (arith, (c .before .before .before .before .before .before) .pre .1, first (c .before .before .before) .place), omega (arith, (c .before .before .before .before .before .before) .pre .1, first (c .before .before .before) .place)))
+    record {
+      room = first (c .before .before .before) .left;
+      firstBelow = omega (arith, (c .before .before .before .before .before .before) .pre, first (c .before .before .before) .place);
+      secondBelow = omega (arith, (c .before .before .before .before .before .before) .pre, first (c .before .before .before) .place);
+    }
 
 returns : tie.Need-returns
 unfolding either

@@ -23,8 +23,8 @@ abbrev μ-loop : tie.MeasureT-loop
 
 loop-holds : tie.Need-loop-holds Inv-loop μ-loop
 loop-holds c =
-    let q = (c .before) .pre .1 in
-    (omega arith, omega arith, q .3, q .4, goes-start ((c .before .args) .w) ((c .before .args) .table .now) (firstOf ((c .before .args) .w .wire) ((c .before .args) .f) ((c .before .args) .x) ((c .before .args) .y) ((c .before .args) .u) ((c .before .args) .v) ((c .before .args) .above) ((c .before .args) .count)) ((c .before .args) .count * eitherSpan ((c .before .args) .above)) ((c .before) .pre .0))
+    let q = (c .before) .pre in
+    (omega arith, omega arith, q .uBelow, q .vBelow, goes-start ((c .before .args) .w) ((c .before .args) .table .now) (firstOf ((c .before .args) .w .wire) ((c .before .args) .f) ((c .before .args) .x) ((c .before .args) .y) ((c .before .args) .u) ((c .before .args) .v) ((c .before .args) .above) ((c .before .args) .count)) ((c .before .args) .count * eitherSpan ((c .before .args) .above)) ((c .before) .pre .room))
 
 -- the next words stand before the writer
 
@@ -32,36 +32,36 @@ there : (c : tie.In-loop Inv-loop μ-loop) → ((c .before .before .before .args
 there c =
     let l = (c .before .loop) in
     let a = (c .before .before .before .args) in
-    let q = (c .before .before .before) .pre .1 in
+    let q = (c .before .before .before) .pre in
     let e = one-less (l .more) (stride (a .above)) ((c .loop-test) .taken) in
     let e′ = one-less (l .more) (sideSpan (a .above)) ((c .loop-test) .taken) in
     let h = fewer (l .more) (a .count) (stride (a .above)) (l .inv .0) in
     let h′ = fewer (l .more) (a .count) (sideSpan (a .above)) (l .inv .0) in
-    (omega (arith, q .0, l .inv .1), omega (arith, q .1, l .inv .1), omega (arith, q .2, l .inv .1))
+    (omega (arith, q .sidesBelow, l .inv .1), omega (arith, q .xBelow, l .inv .1), omega (arith, q .yBelow, l .inv .1))
 
 small : (c : tie.In-loop Inv-loop μ-loop) → (((c .before .loop) .more - 1) * ((c .before .before .before .args) .above + 2) ≤ 45) × (((c .before .loop) .more - 1) * (2 * (c .before .before .before .args) .above + 3) ≤ 85)
 small c =
-    let q = (c .before .before .before) .pre .1 in
-    let h : (c .before .loop) .more - 1 ≤ 5 = omega (arith, (c .before .loop) .inv .0, q .6) in
-    let p : ((c .before .loop) .more - 1) * ((c .before .before .before .args) .above + 2) ≤ 5 * 9 = product-most ((c .before .loop) .more - 1) ((c .before .before .before .args) .above + 2) 5 9 h (omega (arith, q .5)) in
-    let p′ : ((c .before .loop) .more - 1) * (2 * (c .before .before .before .args) .above + 3) ≤ 5 * 17 = product-most ((c .before .loop) .more - 1) (2 * (c .before .before .before .args) .above + 3) 5 17 h (omega (arith, q .5)) in
+    let q = (c .before .before .before) .pre in
+    let h : (c .before .loop) .more - 1 ≤ 5 = omega (arith, (c .before .loop) .inv .0, q .few) in
+    let p : ((c .before .loop) .more - 1) * ((c .before .before .before .args) .above + 2) ≤ 5 * 9 = product-most ((c .before .loop) .more - 1) ((c .before .before .before .args) .above + 2) 5 9 h (omega (arith, q .narrow)) in
+    let p′ : ((c .before .loop) .more - 1) * (2 * (c .before .before .before .args) .above + 3) ≤ 5 * 17 = product-most ((c .before .loop) .more - 1) (2 * (c .before .before .before .args) .above + 3) 5 17 h (omega (arith, q .narrow)) in
     (omega arith, omega arith)
 
 all-long : (c : tie.In-loop Inv-loop μ-loop) → length (firstOf ((c .before .before .before .args) .w .wire) ((c .before .before .before .args) .f) ((c .before .before .before .args) .x) ((c .before .before .before .args) .y) ((c .before .before .before .args) .u) ((c .before .before .before .args) .v) ((c .before .before .before .args) .above) ((c .before .before .before .args) .count)) ≡ (c .before .before .before .args) .count * eitherSpan ((c .before .before .before .args) .above)
 all-long c =
     let a = (c .before .before .before .args) in
-    let q = (c .before .before .before) .pre .1 in
-    first-of-block (a .w .wire) (a .f) (a .x) (a .y) (a .u) (a .v) (a .above) (a .count) (q .0) (q .1) (q .2) (q .3) (q .4) .long
+    let q = (c .before .before .before) .pre in
+    first-of-block (a .w .wire) (a .f) (a .x) (a .y) (a .u) (a .v) (a .above) (a .count) (q .sidesBelow) (q .xBelow) (q .yBelow) (q .uBelow) (q .vBelow) .long
 
 left-long : (c : tie.In-loop Inv-loop μ-loop) → length (firstOf ((c .before .loop) .next .wire) ((c .before .before .before .args) .f) ((c .before .before .before .args) .x) ((c .before .before .before .args) .y) ((c .before .loop) .first) ((c .before .loop) .second) ((c .before .before .before .args) .above) ((c .before .loop) .more)) ≡ (c .before .loop) .more * eitherSpan ((c .before .before .before .args) .above)
 left-long c =
     let l = (c .before .loop) in
     let a = (c .before .before .before .args) in
     let i = l .inv in
-    let q = (c .before .before .before) .pre .1 in
+    let q = (c .before .before .before) .pre in
     let h = fewer (l .more) (a .count) (stride (a .above)) (i .0) in
     let h′ = fewer (l .more) (a .count) (sideSpan (a .above)) (i .0) in
-    first-of-block (l .next .wire) (a .f) (a .x) (a .y) (l .first) (l .second) (a .above) (l .more) (omega (arith, q .0, i .1)) (omega (arith, q .1, i .1)) (omega (arith, q .2, i .1)) (i .2) (i .3) .long
+    first-of-block (l .next .wire) (a .f) (a .x) (a .y) (l .first) (l .second) (a .above) (l .more) (omega (arith, q .sidesBelow, i .1)) (omega (arith, q .xBelow, i .1)) (omega (arith, q .yBelow, i .1)) (i .2) (i .3) .long
 
 near-limit : (c : tie.In-loop Inv-loop μ-loop) → (c .before .loop) .next .wire + (c .before .loop) .more * eitherSpan ((c .before .before .before .args) .above) ≡ (c .before .before .before .args) .w .wire + (c .before .before .before .args) .count * eitherSpan ((c .before .before .before .args) .above)
 near-limit c =
@@ -73,7 +73,7 @@ sub-i c =
 
 add-step : tie.Need-add-step Inv-loop μ-loop
 add-step c =
-    omega (arith, (c .before .before .before) .pre .1)
+    omega (arith, (c .before .before .before) .pre)
 
 mul-step : tie.Need-mul-step Inv-loop μ-loop
 mul-step c =
@@ -81,11 +81,11 @@ mul-step c =
 
 mul-either : tie.Need-mul-either Inv-loop μ-loop
 mul-either c =
-    omega (arith, (c .before .before .before .before) .pre .1)
+    omega (arith, (c .before .before .before .before) .pre)
 
 add-either : tie.Need-add-either Inv-loop μ-loop
 add-either c =
-    omega (arith, (c .before .before .before .before) .pre .1)
+    omega (arith, (c .before .before .before .before) .pre)
 
 mul-either-2 : tie.Need-mul-either-2 Inv-loop μ-loop
 mul-either-2 c =
@@ -93,26 +93,30 @@ mul-either-2 c =
 
 add-either-2 : tie.Need-add-either-2 Inv-loop μ-loop
 add-either-2 c =
-    omega (arith, small (c .before), there (c .before), near-limit (c .before), (c .before .before .before .before) .pre .0 .small)
+    omega (arith, small (c .before), there (c .before), near-limit (c .before), (c .before .before .before .before) .pre .room .small)
 
 add-either-3 : tie.Need-add-either-3 Inv-loop μ-loop
 add-either-3 c =
-    omega (arith, small (c .before), there (c .before), near-limit (c .before), (c .before .before .before .before) .pre .0 .small)
+    omega (arith, small (c .before), there (c .before), near-limit (c .before), (c .before .before .before .before) .pre .room .small)
 
 add-either-4 : tie.Need-add-either-4 Inv-loop μ-loop
 add-either-4 c =
-    omega (arith, small (c .before), there (c .before), near-limit (c .before), (c .before .before .before .before) .pre .0 .small)
+    omega (arith, small (c .before), there (c .before), near-limit (c .before), (c .before .before .before .before) .pre .room .small)
 
 either-requires : tie.Need-either-requires Inv-loop μ-loop
 either-requires c κs =
     let a = (c .before .before .before .before .args) in
     let l = (c .before .before .loop) in
-    let q = there (c .before) in (
-      goes-room (a .w) (a .table .now) (firstOf (a .w .wire) (a .f) (a .x) (a .y) (a .u) (a .v) (a .above) (a .count)) (l .next) (l .table) (firstOf (l .next .wire) (a .f) (a .x) (a .y) (l .first) (l .second) (a .above) (l .more)) _ (a .count * eitherSpan (a .above)) (l .inv .4)
+    let q = there (c .before) in
+    record {
+      room = goes-room (a .w) (a .table .now) (firstOf (a .w .wire) (a .f) (a .x) (a .y) (a .u) (a .v) (a .above) (a .count)) (l .next) (l .table) (firstOf (l .next .wire) (a .f) (a .x) (a .y) (l .first) (l .second) (a .above) (l .more)) _ (a .count * eitherSpan (a .above)) (l .inv .4)
           (omega (arith, left-long (c .before), one-less (l .more) (eitherSpan (a .above)) ((c .before .loop-test) .taken)))
-          (omega (arith, all-long (c .before))) ((c .before .before .before .before) .pre .0),
-      (omega (arith, q .1), omega (arith, q .2), l .inv .2, l .inv .3),
-    )
+          (omega (arith, all-long (c .before))) ((c .before .before .before .before) .pre .room);
+      xBelow = omega (arith, q .1);
+      yBelow = omega (arith, q .2);
+      uBelow = l .inv .2;
+      vBelow = l .inv .3;
+    }
 
 -- where the words that are chosen end
 
@@ -127,11 +131,11 @@ ends c =
 
 add-second : tie.Need-add-second Inv-loop μ-loop
 add-second c =
-    omega (arith, near-limit (c .before .before .before .before), (c .before .before .before .before .before .before .before) .pre .0 .small, (c .before .before .before .before .before .before .before) .pre .1)
+    omega (arith, near-limit (c .before .before .before .before), (c .before .before .before .before .before .before .before) .pre)
 
 add-second-2 : tie.Need-add-second-2 Inv-loop μ-loop
 add-second-2 c =
-    omega (arith, near-limit (c .before .before .before .before), (c .before .before .before .before .before .before .before) .pre .0 .small, (c .before .before .before .before .before .before .before) .pre .1)
+    omega (arith, near-limit (c .before .before .before .before), (c .before .before .before .before .before .before .before) .pre)
 
 loop-less : tie.Need-loop-less Inv-loop μ-loop
 loop-less c =

@@ -23,8 +23,8 @@ abbrev μ-loop : tie.MeasureT-loop
 
 loop-holds : tie.Need-loop-holds Inv-loop μ-loop
 loop-holds c =
-    let q = (c .before) .pre .1 in
-    (q .0, q .1, q .2, q .3, q .4, goes-start ((c .before .args) .w) ((c .before .args) .table .now) (lastOf ((c .before .args) .w .wire) ((c .before .args) .f) ((c .before .args) .x) ((c .before .args) .y) ((c .before .args) .u) ((c .before .args) .v) ((c .before .args) .above) ((c .before .args) .count)) ((c .before .args) .count * eitherSpan ((c .before .args) .above)) ((c .before) .pre .0))
+    let q = (c .before) .pre in
+    (q .sidesBelow, q .xBelow, q .yBelow, q .uBelow, q .vBelow, goes-start ((c .before .args) .w) ((c .before .args) .table .now) (lastOf ((c .before .args) .w .wire) ((c .before .args) .f) ((c .before .args) .x) ((c .before .args) .y) ((c .before .args) .u) ((c .before .args) .v) ((c .before .args) .above) ((c .before .args) .count)) ((c .before .args) .count * eitherSpan ((c .before .args) .above)) ((c .before) .pre .room))
 
 -- the next words stand before the writer
 
@@ -37,8 +37,8 @@ there c =
 all-long : (c : tie.In-loop Inv-loop μ-loop) → length (lastOf ((c .before .before .before .args) .w .wire) ((c .before .before .before .args) .f) ((c .before .before .before .args) .x) ((c .before .before .before .args) .y) ((c .before .before .before .args) .u) ((c .before .before .before .args) .v) ((c .before .before .before .args) .above) ((c .before .before .before .args) .count)) ≡ (c .before .before .before .args) .count * eitherSpan ((c .before .before .before .args) .above)
 all-long c =
     let a = (c .before .before .before .args) in
-    let q = (c .before .before .before) .pre .1 in
-    last-of-block (a .w .wire) (a .f) (a .x) (a .y) (a .u) (a .v) (a .above) (a .count) (q .0) (q .1) (q .2) (q .3) (q .4) .long
+    let q = (c .before .before .before) .pre in
+    last-of-block (a .w .wire) (a .f) (a .x) (a .y) (a .u) (a .v) (a .above) (a .count) (q .sidesBelow) (q .xBelow) (q .yBelow) (q .uBelow) (q .vBelow) .long
 
 left-long : (c : tie.In-loop Inv-loop μ-loop) → length (lastOf ((c .before .loop) .next .wire) ((c .before .loop) .flag) ((c .before .loop) .left) ((c .before .loop) .right) ((c .before .loop) .first) ((c .before .loop) .second) ((c .before .before .before .args) .above) ((c .before .loop) .more)) ≡ (c .before .loop) .more * eitherSpan ((c .before .before .before .args) .above)
 left-long c =
@@ -54,12 +54,16 @@ either-requires : tie.Need-either-requires Inv-loop μ-loop
 either-requires c κs =
     let a = (c .before .before .before .before .args) in
     let l = (c .before .before .loop) in
-    let q = there (c .before) in (
-      goes-room (a .w) (a .table .now) (lastOf (a .w .wire) (a .f) (a .x) (a .y) (a .u) (a .v) (a .above) (a .count)) (l .next) (l .table) (lastOf (l .next .wire) (l .flag) (l .left) (l .right) (l .first) (l .second) (a .above) (l .more)) _ (a .count * eitherSpan (a .above)) (l .inv .5)
+    let q = there (c .before) in
+    record {
+      room = goes-room (a .w) (a .table .now) (lastOf (a .w .wire) (a .f) (a .x) (a .y) (a .u) (a .v) (a .above) (a .count)) (l .next) (l .table) (lastOf (l .next .wire) (l .flag) (l .left) (l .right) (l .first) (l .second) (a .above) (l .more)) _ (a .count * eitherSpan (a .above)) (l .inv .5)
           (omega (arith, left-long (c .before), one-less (l .more) (eitherSpan (a .above)) ((c .before .loop-test) .taken)))
-          (omega (arith, all-long (c .before))) ((c .before .before .before .before) .pre .0),
-      (omega (arith, q .1), omega (arith, q .2), l .inv .3, l .inv .4),
-    )
+          (omega (arith, all-long (c .before))) ((c .before .before .before .before) .pre .room);
+      xBelow = omega (arith, q .1);
+      yBelow = omega (arith, q .2);
+      uBelow = l .inv .3;
+      vBelow = l .inv .4;
+    }
 
 -- where the words that are chosen end
 
@@ -71,39 +75,39 @@ ends c =
 
 mul-flag : tie.Need-mul-flag Inv-loop μ-loop
 mul-flag c =
-    omega (arith, (c .before .before .before .before .before .before .before) .pre .1)
+    omega (arith, (c .before .before .before .before .before .before .before) .pre)
 
 add-flag : tie.Need-add-flag Inv-loop μ-loop
 add-flag c =
-    omega (arith, (c .before .before .before .before .before .before .before) .pre .1)
+    omega (arith, (c .before .before .before .before .before .before .before) .pre)
 
 add-flag-2 : tie.Need-add-flag-2 Inv-loop μ-loop
 add-flag-2 c =
-    omega (arith, there (c .before .before .before .before), near-limit (c .before .before .before .before), (c .before .before .before .before .before .before .before) .pre .0 .small, (c .before .before .before .before .before .before .before) .pre .1)
+    omega (arith, there (c .before .before .before .before), near-limit (c .before .before .before .before), (c .before .before .before .before .before .before .before) .pre)
 
 add-left : tie.Need-add-left Inv-loop μ-loop
 add-left c =
-    omega (arith, (c .before .before .before .before .before .before .before) .pre .1)
+    omega (arith, (c .before .before .before .before .before .before .before) .pre)
 
 add-left-2 : tie.Need-add-left-2 Inv-loop μ-loop
 add-left-2 c =
-    omega (arith, there (c .before .before .before .before), near-limit (c .before .before .before .before), (c .before .before .before .before .before .before .before) .pre .0 .small)
+    omega (arith, there (c .before .before .before .before), near-limit (c .before .before .before .before), (c .before .before .before .before .before .before .before) .pre .room .small)
 
 add-right : tie.Need-add-right Inv-loop μ-loop
 add-right c =
-    omega (arith, (c .before .before .before .before .before .before .before) .pre .1)
+    omega (arith, (c .before .before .before .before .before .before .before) .pre)
 
 add-right-2 : tie.Need-add-right-2 Inv-loop μ-loop
 add-right-2 c =
-    omega (arith, there (c .before .before .before .before), near-limit (c .before .before .before .before), (c .before .before .before .before .before .before .before) .pre .0 .small)
+    omega (arith, there (c .before .before .before .before), near-limit (c .before .before .before .before), (c .before .before .before .before .before .before .before) .pre .room .small)
 
 add-second : tie.Need-add-second Inv-loop μ-loop
 add-second c =
-    omega (arith, near-limit (c .before .before .before .before), (c .before .before .before .before .before .before .before) .pre .0 .small, (c .before .before .before .before .before .before .before) .pre .1)
+    omega (arith, near-limit (c .before .before .before .before), (c .before .before .before .before .before .before .before) .pre)
 
 add-second-2 : tie.Need-add-second-2 Inv-loop μ-loop
 add-second-2 c =
-    omega (arith, near-limit (c .before .before .before .before), (c .before .before .before .before .before .before .before) .pre .0 .small, (c .before .before .before .before .before .before .before) .pre .1)
+    omega (arith, near-limit (c .before .before .before .before), (c .before .before .before .before .before .before .before) .pre)
 
 sub-more : tie.Need-sub-more Inv-loop μ-loop
 sub-more c =

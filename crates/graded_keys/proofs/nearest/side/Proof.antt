@@ -15,16 +15,20 @@ use Rattle.graded_keys.proofs.nearest.side.Tie as tie
 
 unequal-at-requires : tie.Need-unequal-at-requires
 unequal-at-requires c κs =
-    omega (arith, (c .before) .pre .0 .small)
+    omega (arith, (c .before) .pre .room .small)
 
 sub-unequal-halves : tie.Need-sub-unequal-halves
 sub-unequal-halves c =
-    omega (arith, (c .before .before .before) .pre .1)
+    omega (arith, (c .before .before .before) .pre)
 
 unequal-halves-requires : tie.Need-unequal-halves-requires
 unequal-halves-requires c κs =
     let s = (c .before .before .before) in
-    (room-less (s .args .w) _ _ (omega (arith, s .pre .1)) (s .pre .0), (omega (arith, s .pre .1), omega (arith, s .pre .1)))
+    record {
+      room = room-less (s .args .w) _ _ (omega (arith, s .pre)) (s .pre .room);
+      firstBelow = omega (arith, s .pre);
+      secondBelow = omega (arith, s .pre);
+    }
 
 -- behind the comparison
 
@@ -32,16 +36,16 @@ differ : (c : tie.After-unequal-halves) → Stands (c .unequal-halves .result) (
 differ c =
     let s = (c .before .before .before .before) in
     let a = s .args in
-    stands-after (a .w) (a .table .now) _ (c .unequal-halves .last .1 .0) (c .unequal-halves .result) _ _ _ (c .unequal-halves .ensures) (length-unequal-cut (a .w .wire) (a .x) (a .y) (a .above) (a .high) (s .pre .1 .2))
-    (stands (a .w) (a .w .wire) _ _ refl (omega arith) (s .pre .0))
+    stands-after (a .w) (a .table .now) _ (c .unequal-halves .last .1 .0) (c .unequal-halves .result) _ _ _ (c .unequal-halves .ensures) (length-unequal-cut (a .w .wire) (a .x) (a .y) (a .above) (a .high) (s .pre .cut))
+    (stands (a .w) (a .w .wire) _ _ refl (omega arith) (s .pre .room))
 
 add-emit : tie.Need-add-emit
 add-emit c =
-    omega (arith, (c .before .before .before .before .before .before .before) .pre .0 .small, (c .before .before .before .before .before .before .before) .pre .1)
+    omega (arith, (c .before .before .before .before .before .before .before) .pre)
 
 add-emit-2 : tie.Need-add-emit-2
 add-emit-2 c =
-    omega (arith, (c .before .before .before .before .before .before .before) .pre .0 .small, (c .before .before .before .before .before .before .before) .pre .1)
+    omega (arith, (c .before .before .before .before .before .before .before) .pre)
 
 emit-requires : tie.Need-emit-requires
 emit-requires c κs =

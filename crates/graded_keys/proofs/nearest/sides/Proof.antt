@@ -20,8 +20,8 @@ abbrev μ-loop : tie.MeasureT-loop
 
 loop-holds : tie.Need-loop-holds Inv-loop μ-loop
 loop-holds c =
-    let q = (c .before) .pre .1 in
-    (q .0, q .1, goes-start ((c .before .args) .w) ((c .before .args) .table .now) (sides ((c .before .args) .w .wire) ((c .before .args) .x) ((c .before .args) .y) ((c .before .args) .above) ((c .before .args) .high) ((c .before .args) .count)) ((c .before .args) .count * sideSpan ((c .before .args) .above)) ((c .before) .pre .0))
+    let q = (c .before) .pre in
+    (q .firstBelow, q .secondBelow, goes-start ((c .before .args) .w) ((c .before .args) .table .now) (sides ((c .before .args) .w .wire) ((c .before .args) .x) ((c .before .args) .y) ((c .before .args) .above) ((c .before .args) .high) ((c .before .args) .count)) ((c .before .args) .count * sideSpan ((c .before .args) .above)) ((c .before) .pre .room))
 
 -- the next words stand before the writer
 
@@ -34,33 +34,36 @@ wires-left : (c : tie.In-loop Inv-loop μ-loop) → (c .before .loop) .next .wir
 wires-left c =
     let l = (c .before .loop) in
     let a = (c .before .before .before .args) in
-    omega (arith, l .inv .2 .wireLeft, sides-block (l .next .wire) (l .left) (l .right) (a .above) (a .high) (l .more) ((c .before .before .before) .pre .1 .3) (l .inv .0) (l .inv .1) .long, sides-block (a .w .wire) (a .x) (a .y) (a .above) (a .high) (a .count) ((c .before .before .before) .pre .1 .3) ((c .before .before .before) .pre .1 .0) ((c .before .before .before) .pre .1 .1) .long)
+    omega (arith, l .inv .2 .wireLeft, sides-block (l .next .wire) (l .left) (l .right) (a .above) (a .high) (l .more) ((c .before .before .before) .pre .cut) (l .inv .0) (l .inv .1) .long, sides-block (a .w .wire) (a .x) (a .y) (a .above) (a .high) (a .count) ((c .before .before .before) .pre .cut) ((c .before .before .before) .pre .firstBelow) ((c .before .before .before) .pre .secondBelow) .long)
 
 side-requires : tie.Need-side-requires Inv-loop μ-loop
 side-requires c κs =
     let a = (c .before .before .before .before .args) in
-    let l = (c .before .before .loop) in (
-      goes-room (a .w) (a .table .now) (sides (a .w .wire) (a .x) (a .y) (a .above) (a .high) (a .count)) (l .next) (l .table) (sides (l .next .wire) (l .left) (l .right) (a .above) (a .high) (l .more)) _ (a .count * sideSpan (a .above)) (l .inv .2)
-          (omega (arith, sides-block (l .next .wire) (l .left) (l .right) (a .above) (a .high) (l .more) ((c .before .before .before .before) .pre .1 .3) (l .inv .0) (l .inv .1) .long, one-less (l .more) (sideSpan (a .above)) ((c .before .loop-test) .taken)))
-          (omega (arith, sides-block (a .w .wire) (a .x) (a .y) (a .above) (a .high) (a .count) ((c .before .before .before .before) .pre .1 .3) ((c .before .before .before .before) .pre .1 .0) ((c .before .before .before .before) .pre .1 .1) .long)) ((c .before .before .before .before) .pre .0),
-      (there (c .before) .0, there (c .before) .1, (c .before .before .before .before) .pre .1 .3),
-    )
+    let l = (c .before .before .loop) in
+    record {
+      room = goes-room (a .w) (a .table .now) (sides (a .w .wire) (a .x) (a .y) (a .above) (a .high) (a .count)) (l .next) (l .table) (sides (l .next .wire) (l .left) (l .right) (a .above) (a .high) (l .more)) _ (a .count * sideSpan (a .above)) (l .inv .2)
+          (omega (arith, sides-block (l .next .wire) (l .left) (l .right) (a .above) (a .high) (l .more) ((c .before .before .before .before) .pre .cut) (l .inv .0) (l .inv .1) .long, one-less (l .more) (sideSpan (a .above)) ((c .before .loop-test) .taken)))
+          (omega (arith, sides-block (a .w .wire) (a .x) (a .y) (a .above) (a .high) (a .count) ((c .before .before .before .before) .pre .cut) ((c .before .before .before .before) .pre .firstBelow) ((c .before .before .before .before) .pre .secondBelow) .long)) ((c .before .before .before .before) .pre .room);
+      firstBelow = there (c .before) .0;
+      secondBelow = there (c .before) .1;
+      cut = (c .before .before .before .before) .pre .cut;
+    }
 
 add-left : tie.Need-add-left Inv-loop μ-loop
 add-left c =
-    omega (arith, (c .before .before .before .before .before .before .before) .pre .1)
+    omega (arith, (c .before .before .before .before .before .before .before) .pre)
 
 add-left-2 : tie.Need-add-left-2 Inv-loop μ-loop
 add-left-2 c =
-    omega (arith, there (c .before .before .before .before), wires-left (c .before .before .before .before), (c .before .before .before .before .before .before .before) .pre .0 .small)
+    omega (arith, there (c .before .before .before .before), wires-left (c .before .before .before .before), (c .before .before .before .before .before .before .before) .pre .room .small)
 
 add-right : tie.Need-add-right Inv-loop μ-loop
 add-right c =
-    omega (arith, (c .before .before .before .before .before .before .before) .pre .1)
+    omega (arith, (c .before .before .before .before .before .before .before) .pre)
 
 add-right-2 : tie.Need-add-right-2 Inv-loop μ-loop
 add-right-2 c =
-    omega (arith, there (c .before .before .before .before), wires-left (c .before .before .before .before), (c .before .before .before .before .before .before .before) .pre .0 .small)
+    omega (arith, there (c .before .before .before .before), wires-left (c .before .before .before .before), (c .before .before .before .before .before .before .before) .pre .room .small)
 
 sub-more : tie.Need-sub-more Inv-loop μ-loop
 sub-more c =
@@ -76,7 +79,7 @@ loop-again c =
     let l = (c .before .before .before .before .before .loop) in
     let t = (c .before .before .before .before .loop-test) .taken in
     let h = (c .before .before .side) in
-    let ends : h .result .wire ≡ l .next .wire + sideSpan (a .above) = omega (arith, h .ensures .wires, side-block (l .next .wire) (l .left) (l .right) (a .above) (a .high) ((c .before .before .before .before .before .before .before) .pre .1 .3) (omega (arith, there (c .before .before .before .before))) (omega (arith, there (c .before .before .before .before))) .long) in
+    let ends : h .result .wire ≡ l .next .wire + sideSpan (a .above) = omega (arith, h .ensures .wires, side-block (l .next .wire) (l .left) (l .right) (a .above) (a .high) ((c .before .before .before .before .before .before .before) .pre .cut) (omega (arith, there (c .before .before .before .before))) (omega (arith, there (c .before .before .before .before))) .long) in
     let e : stride (a .above) ≡ a .above + 2 = refl in (
       omega (arith, l .inv .0, one-less (l .more) (stride (a .above)) t),
       omega (arith, l .inv .1, one-less (l .more) (stride (a .above)) t),

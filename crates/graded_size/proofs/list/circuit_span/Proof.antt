@@ -29,7 +29,7 @@ record Whole (p : Plan) (each contest low high : ℕ) : Type 0 where
 whole : (c : tie.After-four-span2) → Whole (c .before .before .before .before .before .before .args .p) (c .before .before .before .before .before .candidate-span .result) (c .before .before .before .before .contest-span .result) (c .before .four-span .result) (c .four-span2 .result)
 whole c =
     let p = c .before .before .before .before .before .before .args .p in
-    let f = c .before .before .before .before .before .before .pre .0 in
+    let f = c .before .before .before .before .before .before .pre .plan in
     let k = p .candidates in
     let e = ap (λ (x : ℕ). k * x) (c .before .before .before .before .before .candidate-span .ensures) in
     record {
@@ -54,10 +54,10 @@ sub-key : tie.Need-sub-key
 sub-key c = search needs
 
 add-key : tie.Need-add-key
-add-key c = omega (arith, digits-most (c .before .before .before .before .args .p) (c .before .before .before .before .pre .0))
+add-key c = omega (arith, digits-most (c .before .before .before .before .args .p) (c .before .before .before .before .pre .plan))
 
 mul-key : tie.Need-mul-key
-mul-key c = omega (arith, contest-small (c .before .before .before .before .args .p) (c .before .before .before .before .pre .0))
+mul-key c = omega (arith, contest-small (c .before .before .before .before .args .p) (c .before .before .before .before .pre .plan))
 
 four-span-requires : tie.Need-four-span-requires
 four-span-requires c κs = search needs
@@ -87,7 +87,7 @@ add-result-5 : tie.Need-add-result-5
 add-result-5 c = omega (arith, whole c)
 
 returns : tie.Need-returns
-returns c = omega (arith, whole c, circuit-block (c .before .before .before .before .before .before .args .p) (c .before .before .before .before .before .before .pre .0) (c .before .before .before .before .before .before .pre .1) .long)
+returns c = omega (arith, whole c, circuit-block (c .before .before .before .before .before .before .args .p) (c .before .before .before .before .before .before .pre .plan) (c .before .before .before .before .before .before .pre .several) .long)
 
 pub circuit-span-spec : {M : Type 1} → statement M
 circuit-span-spec =

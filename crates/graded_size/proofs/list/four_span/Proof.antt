@@ -30,27 +30,27 @@ parts c =
     let h = c .before .before .before .pre in
     let x = c .before .pair-span .ensures in
     let y = c .pair-span2 .ensures in
-    (x, y, omega (arith, x, h .1, pair-small (a .p) (h .0) (a .count / 2) (omega (arith, h .1))), omega (arith, y, h .1, pair-small (a .p) (h .0) (a .count - a .count / 2) (omega (arith, h .1))))
+    (x, y, omega (arith, x, h, pair-small (a .p) (h .plan) (a .count / 2) (omega (arith, h))), omega (arith, y, h, pair-small (a .p) (h .plan) (a .count - a .count / 2) (omega (arith, h))))
 
 add-result : tie.Need-add-result
-add-result c = let h = c .before .before .before .pre in let q = parts c in omega (arith, q .2, q .3, h .1, contest-small (c .before .before .before .args .p) (h .0))
+add-result c = let h = c .before .before .before .pre in let q = parts c in omega (arith, q .2, q .3, h, contest-small (c .before .before .before .args .p) (h .plan))
 
 add-result-2 : tie.Need-add-result-2
-add-result-2 c = let h = c .before .before .before .pre in let q = parts c in omega (arith, q .2, q .3, h .1, contest-small (c .before .before .before .args .p) (h .0))
+add-result-2 c = let h = c .before .before .before .pre in let q = parts c in omega (arith, q .2, q .3, h, contest-small (c .before .before .before .args .p) (h .plan))
 
 add-result-3 : tie.Need-add-result-3
-add-result-3 c = let h = c .before .before .before .pre in let q = parts c in omega (arith, q .2, q .3, h .1, contest-small (c .before .before .before .args .p) (h .0))
+add-result-3 c = let h = c .before .before .before .pre in let q = parts c in omega (arith, q .2, q .3, h, contest-small (c .before .before .before .args .p) (h .plan))
 
 add-result-4 : tie.Need-add-result-4
-add-result-4 c = let h = c .before .before .before .pre in let q = parts c in omega (arith, q .2, q .3, h .1, contest-small (c .before .before .before .args .p) (h .0))
+add-result-4 c = let h = c .before .before .before .pre in let q = parts c in omega (arith, q .2, q .3, h, contest-small (c .before .before .before .args .p) (h .plan))
 
 add-result-5 : tie.Need-add-result-5
-add-result-5 c = let h = c .before .before .before .pre in let q = parts c in omega (arith, q .2, q .3, h .1, contest-small (c .before .before .before .args .p) (h .0))
+add-result-5 c = let h = c .before .before .before .pre in let q = parts c in omega (arith, q .2, q .3, h, contest-small (c .before .before .before .args .p) (h .plan))
 
 returns-2 : tie.Need-returns-2
 returns-2 c =
     let a = c .before .before .before .args in
-    omega (arith, parts c .0, parts c .1, c .before .before .before .pre .1, four-more (a .p) (a .count) (omega (arith, c .before .before .if1 .left)))
+    omega (arith, parts c .0, parts c .1, c .before .before .before .pre, four-more (a .p) (a .count) (omega (arith, c .before .before .if1 .left)))
 
 pub four-span-spec : {M : Type 1} → statement M
 four-span-spec = tie.close (tie.spec returns pair-span-requires sub-pair-span pair-span-requires-2 add-result add-result-2 add-result-3 add-result-4 add-result-5 returns-2)

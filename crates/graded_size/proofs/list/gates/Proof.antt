@@ -33,7 +33,7 @@ new-requires : tie.Need-new-requires
 new-requires c κs = search needs
 
 circuit-span-requires : tie.Need-circuit-span-requires
-circuit-span-requires c κs = (plan-planned c, plan-many c)
+circuit-span-requires c κs = record { plan = plan-planned c; several = plan-many c }
 
 cast-result : tie.Need-cast-result
 cast-result c = search needs

@@ -1,35 +1,46 @@
--- `graded_sums::key::key_word` meets its contract: the low digits copied, and the top digit complemented.
+-- `graded_sums::key::key_word` meets its contract: it is `count_digits` of what the grade's sum counts.
 -- Assumes nothing.
-use Prim.Native.Nat.{_+_}
+use mathlib.Core.Path.{subst}
+use Prim.Native.Nat.{ℕ}
 use native.Mathlib.Omega.{arith}
 use borrow.Author.Needs.{needs}
-use Rattle.gate_words.proofs.Laws.{length-each}
-use Rattle.gate_words.proofs.Writing.{wrote-both, room-less, room-after}
-use Rattle.gate_words.proofs.Emitting.{not-wrote}
-use Rattle.graded_circuit.specs.Key.{keyWord}
+use Rattle.gates.proofs.Laws.{operand-counts}
+use Rattle.gate_words.specs.Writing.{Wrote}
+use Rattle.gate_words.specs.Counter.{countDigitsAs}
+use Rattle.graded_circuit.proofs.PlanFacts.{first-countable}
 use Rattle.graded_sums.proofs.key.key_word.Statement.{statement}
 use Rattle.graded_sums.proofs.key.key_word.Tie as tie
 
-copies-requires : tie.Need-copies-requires
-copies-requires c κs =
-    (room-less ((c .before .before .args) .w) _ _ (omega arith) ((c .before .before) .pre .0), omega (arith, (c .before .before) .pre .1))
+row-at-requires : tie.Need-row-at-requires
+row-at-requires c κs =
+    let q = c .before .pre .of in
+    record {
+      of = record { planned = q .part .planned; candidate = q .part .candidate; grade = omega (arith, q .grade) };
+      small = omega (arith, q .row, q .there, q .part .room .small);
+    }
 
-add-emit : tie.Need-add-emit
-add-emit c =
-    omega (arith, (c .before .before .before .before .before .before .before) .pre .0 .small, (c .before .before .before .before .before .before .before) .pre .1)
-
-emit-requires : tie.Need-emit-requires
-emit-requires c κs =
-    room-after ((c .before .before .before .before .before .before .before .args) .w) ((c .before .before .before .before .before .before .before .args) .table .now) _ ((c .before .before .before .before .copies) .last .1 .0) ((c .before .before .before .before .copies) .result) 1 _ ((c .before .before .before .before .copies) .ensures) (omega (arith, length-each 2 ((c .before .before .before .before .before .before .before .args) .a) ((c .before .before .before .before .before .before .before .args) .p .digits))) ((c .before .before .before .before .before .before .before) .pre .0)
-
-returns : tie.Need-returns
-unfolding keyWord
-returns c =
-    let a = (c .before .before .before .before .before .before .before .before .before .before .args) in
-    wrote-both (a .w) (a .table .now) _ ((c .before .before .before .before .before .before .before .copies) .last .1 .0) ((c .before .before .before .before .before .before .before .copies) .result) _ _ _ ((c .before .before .before .before .before .before .before .copies) .ensures) (not-wrote ((c .before .before .before .before .before .before .before .copies) .result) ((c .before .before .before .before .before .before .before .copies) .last .1 .0) ((c .before .before .emit) .last .1 .0) ((c .before .before .emit) .result) (a .a + a .p .digits) 0 0 ((c .before .before .emit) .ensures))
+count-digits-requires : tie.Need-count-digits-requires
+count-digits-requires c κs =
+    let s = c .before .before .before in
+    let q = s .pre .of .part in
+    record {
+      room = q .room;
+      lowOne = operand-counts .2;
+      topOne = operand-counts .3;
+      levelsBelow = s .pre .levels;
+      few = omega (arith, q .planned .n-most);
+      countable = first-countable (s .args .p) (q .planned);
+    }
 
 same-length : tie.Need-same-length
 same-length c = search needs
 
+returns : tie.Need-returns
+returns c =
+    let h = c .before .before .count-digits in
+    let t = c .before .before .before .before in
+    let a = t .before .before .args in
+    subst (λ (x : ℕ). Wrote (a .w) (a .table .now) (countDigitsAs 2 3 (a .base) x (a .p .ballots) (a .p .offset) (a .p .digits)) (h .last .1 .0) (h .result)) (t .row-at .ensures) (h .ensures)
+
 pub key-word-spec : {M : Type 1} → statement M
-key-word-spec = tie.close (tie.spec copies-requires add-emit emit-requires same-length returns)
+key-word-spec = tie.close (tie.spec row-at-requires count-digits-requires same-length returns)

@@ -1,97 +1,128 @@
 -- `graded_sums::key::key_words` meets its contract: after each word, the words that are left make the whole.
 -- Assumes nothing.
-use mathlib.Core.Path.{_≡_, _∙_, refl, ap}
-use mathlib.Core.List.{[], _++_}
+use mathlib.Core.Path.{_≡_, sym, ap, subst}
 use Prim.Native.Nat.{ℕ, suc, _+_, _-_, _*_, _≤_, _<_}
+use native.Mathlib.Nat.{zero-mul, suc-mul, mul-le-mul-right}
+use native.Mathlib.Numerals.{add-one}
 use native.Mathlib.Omega.{arith}
+use Rattle.basics.proofs.Arithmetic.{one-less}
 use Rattle.gate_words.proofs.Going.{Goes, goes-start, goes-as, goes-on, goes-room, goes-end}
-use Rattle.graded_circuit.specs.declared.plan.Plan.{Plan}
-use Rattle.graded_circuit.specs.RunningSums.{wordSpan, middleSpan}
-use Rattle.graded_circuit.specs.Key.{keyWord, keyWords}
-use Rattle.graded_circuit.proofs.CandidateBlocks.{key-word-block, key-words-block}
-use Rattle.graded_sums.proofs.Writers.{span-most}
+use Rattle.graded_circuit.specs.RunningSums.{wordSpan, sumSize, levelsFrom}
+use Rattle.graded_circuit.specs.Key.{keyWords}
+use Rattle.graded_circuit.proofs.PlanFacts.{first-countable}
+use Rattle.graded_circuit.proofs.CandidateBlocks.{RowsBefore, key-words-block}
+use Rattle.graded_sums.proofs.Writers.{words-turn, words-end, rows-there, size-most}
 use Rattle.graded_sums.proofs.key.key_words.Statement.{statement}
 use Rattle.graded_sums.proofs.key.key_words.Tie as tie
-use Rattle.basics.proofs.Arithmetic.{one-less}
 
 abbrev Inv-loop : tie.InvT-loop
-Inv-loop table₀ p a count span next₀ at₀ left₀ table next at left =
-    (at + left * middleSpan p + wordSpan p ≤ next .wire + middleSpan p) × Goes next₀ table₀ (keyWords p a count) next table (keyWords p at left)
+Inv-loop table₀ p n m c size next₀ base₀ g₀ table next base g =
+    (g ≤ p .grades) × (base ≡ levelsFrom p m g) × (next₀ .wire ≤ next .wire) × Goes next₀ table₀ (keyWords p n m c 0 (p .grades - 2)) next table (keyWords p n m c g (p .grades - 2 - g))
 
 abbrev μ-loop : tie.MeasureT-loop
-μ-loop table₀ p a count span next₀ at₀ left₀ table next at left = left
+μ-loop table₀ p n m c size next₀ base₀ g₀ table next base g = p .grades - g
 
-word-step : (p : Plan) (a t : ℕ) → 0 < t → keyWords p a t ≡ keyWord p a ++ keyWords p (a + middleSpan p) (t - 1)
-word-step p a t h = let e : t ≡ suc (t - 1) = omega arith in ap (keyWords p a) e ∙ first (t - 1)
-  where
-    first : (t : ℕ) → keyWords p a (suc t) ≡ keyWord p a ++ keyWords p (a + middleSpan p) t
-    first t = unfold keyWords in refl
-
-word-none : (p : Plan) (a t : ℕ) → t ≤ 0 → keyWords p a t ≡ []
-unfolding keyWords
-word-none p a t h = let e : t ≡ 0 = omega arith in rw e
-
-middle-span-requires : tie.Need-middle-span-requires Inv-loop μ-loop
-middle-span-requires c κs =
-    (c .before) .pre .0
+count-size-requires : tie.Need-count-size-requires Inv-loop μ-loop
+count-size-requires c κs =
+    let s = c .before in
+    let f = s .pre .of .part .planned in
+    record { few = omega (arith, f .n-most); small = omega (arith, size-most (s .args .p) f); countable = first-countable (s .args .p) f }
 
 loop-holds : tie.Need-loop-holds Inv-loop μ-loop
 loop-holds c =
-    ((c .before .before) .pre .1 .1, goes-start ((c .before .before .args) .w) ((c .before .before .args) .table .now) (keyWords ((c .before .before .args) .p) ((c .before .before .args) .a) ((c .before .before .args) .count)) ((c .before .before .args) .count * wordSpan ((c .before .before .args) .p)) ((c .before .before) .pre .1 .0))
+    let s = c .before .before in
+    let a = s .args in
+    let e : a .p .grades - 2 ≡ a .p .grades - 2 - 0 = omega arith in
+    let whole = keyWords (a .p) (a .n) (a .m) (a .c) 0 (a .p .grades - 2) in (
+      omega arith,
+      omega (arith, zero-mul (sumSize (a .p))),
+      omega arith,
+      goes-as (a .w) (a .table .now) whole (a .w) (a .table .now) _ _ (ap (keyWords (a .p) (a .n) (a .m) (a .c) 0) e) (goes-start (a .w) (a .table .now) whole ((a .p .grades - 2) * wordSpan (a .p)) (s .pre .of .part .room)),
+    )
 
--- the next sum ends before the writer
+add-if1 : tie.Need-add-if1 Inv-loop μ-loop
+add-if1 c = omega (arith, c .loop .inv .0, c .before .before .before .pre .of .part .planned .d-most)
 
-sum-there : (c : tie.In-loop Inv-loop μ-loop) → (c .before .loop) .at + wordSpan ((c .before .before .before .before .args) .p) ≤ (c .before .loop) .next .wire
-sum-there c =
-    omega (arith, (c .before .loop) .inv .0, one-less ((c .before .loop) .left) (middleSpan ((c .before .before .before .before .args) .p)) ((c .loop-test) .taken))
+-- a turn: the levels of this grade are there
+levels-there : (c : tie.Then1 Inv-loop μ-loop) → let l = c .before .before .loop in l .base + sumSize (c .before .before .before .before .before .args .p) ≤ c .before .before .before .before .before .args .w .wire
+levels-there c =
+    let l = c .before .before .loop in
+    let s = c .before .before .before .before .before in
+    let p = s .args .p in
+    let t : l .g + 2 < p .grades = c .if1 .taken in
+    omega (arith, l .inv .1, s .pre .levels, suc-mul (l .g) (sumSize p), mul-le-mul-right {m = suc (l .g)} {n = p .grades - 2} (sumSize p) (omega arith))
 
 key-word-requires : tie.Need-key-word-requires Inv-loop μ-loop
 key-word-requires c κs =
-    let s = (c .before .before .before .before .before) in
-    let a = (c .before .before .before .before .before .args) in
-    let l = (c .before .before .loop) in
-    let t = (c .before .loop-test) .taken in (
-      goes-room (a .w) (a .table .now) (keyWords (a .p) (a .a) (a .count)) (l .next) (l .table) (keyWords (a .p) (l .at) (l .left)) _ (a .count * wordSpan (a .p)) (l .inv .1)
-          (omega (arith, key-words-block (a .p) (s .pre .0) (l .next .wire) (l .at) (l .left) (l .inv .0) .long, one-less (l .left) (wordSpan (a .p)) t))
-          (omega (arith, key-words-block (a .p) (s .pre .0) (a .w .wire) (a .a) (a .count) (s .pre .1 .1) .long)) (s .pre .1 .0),
-      sum-there (c .before),
-    )
+    let l = c .before .before .before .loop in
+    let s = c .before .before .before .before .before .before in
+    let a = s .args in
+    let p = a .p in
+    let q = s .pre .of in
+    let f = q .part .planned in
+    let t : l .g + 2 < p .grades = c .before .if1 .taken in
+    let left = p .grades - 2 - l .g in
+    let all : l .g + left ≡ p .grades - 2 = omega arith in
+    let every : 0 + (p .grades - 2) ≡ p .grades - 2 = omega arith in
+    let before : (u : ℕ) → u ≤ p .grades - 2 → RowsBefore p (a .n) (a .m) u = λ u few. rows-there p (a .n) (a .m) u few (q .rows) in
+    let end : levelsFrom p (a .m) (p .grades - 2) ≤ l .next .wire = omega (arith, s .pre .levels, l .inv .2) in
+    record {
+      of = record {
+        part = record {
+          planned = f;
+          candidate = q .part .candidate;
+          inputs = q .part .inputs;
+          room = goes-room (a .w) (a .table .now) (keyWords p (a .n) (a .m) (a .c) 0 (p .grades - 2)) (l .next) (l .table) (keyWords p (a .n) (a .m) (a .c) (l .g) left) _ ((p .grades - 2) * wordSpan p) (l .inv .3)
+              (omega (arith, key-words-block p f (l .next .wire) (a .n) (a .m) (a .c) (l .g) left (q .part .inputs) (q .part .candidate) (before (l .g + left) (omega arith)) (subst (λ (k : ℕ). levelsFrom p (a .m) k ≤ l .next .wire) (sym all) end) .long, one-less left (wordSpan p) (omega arith)))
+              (omega (arith, key-words-block p f (l .next .wire) (a .n) (a .m) (a .c) 0 (p .grades - 2) (q .part .inputs) (q .part .candidate) (before (0 + (p .grades - 2)) (omega arith)) (subst (λ (k : ℕ). levelsFrom p (a .m) k ≤ l .next .wire) (sym every) end) .long))
+              (q .part .room);
+        };
+        grade = omega arith;
+        row = omega (arith, l .inv .1, before (suc (l .g)) (omega arith) (l .g) (omega arith));
+        there = omega (arith, levels-there (c .before), l .inv .2);
+      };
+      levels = omega (arith, levels-there (c .before), l .inv .2);
+    }
 
-add-at : tie.Need-add-at Inv-loop μ-loop
-add-at c =
-    omega (arith, sum-there (c .before .before .before .before), (c .before .before .before .before .before .before .middle-span) .ensures, span-most ((c .before .before .before .before .before .before .before .before .args) .p) ((c .before .before .before .before .before .before .before .before) .pre .0), (c .before .before .before .before .before .loop) .inv .1 .wireLeft, key-words-block ((c .before .before .before .before .before .before .before .before .args) .p) ((c .before .before .before .before .before .before .before .before) .pre .0) ((c .before .before .before .before .before .before .before .before .args) .w .wire) ((c .before .before .before .before .before .before .before .before .args) .a) ((c .before .before .before .before .before .before .before .before .args) .count) ((c .before .before .before .before .before .before .before .before) .pre .1 .1) .long, (c .before .before .before .before .before .before .before .before) .pre .1 .0 .small)
+add-base : tie.Need-add-base Inv-loop μ-loop
+add-base c =
+    let i = c .before .before .before .before in
+    let s = i .before .before .before .before .before in
+    omega (arith, levels-there i, s .pre .of .part .room .small, i .before .before .before .count-size .ensures)
 
-sub-left : tie.Need-sub-left Inv-loop μ-loop
-sub-left c =
-    omega (arith, (c .before .before .before .before .loop-test) .taken)
+add-g : tie.Need-add-g Inv-loop μ-loop
+add-g c =
+    let i = c .before .before .before .before in
+    omega (arith, i .before .before .loop .inv .0, i .before .before .before .before .before .pre .of .part .planned .d-most)
 
 loop-less : tie.Need-loop-less Inv-loop μ-loop
-loop-less c =
-    omega (arith, (c .before .before .before .before .loop-test) .taken)
+loop-less c = omega (arith, c .before .before .before .before .if1 .taken)
 
 loop-again : tie.Need-loop-again Inv-loop μ-loop
 loop-again c =
-    let a = (c .before .before .before .before .before .before .before .before .args) in
-    let l = (c .before .before .before .before .before .loop) in
-    let t = (c .before .before .before .before .loop-test) .taken in
-    let h = (c .before .before .key-word) in
-    let e : l .at + middleSpan (a .p) ≡ l .at + (c .before .before .before .before .before .before .middle-span) .result = omega (arith, (c .before .before .before .before .before .before .middle-span) .ensures) in (
-      omega (arith, e, l .inv .0, one-less (l .left) (middleSpan (a .p)) t, h .ensures .wires, key-word-block (a .p) ((c .before .before .before .before .before .before .before .before) .pre .0) (l .next .wire) (l .at) (sum-there (c .before .before .before .before)) .long),
-      goes-as (a .w) (a .table .now) (keyWords (a .p) (a .a) (a .count)) (h .result) (h .last .1 .0) _ _ (ap (λ (x : ℕ). keyWords (a .p) x (l .left - 1)) e)
-          (goes-on (a .w) (a .table .now) (keyWords (a .p) (a .a) (a .count)) (l .next) (l .table) _ _ (h .last .1 .0) (h .result)
-          (goes-as (a .w) (a .table .now) (keyWords (a .p) (a .a) (a .count)) (l .next) (l .table) _ _ (word-step (a .p) (l .at) (l .left) t) (l .inv .1))
-          (h .ensures)),
+    let h = c .before .before .key-word in
+    let i = c .before .before .before .before in
+    let l = i .before .before .loop in
+    let a = i .before .before .before .before .before .args in
+    let p = a .p in
+    let t : l .g + 2 < p .grades = i .if1 .taken in
+    let whole = keyWords p (a .n) (a .m) (a .c) 0 (p .grades - 2) in (
+      omega arith,
+      omega (arith, l .inv .1, i .before .before .before .count-size .ensures, ap (λ (k : ℕ). k * sumSize p) (add-one (l .g)), suc-mul (l .g) (sumSize p)),
+      omega (arith, l .inv .2, h .ensures .wires),
+      goes-on (a .w) (a .table .now) whole (l .next) (l .table) _ _ (h .last .1 .0) (h .result)
+          (goes-as (a .w) (a .table .now) whole (l .next) (l .table) _ _ (words-turn p (a .n) (a .c) (a .m) (l .g) (l .base) t (l .inv .1)) (l .inv .3))
+          (h .ensures),
     )
 
 same-length : tie.Need-same-length Inv-loop μ-loop
-same-length c =
-    (c .before .loop) .inv .1 .long
+same-length c = c .before .before .loop .inv .3 .long
 
 returns : tie.Need-returns Inv-loop μ-loop
 returns c =
-    let a = (c .before .before .before .before .args) in
-    let l = (c .before .loop) in
-    goes-end (a .w) (a .table .now) (keyWords (a .p) (a .a) (a .count)) (l .next) (l .table) _ (word-none (a .p) (l .at) (l .left) ((c .loop-test) .left)) (l .inv .1)
+    let l = c .before .before .loop in
+    let a = c .before .before .before .before .before .args in
+    goes-end (a .w) (a .table .now) (keyWords (a .p) (a .n) (a .m) (a .c) 0 (a .p .grades - 2)) (l .next) (l .table) _ (words-end (a .p) (a .n) (a .c) (a .m) (l .g) (a .p .grades - 2) (omega (arith, c .if1 .left))) (l .inv .3)
 
 pub key-words-spec : {M : Type 1} → statement M
-key-words-spec = tie.close (tie.spec Inv-loop μ-loop middle-span-requires loop-holds key-word-requires add-at sub-left loop-less loop-again same-length returns)
+key-words-spec = tie.close (tie.spec Inv-loop μ-loop count-size-requires loop-holds add-if1 key-word-requires add-base add-g loop-less loop-again same-length returns)

@@ -7,10 +7,10 @@ use Rattle.graded_sums.proofs.sums.bits_at.Statement.{statement}
 use Rattle.graded_sums.proofs.sums.bits_at.Tie as tie
 
 mul-result : tie.Need-mul-result
-mul-result c = let a = c .before .args in let q = c .before .pre in omega (arith, bits-most (a .p) (q .0) (a .c) (a .g) (q .1 .0) (q .1 .1))
+mul-result c = let a = c .before .args in let q = c .before .pre in omega (arith, bits-most (a .p) (q .planned) (a .c) (a .g) (q .candidate) (q .grade))
 
 add-result : tie.Need-add-result
-add-result c = let a = c .before .args in let q = c .before .pre in omega (arith, bits-most (a .p) (q .0) (a .c) (a .g) (q .1 .0) (q .1 .1))
+add-result c = let a = c .before .args in let q = c .before .pre in omega (arith, bits-most (a .p) (q .planned) (a .c) (a .g) (q .candidate) (q .grade))
 
 returns : tie.Need-returns
 returns c = refl

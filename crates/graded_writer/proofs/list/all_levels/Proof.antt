@@ -24,7 +24,7 @@ abbrev lastSpan : Plan → ℕ
 lastSpan p = mergeSpan p (p .candidates / 2) (p .candidates - p .candidates / 2)
 
 all : (c : tie.Start) → Stands (c .args .all) (levelsAt (c .args .p)) (allLevelsSpan (c .args .p))
-all c = stands (c .args .all) (levelsAt (c .args .p)) (allLevelsSpan (c .args .p)) (allLevelsSpan (c .args .p)) (c .pre .1 .1 .1) (omega arith) (c .pre .1 .0)
+all c = stands (c .args .all) (levelsAt (c .args .p)) (allLevelsSpan (c .args .p)) (allLevelsSpan (c .args .p)) (c .pre .place) (omega arith) (c .pre .room)
 
 sub-second : tie.Need-sub-second
 sub-second c = omega arith
@@ -32,53 +32,72 @@ sub-second c = omega arith
 four-requires : tie.Need-four-requires
 four-requires c κs =
     let s = c .before .before .before .before in
-    let q = s .pre .1 .1 in
-    (s .pre .0, (room-of (s .args .all) _ _ _ (all s) (omega arith), (q .0, omega (arith, q .1), omega (arith, q .2), omega (arith, s .pre .0 .k-most), omega arith)))
+    let q = s .pre in
+    record {
+      plan = s .pre .plan;
+      room = room-of (s .args .all) _ _ _ (all s) (omega arith);
+      spanIs = q .spanIs;
+      levelsBelow = omega (arith, q .place);
+      some = omega (arith, q .several);
+      few = omega (arith, s .pre .plan .k-most);
+      inside = omega arith;
+    }
 
 low : (c : tie.After-four) → let p = c .before .before .before .before .before .args .p in Stands (c .four .result) (levelsAt p + lowSpan p) (highSpan p + lastSpan p)
 low c =
     let s = c .before .before .before .before .before in
     let a = s .args in
-    let q = s .pre .1 .1 in
+    let q = s .pre in
     stands-after (a .all) (a .table .now) _ (c .four .last .1 .0) (c .four .result) _ _ _ (c .four .ensures)
-    (levels-block (a .p) (s .pre .0) 2 (a .all .wire) 0 (a .p .candidates / 2) (omega (arith, q .1)) (omega (arith, q .2)) (omega (arith, s .pre .0 .k-most)) (omega arith) .long)
+    (levels-block (a .p) (s .pre .plan) 2 (a .all .wire) 0 (a .p .candidates / 2) (omega (arith, q .place)) (omega (arith, q .several)) (omega (arith, s .pre .plan .k-most)) (omega arith) .long)
     (all s)
 
 four-requires-2 : tie.Need-four-requires-2
 four-requires-2 c κs =
     let s = c .before .before .before .before .before .before .before .before in
-    let q = s .pre .1 .1 in
+    let q = s .pre in
     let l = low (c .before .before .before) in
-    (s .pre .0, (room-of (c .before .before .before .four .result) _ _ _ l (omega arith), (q .0, omega (arith, l .place), omega (arith, q .2), omega (arith, s .pre .0 .k-most), omega arith)))
+    record {
+      plan = s .pre .plan;
+      room = room-of (c .before .before .before .four .result) _ _ _ l (omega arith);
+      spanIs = q .spanIs;
+      levelsBelow = omega (arith, l .place);
+      some = omega (arith, q .several);
+      few = omega (arith, s .pre .plan .k-most);
+      inside = omega arith;
+    }
 
 high : (c : tie.After-four2) → let p = c .before .before .before .before .before .before .before .before .before .args .p in Stands (c .four2 .result) (levelsAt p + lowSpan p + highSpan p) (lastSpan p)
 high c =
     let s = c .before .before .before .before .before .before .before .before .before in
     let a = s .args in
-    let q = s .pre .1 .1 in
+    let q = s .pre in
     let f = c .before .before .before .before .four in
     let l = low (c .before .before .before .before) in
     stands-after (f .result) (f .last .1 .0) _ (c .four2 .last .1 .0) (c .four2 .result) _ _ _ (c .four2 .ensures)
-    (levels-block (a .p) (s .pre .0) 2 (f .result .wire) (a .p .candidates / 2) (a .p .candidates - a .p .candidates / 2) (omega (arith, l .place)) (omega (arith, q .2)) (omega (arith, s .pre .0 .k-most)) (omega arith) .long)
+    (levels-block (a .p) (s .pre .plan) 2 (f .result .wire) (a .p .candidates / 2) (a .p .candidates - a .p .candidates / 2) (omega (arith, l .place)) (omega (arith, q .several)) (omega (arith, s .pre .plan .k-most)) (omega arith) .long)
     l
 
 halves-requires : tie.Need-halves-requires
 halves-requires c κs =
     let s = c .before .before .before .before .before .before .before .before .before .before .before .before in
     let p = s .args .p in
-    let q = s .pre .1 .1 in
+    let q = s .pre in
     let e = low (c .before .before .before .before .before .before .before) .place in
     let h = high (c .before .before .before) in
-    let e′ = h .place in (
-      s .pre .0,
-      (
-        h .left,
-        (
-          (q .0, omega (arith, e), omega (arith, e, e′), omega (arith, q .2), omega (arith, q .2), omega arith),
-          (λ z. omega (arith, e, span-least p 1 (p .candidates / 2) z), λ z. omega (arith, e, e′, span-least p 1 (p .candidates - p .candidates / 2) z)),
-        ),
-      ),
-    )
+    let e′ = h .place in
+    record {
+      plan = s .pre .plan;
+      room = h .left;
+      spanIs = q .spanIs;
+      levelsBelow = omega (arith, e);
+      middleBelow = omega (arith, e, e′);
+      firstSome = omega (arith, q .several);
+      secondSome = omega (arith, q .several);
+      inside = omega arith;
+      firstBelow = λ z. omega (arith, e, span-least p 1 (p .candidates / 2) z);
+      secondBelow = λ z. omega (arith, e, e′, span-least p 1 (p .candidates - p .candidates / 2) z);
+    }
 
 same-length : tie.Need-same-length
 same-length c = search needs
@@ -95,7 +114,7 @@ returns c =
     let h = high (c .before .before .before .before .before .before) in
     wrote-then (a .all) (a .table .now) _ (g .last .1 .0) (g .result) _ _ _ _
     (wrote-then (a .all) (a .table .now) _ (f .last .1 .0) (f .result) _ _ _ _
-    (wrote-as (a .all) (a .table .now) _ _ _ _ (ap (λ (i : ℕ). levels p 2 i 0 (k / 2)) (s .pre .1 .1 .1)) (f .ensures))
+    (wrote-as (a .all) (a .table .now) _ _ _ _ (ap (λ (i : ℕ). levels p 2 i 0 (k / 2)) (s .pre .place)) (f .ensures))
     (g .ensures) (ap (λ (i : ℕ). levels p 2 i (k / 2) (k - k / 2)) (l .place)))
     (c .before .before .halves .ensures) (merge-same p 1 (levelsAt p) 0 k (g .result .wire) (f .result .wire) (g .result .wire) (h .place) (l .place) (h .place))
 

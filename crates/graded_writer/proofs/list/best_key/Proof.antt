@@ -11,7 +11,12 @@ use Rattle.graded_writer.proofs.list.best_key.Tie as tie
 
 key-at-requires : tie.Need-key-at-requires
 key-at-requires c κs =
-    ((c .before) .pre .0, ((c .before) .pre .1 .0, (c .before) .pre .1 .1, (c .before) .pre .1 .2))
+    record {
+      plan = (c .before) .pre .plan;
+      spanIs = (c .before) .pre .spanIs;
+      inside = (c .before) .pre .inside;
+      small = (c .before) .pre .small;
+    }
 
 returns : tie.Need-returns
 returns c =
@@ -19,11 +24,11 @@ returns c =
 
 key-span-requires : tie.Need-key-span-requires
 key-span-requires c κs =
-    (c .before) .pre .0
+    (c .before) .pre .plan
 
 sub-result : tie.Need-sub-result
 sub-result c =
-    omega (arith, (c .key-span) .ensures, (c .before .before) .pre .1 .3 ((c .before .if1) .left))
+    omega (arith, (c .key-span) .ensures, (c .before .before) .pre .keyBelow ((c .before .if1) .left))
 
 returns-2 : tie.Need-returns-2
 returns-2 c =

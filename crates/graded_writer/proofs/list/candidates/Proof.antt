@@ -27,7 +27,7 @@ loop-holds c =
     let a = (c .before .args) in
     let e : a .p .candidates ≡ a .p .candidates - 0 = omega arith in
     let whole = candidates (a .p) (a .w .wire) 0 (a .p .candidates) in
-    (refl, (c .before) .pre .1 .1, omega arith, goes-as (a .w) (a .table .now) whole (a .w) (a .table .now) _ _ (ap (candidates (a .p) (a .w .wire) 0) e) (goes-start (a .w) (a .table .now) whole (a .p .candidates * candidateSpan (a .p)) ((c .before) .pre .1 .0)))
+    (refl, (c .before) .pre .inputsBelow, omega arith, goes-as (a .w) (a .table .now) whole (a .w) (a .table .now) _ _ (ap (candidates (a .p) (a .w .wire) 0) e) (goes-start (a .w) (a .table .now) whole (a .p .candidates * candidateSpan (a .p)) ((c .before) .pre .room)))
 
 one-more : (c : tie.In-loop Inv-loop μ-loop) → ((c .before .loop) .c < (c .before .before .before .args) .p .candidates) × (length (candidates ((c .before .before .before .args) .p) ((c .before .loop) .next .wire) ((c .before .loop) .c) ((c .before .before .before .args) .p .candidates - (c .before .loop) .c)) ≡ ((c .before .before .before .args) .p .candidates - (c .before .loop) .c) * candidateSpan ((c .before .before .before .args) .p)) × (((c .before .before .before .args) .p .candidates - (c .before .loop) .c) * candidateSpan ((c .before .before .before .args) .p) ≡ ((c .before .before .before .args) .p .candidates - ((c .before .loop) .c + 1)) * candidateSpan ((c .before .before .before .args) .p) + candidateSpan ((c .before .before .before .args) .p))
 one-more c =
@@ -35,24 +35,25 @@ one-more c =
     let l = (c .before .loop) in
     let t : l .c < a .p .candidates = omega (arith, (c .loop-test) .taken, l .inv .0) in
     let e : a .p .candidates - l .c ≡ suc (a .p .candidates - (l .c + 1)) = omega arith in
-    (t, candidates-block (a .p) ((c .before .before .before) .pre .0) (l .next .wire) (l .c) (a .p .candidates - l .c) (l .inv .1) (omega (arith, l .inv .2)) .long, ap (λ (k : ℕ). k * candidateSpan (a .p)) e ∙ suc-mul (a .p .candidates - (l .c + 1)) (candidateSpan (a .p)))
+    (t, candidates-block (a .p) ((c .before .before .before) .pre .plan) (l .next .wire) (l .c) (a .p .candidates - l .c) (l .inv .1) (omega (arith, l .inv .2)) .long, ap (λ (k : ℕ). k * candidateSpan (a .p)) e ∙ suc-mul (a .p .candidates - (l .c + 1)) (candidateSpan (a .p)))
 
 candidate-requires : tie.Need-candidate-requires Inv-loop μ-loop
 candidate-requires c κs =
     let a = (c .before .before .before .before .args) in
     let l = (c .before .before .loop) in
-    let q = one-more (c .before) in (
-      (c .before .before .before .before) .pre .0,
-      (
-        goes-room (a .w) (a .table .now) (candidates (a .p) (a .w .wire) 0 (a .p .candidates)) (l .next) (l .table) (candidates (a .p) (l .next .wire) (l .c) (a .p .candidates - l .c)) _ (a .p .candidates * candidateSpan (a .p)) (l .inv .3)
-            (omega (arith, q .1, q .2)) (omega (arith, candidates-block (a .p) ((c .before .before .before .before) .pre .0) (a .w .wire) 0 (a .p .candidates) ((c .before .before .before .before) .pre .1 .1) (omega arith) .long)) ((c .before .before .before .before) .pre .1 .0),
-        (l .inv .1, q .0),
-      ),
-    )
+    let s = c .before .before .before .before in
+    let q = one-more (c .before) in
+    record {
+      planned = s .pre .plan;
+      candidate = q .0;
+      inputs = l .inv .1;
+      room = goes-room (a .w) (a .table .now) (candidates (a .p) (a .w .wire) 0 (a .p .candidates)) (l .next) (l .table) (candidates (a .p) (l .next .wire) (l .c) (a .p .candidates - l .c)) _ (a .p .candidates * candidateSpan (a .p)) (l .inv .3)
+          (omega (arith, q .1, q .2)) (omega (arith, candidates-block (a .p) (s .pre .plan) (a .w .wire) 0 (a .p .candidates) (s .pre .inputsBelow) (omega arith) .long)) (s .pre .room);
+    }
 
 add-c : tie.Need-add-c Inv-loop μ-loop
 add-c c =
-    omega (arith, one-more (c .before .before .before .before) .0, (c .before .before .before .before .before .before .before) .pre .0 .k-most)
+    omega (arith, one-more (c .before .before .before .before) .0, (c .before .before .before .before .before .before .before) .pre .plan .k-most)
 
 loop-less : tie.Need-loop-less Inv-loop μ-loop
 loop-less c =
@@ -65,7 +66,7 @@ loop-again c =
     let t = one-more (c .before .before .before .before) .0 in
     let h = (c .before .before .candidate) in
     let whole = candidates (a .p) (a .w .wire) 0 (a .p .candidates) in
-    let e : h .result .wire ≡ l .next .wire + candidateSpan (a .p) = omega (arith, h .ensures .wires, candidate-block (a .p) ((c .before .before .before .before .before .before .before) .pre .0) (l .next .wire) (l .c) (l .inv .1) t .long) in (
+    let e : h .result .wire ≡ l .next .wire + candidateSpan (a .p) = omega (arith, h .ensures .wires, candidate-block (a .p) ((c .before .before .before .before .before .before .before) .pre .plan) (l .next .wire) (l .c) (l .inv .1) t .long) in (
       l .inv .0,
       omega (arith, l .inv .1, e),
       omega (arith, t),

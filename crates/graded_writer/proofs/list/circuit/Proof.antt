@@ -15,26 +15,30 @@ use Rattle.graded_writer.proofs.list.circuit.Statement.{statement}
 use Rattle.graded_writer.proofs.list.circuit.Tie as tie
 
 long : (c : tie.Start) → length (circuit (c .args .p)) ≡ c .args .p .candidates * candidateSpan (c .args .p) + allLevelsSpan (c .args .p)
-long c = circuit-long (c .args .p) (c .pre .0) (c .pre .1 .1 .1)
+long c = circuit-long (c .args .p) (c .pre .plan) (c .pre .several)
 
 candidates-requires : tie.Need-candidates-requires
 candidates-requires c κs =
     let s = c .before .before in
-    (s .pre .0, (room-less (s .args .w) _ _ (omega (arith, long s)) (s .pre .1 .0), omega (arith, s .pre .1 .1 .0)))
+    record {
+      plan = s .pre .plan;
+      room = room-less (s .args .w) _ _ (omega (arith, long s)) (s .pre .room);
+      inputsBelow = omega (arith, s .pre .place);
+    }
 
 all : (c : tie.After-candidates) → let p = c .before .before .before .args .p in Stands (c .candidates .result) (levelsAt p) (allLevelsSpan p)
 all c =
     let s = c .before .before .before in
     let a = s .args in
-    let e = s .pre .1 .1 .0 in
-    stands-after (a .w) (a .table .now) _ (c .candidates .last .1 .0) (c .candidates .result) _ _ _ (c .candidates .ensures) (candidates-block (a .p) (s .pre .0) (a .w .wire) 0 (a .p .candidates) (omega (arith, e)) (omega arith) .long)
-    (stands (a .w) (a .p .inputs) _ _ e (omega (arith, long s)) (s .pre .1 .0))
+    let e = s .pre .place in
+    stands-after (a .w) (a .table .now) _ (c .candidates .last .1 .0) (c .candidates .result) _ _ _ (c .candidates .ensures) (candidates-block (a .p) (s .pre .plan) (a .w .wire) 0 (a .p .candidates) (omega (arith, e)) (omega arith) .long)
+    (stands (a .w) (a .p .inputs) _ _ e (omega (arith, long s)) (s .pre .room))
 
 sub-span : tie.Need-sub-span
 sub-span c = omega (arith, all (c .before .before .before .before) .place)
 
 div-span : tie.Need-div-span
-div-span c = omega (arith, c .before .before .before .before .before .before .before .before .pre .1 .1 .1)
+div-span c = omega (arith, c .before .before .before .before .before .before .before .before .pre .several)
 
 all-levels-requires : tie.Need-all-levels-requires
 all-levels-requires c κs =
@@ -42,7 +46,13 @@ all-levels-requires c κs =
     let p = s .args .p in
     let f = c .before .before .before .before .before .before .candidates in
     let l = all (c .before .before .before .before .before .before) in
-    (s .pre .0, (l .left, (divided (f .result .wire) (p .inputs) (p .candidates) (candidateSpan p) (omega (arith, s .pre .1 .1 .1)) (l .place), l .place, s .pre .1 .1 .1)))
+    record {
+      plan = s .pre .plan;
+      room = l .left;
+      spanIs = divided (f .result .wire) (p .inputs) (p .candidates) (candidateSpan p) (omega (arith, s .pre .several)) (l .place);
+      place = l .place;
+      several = s .pre .several;
+    }
 
 same-length : tie.Need-same-length
 same-length c = search needs
@@ -56,7 +66,7 @@ returns c =
     let g = c .before .before .all-levels in
     wrote-as (a .w) (a .table .now) _ (circuit p) (g .last .1 .0) (g .result) (circuit-parts p)
     (wrote-then (a .w) (a .table .now) _ (f .last .1 .0) (f .result) _ _ _ _
-    (wrote-as (a .w) (a .table .now) _ _ _ _ (ap (λ (i : ℕ). candidates p i 0 (p .candidates)) (s .pre .1 .1 .0)) (f .ensures))
+    (wrote-as (a .w) (a .table .now) _ _ _ _ (ap (λ (i : ℕ). candidates p i 0 (p .candidates)) (s .pre .place)) (f .ensures))
     (g .ensures) refl)
 
 pub circuit-spec : {M : Type 1} → statement M

@@ -14,15 +14,15 @@ returns c =
 
 key-span-requires : tie.Need-key-span-requires
 key-span-requires c κs =
-    (c .before) .pre .0
+    (c .before) .pre .plan
 
 sub-result : tie.Need-sub-result
 sub-result c =
-    omega (arith, (c .key-span) .ensures, (c .before .before) .pre .1 ((c .before .if1) .left))
+    omega (arith, (c .key-span) .ensures, (c .before .before) .pre .below ((c .before .if1) .left))
 
 sub-result-2 : tie.Need-sub-result-2
 sub-result-2 c =
-    omega (arith, (c .key-span) .ensures, (c .before .before) .pre .1 ((c .before .if1) .left))
+    omega (arith, (c .key-span) .ensures, (c .before .before) .pre .below ((c .before .if1) .left))
 
 returns-2 : tie.Need-returns-2
 returns-2 c =

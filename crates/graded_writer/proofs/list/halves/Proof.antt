@@ -16,51 +16,56 @@ use Rattle.graded_writer.proofs.list.halves.Tie as tie
 
 best-key-requires : tie.Need-best-key-requires
 best-key-requires c κs =
-    let q = (c .before) .pre .1 .1 in
-    ((c .before) .pre .0, (q .0 .0, omega (arith, q .0), omega (arith, q .0, (c .before) .pre .1 .0 .small), λ z. let k = q .1 .0 z in omega arith))
+    let q = (c .before) .pre in
+    record {
+      plan = (c .before) .pre .plan;
+      spanIs = q .spanIs;
+      inside = omega (arith, q);
+      small = omega (arith, q, (c .before) .pre .room .small);
+      keyBelow = λ z. let k = q .firstBelow z in omega arith;
+    }
 
 add-best-key : tie.Need-add-best-key
 add-best-key c =
-    omega (arith, (c .before .before) .pre .1 .1 .0, (c .before .before) .pre .0 .k-most)
+    omega (arith, (c .before .before) .pre)
 
 best-key-requires-2 : tie.Need-best-key-requires-2
 best-key-requires-2 c κs =
-    let q = (c .before .before) .pre .1 .1 in
-    ((c .before .before) .pre .0, (q .0 .0, omega (arith, q .0), omega (arith, q .0, (c .before .before) .pre .1 .0 .small), λ z. let k = q .1 .1 z in omega arith))
+    let q = (c .before .before) .pre in
+    record {
+      plan = (c .before .before) .pre .plan;
+      spanIs = q .spanIs;
+      inside = omega (arith, q);
+      small = omega (arith, q, (c .before .before) .pre .room .small);
+      keyBelow = λ z. let k = q .secondBelow z in omega arith;
+    }
 
 group-won-requires : tie.Need-group-won-requires
 group-won-requires c κs =
-    let q = (c .before .before .before) .pre .1 .1 in
-    ((c .before .before .before) .pre .0, λ z. let k = q .1 .0 z in omega arith)
+    let q = (c .before .before .before) .pre in
+    record { plan = (c .before .before .before) .pre .plan; below = λ z. let k = q .firstBelow z in omega arith }
 
 group-won-requires-2 : tie.Need-group-won-requires-2
 group-won-requires-2 c κs =
-    let q = (c .before .before .before .before) .pre .1 .1 in
-    ((c .before .before .before .before) .pre .0, λ z. let k = q .1 .1 z in omega arith)
+    let q = (c .before .before .before .before) .pre in
+    record { plan = (c .before .before .before .before) .pre .plan; below = λ z. let k = q .secondBelow z in omega arith }
 
 merge-requires : tie.Need-merge-requires
 merge-requires c κs =
     let a = (c .before .before .before .before .before .before .args) in
-    let f = (c .before .before .before .before .before .before) .pre .0 in
-    let q = (c .before .before .before .before .before .before) .pre .1 .1 in
-    let n = a .w .wire in (
-      f,
-      (
-        (c .before .before .before .before .before .before) .pre .1 .0,
-        (
-          (
-            omega (arith, (c .before .before .before .before .best-key) .ensures, key-below (a .p) f (a .c) (a .first) (a .middle) n (omega (arith, q .0)) (omega (arith, q .0)) (omega (arith, q .0)) (λ z. let k = q .1 .0 z in omega arith)),
-            omega (arith, (c .before .before .before .best-key2) .ensures, key-below (a .p) f (a .c + a .first) (a .second) n n (omega (arith, q .0)) (omega (arith, q .0)) (omega arith) (λ z. let k = q .1 .1 z in omega arith)),
-            q .0 .3,
-            q .0 .4,
-          ),
-          (
-            λ z. omega (arith, (c .before .before .group-won) .ensures, won-below (a .p) f (a .first) (a .middle) n (omega (arith, q .0)) (λ y. let k = q .1 .0 y in omega arith) z),
-            λ z. omega (arith, (c .before .group-won2) .ensures, won-below (a .p) f (a .second) n n (omega arith) (λ y. let k = q .1 .1 y in omega arith) z),
-          ),
-        ),
-      ),
-    )
+    let f = (c .before .before .before .before .before .before) .pre .plan in
+    let q = (c .before .before .before .before .before .before) .pre in
+    let n = a .w .wire in
+    record {
+      plan = f;
+      room = (c .before .before .before .before .before .before) .pre .room;
+      firstBelow = omega (arith, (c .before .before .before .before .best-key) .ensures, key-below (a .p) f (a .c) (a .first) (a .middle) n (omega (arith, q)) (omega (arith, q)) (omega (arith, q)) (λ z. let k = q .firstBelow z in omega arith));
+      secondBelow = omega (arith, (c .before .before .before .best-key2) .ensures, key-below (a .p) f (a .c + a .first) (a .second) n n (omega (arith, q)) (omega (arith, q)) (omega arith) (λ z. let k = q .secondBelow z in omega arith));
+      firstSome = q .firstSome;
+      secondSome = q .secondSome;
+      firstWon = λ z. omega (arith, (c .before .before .group-won) .ensures, won-below (a .p) f (a .first) (a .middle) n (omega (arith, q)) (λ y. let k = q .firstBelow y in omega arith) z);
+      secondWon = λ z. omega (arith, (c .before .group-won2) .ensures, won-below (a .p) f (a .second) n n (omega arith) (λ y. let k = q .secondBelow y in omega arith) z);
+    }
 
 returns : tie.Need-returns
 returns c =

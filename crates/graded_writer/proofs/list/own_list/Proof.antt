@@ -44,13 +44,13 @@ circuit-requires : tie.Need-circuit-requires
 circuit-requires c κs =
     let shape = (c .before .before .before .before .before .before .args) .shape in
     let p = (c .before .before .before .before .new) .result in
-    let w = (c .before .before .before .new2) .result in (
-      plan-planned shape p ((c .before .before .before .before .before .before) .pre) ((c .before .before .before .before .new) .ensures),
-      (
-        first-room shape w (length (circuit p)) ((c .before .before .before .before .before .before) .pre) (start (c .before .before .before)) (circuit-short shape p ((c .before .before .before .before .before .before) .pre) ((c .before .before .before .before .new) .ensures) ((c .before .if1) .left)),
-        (ap (λ (v : Writer). v .wire) ((c .before .before .before .new2) .ensures), plan-many shape p ((c .before .before .before .before .before .before) .pre) ((c .before .before .before .before .new) .ensures) ((c .before .if1) .left)),
-      ),
-    )
+    let w = (c .before .before .before .new2) .result in
+    record {
+      plan = plan-planned shape p ((c .before .before .before .before .before .before) .pre) ((c .before .before .before .before .new) .ensures);
+      room = first-room shape w (length (circuit p)) ((c .before .before .before .before .before .before) .pre) (start (c .before .before .before)) (circuit-short shape p ((c .before .before .before .before .before .before) .pre) ((c .before .before .before .before .new) .ensures) ((c .before .if1) .left));
+      place = ap (λ (v : Writer). v .wire) ((c .before .before .before .new2) .ensures);
+      several = plan-many shape p ((c .before .before .before .before .before .before) .pre) ((c .before .before .before .before .new) .ensures) ((c .before .if1) .left);
+    }
 
 same-length-2 : tie.Need-same-length-2
 same-length-2 c =

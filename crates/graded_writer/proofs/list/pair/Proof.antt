@@ -24,7 +24,7 @@ returns c =
 
 two : (c : tie.Else1) → (c .before .before .args) .count ≡ 2
 two c =
-    omega (arith, (c .if1) .left, (c .before .before) .pre .1 .1)
+    omega (arith, (c .if1) .left, (c .before .before) .pre)
 
 spans : (c : tie.Else1) → levelsSpan ((c .before .before .args) .p) 1 ((c .before .before .args) .count) ≡ mergeSpan ((c .before .before .args) .p) 1 1 + keySpan ((c .before .before .args) .p)
 spans c =
@@ -32,34 +32,53 @@ spans c =
 
 keys : (c : tie.Else1) → (keyAt ((c .before .before .args) .p) ((c .before .before .args) .c) + keySpan ((c .before .before .args) .p) ≤ (c .before .before .args) .w .wire) × (keyAt ((c .before .before .args) .p) ((c .before .before .args) .c + 1) + keySpan ((c .before .before .args) .p) ≤ (c .before .before .args) .w .wire)
 keys c =
-    let q = (c .before .before) .pre .1 .1 in
-    (omega (arith, key-before ((c .before .before .args) .p) ((c .before .before) .pre .0) ((c .before .before .args) .c) (omega (arith, q, two c)), q .1), omega (arith, key-before ((c .before .before .args) .p) ((c .before .before) .pre .0) ((c .before .before .args) .c + 1) (omega (arith, q, two c)), q .1))
+    let q = (c .before .before) .pre in
+    (omega (arith, key-before ((c .before .before .args) .p) ((c .before .before) .pre .plan) ((c .before .before .args) .c) (omega (arith, q, two c)), q .levelsBelow), omega (arith, key-before ((c .before .before .args) .p) ((c .before .before) .pre .plan) ((c .before .before .args) .c + 1) (omega (arith, q, two c)), q .levelsBelow))
 
 key-at-requires : tie.Need-key-at-requires
 key-at-requires c κs =
-    let q = (c .before .before) .pre .1 .1 in
-    ((c .before .before) .pre .0, (q .0, omega (arith, q, two c), omega (arith, q .1, (c .before .before) .pre .1 .0 .small)))
+    let q = (c .before .before) .pre in
+    record {
+      plan = (c .before .before) .pre .plan;
+      spanIs = q .spanIs;
+      inside = omega (arith, q, two c);
+      small = omega (arith, q .levelsBelow, (c .before .before) .pre .room .small);
+    }
 
 add-key-at : tie.Need-add-key-at
 add-key-at c =
-    omega (arith, (c .before .before .before) .pre .1 .1, (c .before .before .before) .pre .0 .k-most)
+    omega (arith, (c .before .before .before) .pre)
 
 key-at-requires-2 : tie.Need-key-at-requires-2
 key-at-requires-2 c κs =
-    let q = (c .before .before .before) .pre .1 .1 in
-    ((c .before .before .before) .pre .0, (q .0, omega (arith, q, two (c .before)), omega (arith, q .1, (c .before .before .before) .pre .1 .0 .small)))
+    let q = (c .before .before .before) .pre in
+    record {
+      plan = (c .before .before .before) .pre .plan;
+      spanIs = q .spanIs;
+      inside = omega (arith, q, two (c .before));
+      small = omega (arith, q .levelsBelow, (c .before .before .before) .pre .room .small);
+    }
 
 merge-requires : tie.Need-merge-requires
 merge-requires c κs =
     let k = keys (c .before .before .before) in
-    ((c .before .before .before .before .before) .pre .0, (room-less ((c .before .before .before .before .before .args) .w) _ _ (omega (arith, spans (c .before .before .before))) ((c .before .before .before .before .before) .pre .1 .0), ((omega (arith, k .0, (c .before .before .key-at) .ensures), omega (arith, k .1, (c .before .key-at2) .ensures), omega arith, omega arith), (λ z. absurd (omega arith), λ z. absurd (omega arith)))))
+    record {
+      plan = (c .before .before .before .before .before) .pre .plan;
+      room = room-less ((c .before .before .before .before .before .args) .w) _ _ (omega (arith, spans (c .before .before .before))) ((c .before .before .before .before .before) .pre .room);
+      firstBelow = omega (arith, k .0, (c .before .before .key-at) .ensures);
+      secondBelow = omega (arith, k .1, (c .before .key-at2) .ensures);
+      firstSome = omega arith;
+      secondSome = omega arith;
+      firstWon = λ z. absurd (omega arith);
+      secondWon = λ z. absurd (omega arith);
+    }
 
 met : (c : tie.After-merge) → Stands ((c .merge) .result) ((c .before .before .before .before .before .before .args) .w .wire + mergeSpan ((c .before .before .before .before .before .before .args) .p) 1 1) (keySpan ((c .before .before .before .before .before .before .args) .p))
 met c =
     let k = keys (c .before .before .before .before) in
     stands-after ((c .before .before .before .before .before .before .args) .w) ((c .before .before .before .before .before .before .args) .table .now) _ ((c .merge) .last .1 .0) ((c .merge) .result) _ _ _ ((c .merge) .ensures)
-    (merge-block ((c .before .before .before .before .before .before .args) .p) ((c .before .before .before .before .before .before) .pre .0) ((c .before .before .before .before .before .before .args) .w .wire) ((c .before .before .before .key-at) .result) ((c .before .before .key-at2) .result) 0 0 1 1 (omega (arith, k .0, (c .before .before .before .key-at) .ensures)) (omega (arith, k .1, (c .before .before .key-at2) .ensures)) (λ z. absurd (omega arith)) (λ z. absurd (omega arith)) .long)
-    (stands ((c .before .before .before .before .before .before .args) .w) ((c .before .before .before .before .before .before .args) .w .wire) _ _ refl (omega (arith, spans (c .before .before .before .before))) ((c .before .before .before .before .before .before) .pre .1 .0))
+    (merge-block ((c .before .before .before .before .before .before .args) .p) ((c .before .before .before .before .before .before) .pre .plan) ((c .before .before .before .before .before .before .args) .w .wire) ((c .before .before .before .key-at) .result) ((c .before .before .key-at2) .result) 0 0 1 1 (omega (arith, k .0, (c .before .before .before .key-at) .ensures)) (omega (arith, k .1, (c .before .before .key-at2) .ensures)) (λ z. absurd (omega arith)) (λ z. absurd (omega arith)) .long)
+    (stands ((c .before .before .before .before .before .before .args) .w) ((c .before .before .before .before .before .before .args) .w .wire) _ _ refl (omega (arith, spans (c .before .before .before .before))) ((c .before .before .before .before .before .before) .pre .room))
 
 sub-better : tie.Need-sub-better
 sub-better c =
@@ -69,7 +88,13 @@ better-requires : tie.Need-better-requires
 better-requires c κs =
     let k = keys (c .before .before .before .before .before .before .before .before) in
     let e = met (c .before .before .before .before) .place in
-    ((c .before .before .before .before .before .before .before .before .before .before) .pre .0, (met (c .before .before .before .before) .left, (omega (arith, e, k .0, (c .before .before .before .before .before .before .before .key-at) .ensures), omega (arith, e, k .1, (c .before .before .before .before .before .before .key-at2) .ensures), omega (arith, e))))
+    record {
+      plan = (c .before .before .before .before .before .before .before .before .before .before) .pre .plan;
+      room = met (c .before .before .before .before) .left;
+      firstBelow = omega (arith, e, k .0, (c .before .before .before .before .before .before .before .key-at) .ensures);
+      secondBelow = omega (arith, e, k .1, (c .before .before .before .before .before .before .key-at2) .ensures);
+      told = omega (arith, e);
+    }
 
 returns-2 : tie.Need-returns-2
 returns-2 c =

@@ -24,56 +24,75 @@ sub-second c =
 
 spans : (c : tie.After-slice-known) → levelsSpan ((c .before .args) .p) 2 ((c .before .args) .count) ≡ levelsSpan ((c .before .args) .p) 1 ((c .before .args) .count / 2) + (levelsSpan ((c .before .args) .p) 1 ((c .before .args) .count - (c .before .args) .count / 2) + (mergeSpan ((c .before .args) .p) ((c .before .args) .count / 2) ((c .before .args) .count - (c .before .args) .count / 2) + keySpan ((c .before .args) .p)))
 spans c =
-    omega (arith, span-more ((c .before .args) .p) 1 ((c .before .args) .count) ((c .before) .pre .1 .1 .2))
+    omega (arith, span-more ((c .before .args) .p) 1 ((c .before .args) .count) ((c .before) .pre .some))
 
 pair-requires : tie.Need-pair-requires
 pair-requires c κs =
-    let q = (c .before .before) .pre .1 .1 in
-    let t = (c .before .before) .pre .1 .1 .2 in
-    ((c .before .before) .pre .0, (room-less ((c .before .before .args) .w) _ _ (omega (arith, spans (c .before))) ((c .before .before) .pre .1 .0), (q .0, q .1, omega (arith, t), omega (arith, q .3), omega (arith, q .4))))
+    let q = (c .before .before) .pre in
+    let t = (c .before .before) .pre .some in
+    record {
+      plan = (c .before .before) .pre .plan;
+      room = room-less ((c .before .before .args) .w) _ _ (omega (arith, spans (c .before))) ((c .before .before) .pre .room);
+      spanIs = q .spanIs;
+      levelsBelow = q .levelsBelow;
+      some = omega (arith, t);
+      few = omega (arith, q .few);
+      inside = omega (arith, q .inside);
+    }
 
 low : (c : tie.After-pair) → Stands ((c .pair) .result) ((c .before .before .before .args) .w .wire + levelsSpan ((c .before .before .before .args) .p) 1 ((c .before .before .before .args) .count / 2)) (levelsSpan ((c .before .before .before .args) .p) 1 ((c .before .before .before .args) .count - (c .before .before .before .args) .count / 2) + (mergeSpan ((c .before .before .before .args) .p) ((c .before .before .before .args) .count / 2) ((c .before .before .before .args) .count - (c .before .before .before .args) .count / 2) + keySpan ((c .before .before .before .args) .p)))
 low c =
     let a = (c .before .before .before .args) in
-    let q = (c .before .before .before) .pre .1 .1 in
-    let t = (c .before .before .before) .pre .1 .1 .2 in
-    stands-after (a .w) (a .table .now) _ ((c .pair) .last .1 .0) ((c .pair) .result) _ _ _ ((c .pair) .ensures) (levels-block (a .p) ((c .before .before .before) .pre .0) 1 (a .w .wire) (a .c) (a .count / 2) (q .1) (omega (arith, t)) (omega (arith, q .3)) (omega (arith, q .4)) .long)
-    (stands (a .w) (a .w .wire) _ _ refl (omega (arith, spans (c .before .before))) ((c .before .before .before) .pre .1 .0))
+    let q = (c .before .before .before) .pre in
+    let t = (c .before .before .before) .pre .some in
+    stands-after (a .w) (a .table .now) _ ((c .pair) .last .1 .0) ((c .pair) .result) _ _ _ ((c .pair) .ensures) (levels-block (a .p) ((c .before .before .before) .pre .plan) 1 (a .w .wire) (a .c) (a .count / 2) (q .levelsBelow) (omega (arith, t)) (omega (arith, q .few)) (omega (arith, q .inside)) .long)
+    (stands (a .w) (a .w .wire) _ _ refl (omega (arith, spans (c .before .before))) ((c .before .before .before) .pre .room))
 
 add-pair : tie.Need-add-pair
 add-pair c =
-    omega (arith, (c .before .before .before .before .before .before) .pre .1 .1, (c .before .before .before .before .before .before) .pre .0 .k-most)
+    omega (arith, (c .before .before .before .before .before .before) .pre)
 
 pair-requires-2 : tie.Need-pair-requires-2
 pair-requires-2 c κs =
-    let q = (c .before .before .before .before .before .before) .pre .1 .1 in
-    let t = (c .before .before .before .before .before .before) .pre .1 .1 .2 in
-    ((c .before .before .before .before .before .before) .pre .0, (room-of ((c .before .before .before .pair) .result) _ _ _ (low (c .before .before .before)) (omega arith), (q .0, omega (arith, q .1, low (c .before .before .before) .place), omega (arith, t), omega (arith, q .3), omega (arith, q .4))))
+    let q = (c .before .before .before .before .before .before) .pre in
+    let t = (c .before .before .before .before .before .before) .pre .some in
+    record {
+      plan = (c .before .before .before .before .before .before) .pre .plan;
+      room = room-of ((c .before .before .before .pair) .result) _ _ _ (low (c .before .before .before)) (omega arith);
+      spanIs = q .spanIs;
+      levelsBelow = omega (arith, q .levelsBelow, low (c .before .before .before) .place);
+      some = omega (arith, t);
+      few = omega (arith, q .few);
+      inside = omega (arith, q .inside);
+    }
 
 high : (c : tie.After-pair2) → Stands ((c .pair2) .result) ((c .before .before .before .before .before .before .before .args) .w .wire + levelsSpan ((c .before .before .before .before .before .before .before .args) .p) 1 ((c .before .before .before .before .before .before .before .args) .count / 2) + levelsSpan ((c .before .before .before .before .before .before .before .args) .p) 1 ((c .before .before .before .before .before .before .before .args) .count - (c .before .before .before .before .before .before .before .args) .count / 2)) (mergeSpan ((c .before .before .before .before .before .before .before .args) .p) ((c .before .before .before .before .before .before .before .args) .count / 2) ((c .before .before .before .before .before .before .before .args) .count - (c .before .before .before .before .before .before .before .args) .count / 2) + keySpan ((c .before .before .before .before .before .before .before .args) .p))
 high c =
     let a = (c .before .before .before .before .before .before .before .args) in
-    let q = (c .before .before .before .before .before .before .before) .pre .1 .1 in
-    let t = (c .before .before .before .before .before .before .before) .pre .1 .1 .2 in
+    let q = (c .before .before .before .before .before .before .before) .pre in
+    let t = (c .before .before .before .before .before .before .before) .pre .some in
     stands-after ((c .before .before .before .before .pair) .result) ((c .before .before .before .before .pair) .last .1 .0) _ ((c .pair2) .last .1 .0) ((c .pair2) .result) _ _ _ ((c .pair2) .ensures)
-    (levels-block (a .p) ((c .before .before .before .before .before .before .before) .pre .0) 1 ((c .before .before .before .before .pair) .result .wire) (a .c + a .count / 2) (a .count - a .count / 2) (omega (arith, q .1, low (c .before .before .before .before) .place)) (omega (arith, t)) (omega (arith, q .3)) (omega (arith, q .4)) .long) (low (c .before .before .before .before))
+    (levels-block (a .p) ((c .before .before .before .before .before .before .before) .pre .plan) 1 ((c .before .before .before .before .pair) .result .wire) (a .c + a .count / 2) (a .count - a .count / 2) (omega (arith, q .levelsBelow, low (c .before .before .before .before) .place)) (omega (arith, t)) (omega (arith, q .few)) (omega (arith, q .inside)) .long) (low (c .before .before .before .before))
 
 halves-requires : tie.Need-halves-requires
 halves-requires c κs =
     let a = (c .before .before .before .before .before .before .before .before .before .before .args) in
-    let q = (c .before .before .before .before .before .before .before .before .before .before) .pre .1 .1 in
-    let t = (c .before .before .before .before .before .before .before .before .before .before) .pre .1 .1 .2 in
+    let q = (c .before .before .before .before .before .before .before .before .before .before) .pre in
+    let t = (c .before .before .before .before .before .before .before .before .before .before) .pre .some in
     let e = low (c .before .before .before .before .before .before .before) .place in
-    let e′ = high (c .before .before .before) .place in (
-      (c .before .before .before .before .before .before .before .before .before .before) .pre .0,
-      (
-        room-of ((c .before .before .before .pair2) .result) _ _ _ (high (c .before .before .before)) (omega arith),
-        (
-          (q .0, omega (arith, q .1, e), omega (arith, e, e′), omega (arith, t), omega (arith, t), omega (arith, q .4)),
-          (λ z. omega (arith, q .1, e, span-least (a .p) 0 (a .count / 2) z), λ z. omega (arith, e, e′, span-least (a .p) 0 (a .count - a .count / 2) z)),
-        ),
-      ),
-    )
+    let e′ = high (c .before .before .before) .place in
+    record {
+      plan = (c .before .before .before .before .before .before .before .before .before .before) .pre .plan;
+      room = room-of ((c .before .before .before .pair2) .result) _ _ _ (high (c .before .before .before)) (omega arith);
+      spanIs = q .spanIs;
+      levelsBelow = omega (arith, q .levelsBelow, e);
+      middleBelow = omega (arith, e, e′);
+      firstSome = omega (arith, t);
+      secondSome = omega (arith, t);
+      inside = omega (arith, q .inside);
+      firstBelow = λ z. omega (arith, q .levelsBelow, e, span-least (a .p) 0 (a .count / 2) z);
+      secondBelow = λ z. omega (arith, e, e′, span-least (a .p) 0 (a .count - a .count / 2) z);
+    }
 
 merge-wrote : (c : tie.After-halves) → halvesMerge ((c .before .before .before .before .before .before .before .before .before .before .before .args) .p) 1 ((c .before .before .before .before .before .before .before .before .before .before .before .args) .w .wire) ((c .before .before .before .before .before .before .before .before .before .before .before .args) .c) ((c .before .before .before .before .before .before .before .before .before .before .before .args) .count) ≡ merge ((c .before .before .before .before .before .before .before .before .before .before .before .args) .p) ((c .before .before .before .before .pair2) .result .wire) (cond (leb ((c .before .before .before .before .before .before .before .before .before .before .before .args) .count / 2) 1) (keyAt ((c .before .before .before .before .before .before .before .before .before .before .before .args) .p) ((c .before .before .before .before .before .before .before .before .before .before .before .args) .c)) ((c .before .before .before .before .before .before .before .before .pair) .result .wire - keySpan ((c .before .before .before .before .before .before .before .before .before .before .before .args) .p))) (cond (leb ((c .before .before .before .before .before .before .before .before .before .before .before .args) .count - (c .before .before .before .before .before .before .before .before .before .before .before .args) .count / 2) 1) (keyAt ((c .before .before .before .before .before .before .before .before .before .before .before .args) .p) ((c .before .before .before .before .before .before .before .before .before .before .before .args) .c + (c .before .before .before .before .before .before .before .before .before .before .before .args) .count / 2)) ((c .before .before .before .before .pair2) .result .wire - keySpan ((c .before .before .before .before .before .before .before .before .before .before .before .args) .p))) (cond (leb ((c .before .before .before .before .before .before .before .before .before .before .before .args) .count / 2) 1) 0 ((c .before .before .before .before .before .before .before .before .pair) .result .wire - keySpan ((c .before .before .before .before .before .before .before .before .before .before .before .args) .p) - (c .before .before .before .before .before .before .before .before .before .before .before .args) .count / 2)) (cond (leb ((c .before .before .before .before .before .before .before .before .before .before .before .args) .count - (c .before .before .before .before .before .before .before .before .before .before .before .args) .count / 2) 1) 0 ((c .before .before .before .before .pair2) .result .wire - keySpan ((c .before .before .before .before .before .before .before .before .before .before .before .args) .p) - ((c .before .before .before .before .before .before .before .before .before .before .before .args) .count - (c .before .before .before .before .before .before .before .before .before .before .before .args) .count / 2))) ((c .before .before .before .before .before .before .before .before .before .before .before .args) .count / 2) ((c .before .before .before .before .before .before .before .before .before .before .before .args) .count - (c .before .before .before .before .before .before .before .before .before .before .before .args) .count / 2)
 merge-wrote c =
@@ -82,25 +101,37 @@ merge-wrote c =
 met : (c : tie.After-halves) → Stands ((c .halves) .result) ((c .before .before .before .before .before .before .before .before .before .before .before .args) .w .wire + levelsSpan ((c .before .before .before .before .before .before .before .before .before .before .before .args) .p) 1 ((c .before .before .before .before .before .before .before .before .before .before .before .args) .count / 2) + levelsSpan ((c .before .before .before .before .before .before .before .before .before .before .before .args) .p) 1 ((c .before .before .before .before .before .before .before .before .before .before .before .args) .count - (c .before .before .before .before .before .before .before .before .before .before .before .args) .count / 2) + mergeSpan ((c .before .before .before .before .before .before .before .before .before .before .before .args) .p) ((c .before .before .before .before .before .before .before .before .before .before .before .args) .count / 2) ((c .before .before .before .before .before .before .before .before .before .before .before .args) .count - (c .before .before .before .before .before .before .before .before .before .before .before .args) .count / 2)) (keySpan ((c .before .before .before .before .before .before .before .before .before .before .before .args) .p))
 met c =
     let a = (c .before .before .before .before .before .before .before .before .before .before .before .args) in
-    let q = (c .before .before .before .before .before .before .before .before .before .before .before) .pre .1 .1 in
+    let q = (c .before .before .before .before .before .before .before .before .before .before .before) .pre in
     stands-after ((c .before .before .before .before .pair2) .result) ((c .before .before .before .before .pair2) .last .1 .0) _ ((c .halves) .last .1 .0) ((c .halves) .result) _ _ _ ((c .halves) .ensures)
-    (sym (ap length (merge-wrote c)) ∙ halves-merge-block (a .p) ((c .before .before .before .before .before .before .before .before .before .before .before) .pre .0) 1 (a .w .wire) (a .c) (a .count) (q .1) ((c .before .before .before .before .before .before .before .before .before .before .before) .pre .1 .1 .2) (q .3) (q .4) .long) (high (c .before .before .before .before))
+    (sym (ap length (merge-wrote c)) ∙ halves-merge-block (a .p) ((c .before .before .before .before .before .before .before .before .before .before .before) .pre .plan) 1 (a .w .wire) (a .c) (a .count) (q .levelsBelow) ((c .before .before .before .before .before .before .before .before .before .before .before) .pre .some) (q .few) (q .inside) .long) (high (c .before .before .before .before))
 
 best-key-requires : tie.Need-best-key-requires
 best-key-requires c κs =
-    let q = (c .before .before .before .before .before .before .before .before .before .before .before .before .before) .pre .1 .1 in
-    let t = (c .before .before .before .before .before .before .before .before .before .before .before .before .before) .pre .1 .1 .2 in
-    ((c .before .before .before .before .before .before .before .before .before .before .before .before .before) .pre .0, (q .0, omega (arith, q .4, t), omega (arith, q .1, (c .before .before .before .before .before .before .before .before .before .before .before .before .before) .pre .1 .0 .small), λ z. omega (arith, low (c .before .before .before .before .before .before .before .before .before .before) .place, span-least ((c .before .before .before .before .before .before .before .before .before .before .before .before .before .args) .p) 0 ((c .before .before .before .before .before .before .before .before .before .before .before .before .before .args) .count / 2) z)))
+    let q = (c .before .before .before .before .before .before .before .before .before .before .before .before .before) .pre in
+    let t = (c .before .before .before .before .before .before .before .before .before .before .before .before .before) .pre .some in
+    record {
+      plan = (c .before .before .before .before .before .before .before .before .before .before .before .before .before) .pre .plan;
+      spanIs = q .spanIs;
+      inside = omega (arith, q .inside, t);
+      small = omega (arith, q .levelsBelow, (c .before .before .before .before .before .before .before .before .before .before .before .before .before) .pre .room .small);
+      keyBelow = λ z. omega (arith, low (c .before .before .before .before .before .before .before .before .before .before) .place, span-least ((c .before .before .before .before .before .before .before .before .before .before .before .before .before .args) .p) 0 ((c .before .before .before .before .before .before .before .before .before .before .before .before .before .args) .count / 2) z);
+    }
 
 add-best-key : tie.Need-add-best-key
 add-best-key c =
-    omega (arith, (c .before .before .before .before .before .before .before .before .before .before .before .before .before .before) .pre .1 .1, (c .before .before .before .before .before .before .before .before .before .before .before .before .before .before) .pre .0 .k-most)
+    omega (arith, (c .before .before .before .before .before .before .before .before .before .before .before .before .before .before) .pre)
 
 best-key-requires-2 : tie.Need-best-key-requires-2
 best-key-requires-2 c κs =
-    let q = (c .before .before .before .before .before .before .before .before .before .before .before .before .before .before) .pre .1 .1 in
-    let t = (c .before .before .before .before .before .before .before .before .before .before .before .before .before .before) .pre .1 .1 .2 in
-    ((c .before .before .before .before .before .before .before .before .before .before .before .before .before .before) .pre .0, (q .0, omega (arith, q .4, t), omega (arith, q .1, (c .before .before .before .before .before .before .before .before .before .before .before .before .before .before) .pre .1 .0 .small), λ z. omega (arith, high (c .before .before .before .before .before .before .before) .place, span-least ((c .before .before .before .before .before .before .before .before .before .before .before .before .before .before .args) .p) 0 ((c .before .before .before .before .before .before .before .before .before .before .before .before .before .before .args) .count - (c .before .before .before .before .before .before .before .before .before .before .before .before .before .before .args) .count / 2) z)))
+    let q = (c .before .before .before .before .before .before .before .before .before .before .before .before .before .before) .pre in
+    let t = (c .before .before .before .before .before .before .before .before .before .before .before .before .before .before) .pre .some in
+    record {
+      plan = (c .before .before .before .before .before .before .before .before .before .before .before .before .before .before) .pre .plan;
+      spanIs = q .spanIs;
+      inside = omega (arith, q .inside, t);
+      small = omega (arith, q .levelsBelow, (c .before .before .before .before .before .before .before .before .before .before .before .before .before .before) .pre .room .small);
+      keyBelow = λ z. omega (arith, high (c .before .before .before .before .before .before .before) .place, span-least ((c .before .before .before .before .before .before .before .before .before .before .before .before .before .before .args) .p) 0 ((c .before .before .before .before .before .before .before .before .before .before .before .before .before .before .args) .count - (c .before .before .before .before .before .before .before .before .before .before .before .before .before .before .args) .count / 2) z);
+    }
 
 sub-better : tie.Need-sub-better
 sub-better c =
@@ -113,23 +144,20 @@ sub-better-2 c =
 better-requires : tie.Need-better-requires
 better-requires c κs =
     let a = (c .before .before .before .before .before .before .before .before .before .before .before .before .before .before .before .before .before .args) in
-    let f = (c .before .before .before .before .before .before .before .before .before .before .before .before .before .before .before .before .before) .pre .0 in
-    let q = (c .before .before .before .before .before .before .before .before .before .before .before .before .before .before .before .before .before) .pre .1 .1 in
-    let t = (c .before .before .before .before .before .before .before .before .before .before .before .before .before .before .before .before .before) .pre .1 .1 .2 in
+    let f = (c .before .before .before .before .before .before .before .before .before .before .before .before .before .before .before .before .before) .pre .plan in
+    let q = (c .before .before .before .before .before .before .before .before .before .before .before .before .before .before .before .before .before) .pre in
+    let t = (c .before .before .before .before .before .before .before .before .before .before .before .before .before .before .before .before .before) .pre .some in
     let e = met (c .before .before .before .before .before .before) .place in
     let e₁ = low (c .before .before .before .before .before .before .before .before .before .before .before .before .before .before) .place in
     let e₂ = high (c .before .before .before .before .before .before .before .before .before .before) .place in
-    let n = (c .before .before .before .before .before .before .halves) .result .wire in (
-      f,
-      (
-        met (c .before .before .before .before .before .before) .left,
-        (
-          omega (arith, (c .before .before .before .best-key) .ensures, key-below (a .p) f (a .c) (a .count / 2) ((c .before .before .before .before .before .before .before .before .before .before .before .before .before .before .pair) .result .wire) n (omega (arith, q .4, t)) (omega (arith, q .1, e)) (omega (arith, e, e₁)) (λ z. omega (arith, e₁, span-least (a .p) 0 (a .count / 2) z))),
-          omega (arith, (c .before .before .best-key2) .ensures, key-below (a .p) f (a .c + a .count / 2) (a .count - a .count / 2) ((c .before .before .before .before .before .before .before .before .before .before .pair2) .result .wire) n (omega (arith, q .4, t)) (omega (arith, q .1, e)) (omega (arith, e, e₂)) (λ z. omega (arith, e₂, span-least (a .p) 0 (a .count - a .count / 2) z))),
-          omega (arith, e),
-        ),
-      ),
-    )
+    let n = (c .before .before .before .before .before .before .halves) .result .wire in
+    record {
+      plan = f;
+      room = met (c .before .before .before .before .before .before) .left;
+      firstBelow = omega (arith, (c .before .before .before .best-key) .ensures, key-below (a .p) f (a .c) (a .count / 2) ((c .before .before .before .before .before .before .before .before .before .before .before .before .before .before .pair) .result .wire) n (omega (arith, q .inside, t)) (omega (arith, q .levelsBelow, e)) (omega (arith, e, e₁)) (λ z. omega (arith, e₁, span-least (a .p) 0 (a .count / 2) z)));
+      secondBelow = omega (arith, (c .before .before .best-key2) .ensures, key-below (a .p) f (a .c + a .count / 2) (a .count - a .count / 2) ((c .before .before .before .before .before .before .before .before .before .before .pair2) .result .wire) n (omega (arith, q .inside, t)) (omega (arith, q .levelsBelow, e)) (omega (arith, e, e₂)) (λ z. omega (arith, e₂, span-least (a .p) 0 (a .count - a .count / 2) z)));
+      told = omega (arith, e);
+    }
 
 returns : tie.Need-returns
 returns c =
@@ -139,7 +167,7 @@ returns c =
     let m = a .count in
     let x = cond (leb (m / 2) 1) (keyAt p (a .c)) ((c .before .before .before .before .before .before .before .before .before .before .before .before .before .before .before .before .before .pair) .result .wire - keySpan p) in
     let e : (c .before .before .before .before .before .before .before .before .before .halves) .result .wire - m - 6 + 1 ≡ resultAt p (mergeAt p 1 n m) + 1 = omega (arith, met (c .before .before .before .before .before .before .before .before .before) .place) in
-    wrote-as (a .w) (a .table .now) _ _ _ _ (sym (levels-more p 1 m n (a .c) ((c .before .before .before .before .before .before .before .before .before .before .before .before .before .before .before .before .before .before .before .before) .pre .1 .1 .2)))
+    wrote-as (a .w) (a .table .now) _ _ _ _ (sym (levels-more p 1 m n (a .c) ((c .before .before .before .before .before .before .before .before .before .before .before .before .before .before .before .before .before .before .before .before) .pre .some)))
     (wrote-then (a .w) (a .table .now) _ ((c .before .before .before .before .before .before .before .before .before .halves) .last .1 .0) ((c .before .before .before .before .before .before .before .before .before .halves) .result) _ _ _ _
     (wrote-then (a .w) (a .table .now) _ ((c .before .before .before .before .before .before .before .before .before .before .before .before .before .pair2) .last .1 .0) ((c .before .before .before .before .before .before .before .before .before .before .before .before .before .pair2) .result) _ _ _ _
     (wrote-then (a .w) (a .table .now) _ ((c .before .before .before .before .before .before .before .before .before .before .before .before .before .before .before .before .before .pair) .last .1 .0) ((c .before .before .before .before .before .before .before .before .before .before .before .before .before .before .before .before .before .pair) .result) _ _ _ _ ((c .before .before .before .before .before .before .before .before .before .before .before .before .before .before .before .before .before .pair) .ensures) ((c .before .before .before .before .before .before .before .before .before .before .before .before .before .pair2) .ensures) (ap (λ (k : ℕ). levels p 1 k (a .c + m / 2) (m - m / 2)) (low (c .before .before .before .before .before .before .before .before .before .before .before .before .before .before .before .before .before) .place)))

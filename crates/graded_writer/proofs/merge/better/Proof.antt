@@ -11,16 +11,20 @@ use Rattle.graded_writer.proofs.merge.better.Tie as tie
 
 key-span-requires : tie.Need-key-span-requires
 key-span-requires c κs =
-    (c .before) .pre .0
+    (c .before) .pre .plan
 
 add-choose : tie.Need-add-choose
 add-choose c =
-    omega (arith, (c .before .before .before) .pre .1 .0 .small, (c .before .before .before) .pre .1 .1)
+    omega (arith, (c .before .before .before) .pre)
 
 choose-requires : tie.Need-choose-requires
 choose-requires c κs =
     let e = (c .before .key-span) .ensures in
-    (room-less ((c .before .before .before .args) .w) _ _ (omega (arith, e)) ((c .before .before .before) .pre .1 .0), (omega (arith, e, (c .before .before .before) .pre .1 .1 .0), omega (arith, e, (c .before .before .before) .pre .1 .1 .1)))
+    record {
+      room = room-less ((c .before .before .before .args) .w) _ _ (omega (arith, e)) ((c .before .before .before) .pre .room);
+      firstBelow = omega (arith, e, (c .before .before .before) .pre .firstBelow);
+      secondBelow = omega (arith, e, (c .before .before .before) .pre .secondBelow);
+    }
 
 returns : tie.Need-returns
 returns c =

@@ -23,23 +23,23 @@ loop-holds c =
     let e : a .count ≡ a .count - 0 = omega arith in (
       omega arith,
       goes-as (a .w) (a .table .now) (bothOf (a .at) (a .stays) (a .count)) (a .w) (a .table .now) _ _ (ap (λ (k : ℕ). bothOf k (a .stays) (a .count)) (sym (add-zero (a .at))) ∙ ap (bothOf (a .at + 0) (a .stays)) e)
-          (goes-start (a .w) (a .table .now) (bothOf (a .at) (a .stays) (a .count)) (a .count) ((c .before) .pre .0)),
+          (goes-start (a .w) (a .table .now) (bothOf (a .at) (a .stays) (a .count)) (a .count) ((c .before) .pre .room)),
     )
 
 add-emit : tie.Need-add-emit Inv-loop μ-loop
 add-emit c =
-    omega (arith, (c .before .before .before .before) .pre .0 .small, (c .before .before .before .before) .pre .1, (c .before .loop-test) .taken)
+    omega (arith, (c .before .before .before .before) .pre .room .small, (c .before .before .before .before) .pre .below, (c .before .loop-test) .taken)
 
 emit-requires : tie.Need-emit-requires Inv-loop μ-loop
 emit-requires c κs =
     let a = (c .before .before .before .before .args) in
     let l = (c .before .before .loop) in
     goes-room (a .w) (a .table .now) (bothOf (a .at) (a .stays) (a .count)) (l .next) (l .table) (bothOf (a .at + l .i) (a .stays) (a .count - l .i)) 1 (a .count) (l .inv .1)
-    (omega (arith, length-both (a .at + l .i) (a .stays) (a .count - l .i), (c .before .loop-test) .taken)) (omega (arith, length-both (a .at) (a .stays) (a .count))) ((c .before .before .before .before) .pre .0)
+    (omega (arith, length-both (a .at + l .i) (a .stays) (a .count - l .i), (c .before .loop-test) .taken)) (omega (arith, length-both (a .at) (a .stays) (a .count))) ((c .before .before .before .before) .pre .room)
 
 add-i : tie.Need-add-i Inv-loop μ-loop
 add-i c =
-    omega (arith, (c .before .before .before .before .loop-test) .taken, (c .before .before .before .before .before .before .before) .pre .0 .small)
+    omega (arith, (c .before .before .before .before .loop-test) .taken, (c .before .before .before .before .before .before .before) .pre .room .small)
 
 loop-less : tie.Need-loop-less Inv-loop μ-loop
 loop-less c =

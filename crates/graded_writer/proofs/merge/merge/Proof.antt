@@ -15,8 +15,14 @@ use Rattle.graded_writer.proofs.merge.merge.Tie as tie
 contest-requires : tie.Need-contest-requires
 contest-requires c κs =
     let s = (c .before .before .before) in
-    let q = s .pre .1 .1 .0 in
-    (s .pre .0, (room-less (s .args .w) _ _ (omega arith) (s .pre .1 .0), (q .0, q .1, omega (arith, (c .high-digits) .ensures, high-leaves (s .args .p) (s .args .l + s .args .m)))))
+    let q = s .pre in
+    record {
+      plan = s .pre .plan;
+      room = room-less (s .args .w) _ _ (omega arith) (s .pre .room);
+      firstBelow = q .firstBelow;
+      secondBelow = q .secondBelow;
+      cut = omega (arith, (c .high-digits) .ensures, high-leaves (s .args .p) (s .args .l + s .args .m));
+    }
 
 -- behind the contest, its verdict, and the first group
 
@@ -24,10 +30,10 @@ compared : (c : tie.After-contest) → Stands (c .contest .result) ((c .before .
 compared c =
     let s = (c .before .before .before .before) in
     let a = s .args in
-    let q = s .pre .1 .1 .0 in
+    let q = s .pre in
     stands-after (a .w) (a .table .now) _ (c .contest .last .1 .0) (c .contest .result) _ _ _ (c .contest .ensures)
-    (contest-block (a .p) (s .pre .0) (a .w .wire) (a .x) (a .y) ((c .before .high-digits) .result) (omega (arith, (c .before .high-digits) .ensures, high-leaves (a .p) (a .l + a .m))) (q .0) (q .1) .long)
-    (stands (a .w) (a .w .wire) _ _ refl (omega arith) (s .pre .1 .0))
+    (contest-block (a .p) (s .pre .plan) (a .w .wire) (a .x) (a .y) ((c .before .high-digits) .result) (omega (arith, (c .before .high-digits) .ensures, high-leaves (a .p) (a .l + a .m))) (q .firstBelow) (q .secondBelow) .long)
+    (stands (a .w) (a .w .wire) _ _ refl (omega arith) (s .pre .room))
 
 sub-q : tie.Need-sub-q
 sub-q c =
@@ -35,7 +41,10 @@ sub-q c =
 
 verdict-requires : tie.Need-verdict-requires
 verdict-requires c κs =
-    (room-of ((c .before .before .before .before .contest) .result) _ _ _ (compared (c .before .before .before .before)) (omega arith), omega (arith, compared (c .before .before .before .before) .place))
+    record {
+      room = room-of ((c .before .before .before .before .contest) .result) _ _ _ (compared (c .before .before .before .before)) (omega arith);
+      place = omega (arith, compared (c .before .before .before .before) .place);
+    }
 
 judged : (c : tie.After-verdict) → Stands (c .verdict .result) ((c .before .before .before .before .before .before .before .before .before) .args .w .wire + contestSpan ((c .before .before .before .before .before .before .before .before .before) .args .p) + 4) ((c .before .before .before .before .before .before .before .before .before) .args .l + (c .before .before .before .before .before .before .before .before .before) .args .m)
 judged c =
@@ -43,31 +52,39 @@ judged c =
 
 add-still-won : tie.Need-add-still-won
 add-still-won c =
-    omega (arith, compared (c .before .before .before .before .before .before .before .before) .place, (c .before .before .before .before .before .before .before .before .before .before .before .before) .pre .1 .0 .small)
+    omega (arith, compared (c .before .before .before .before .before .before .before .before) .place, (c .before .before .before .before .before .before .before .before .before .before .before .before) .pre .room .small)
 
 still-won-requires : tie.Need-still-won-requires
 still-won-requires c κs =
-    let q = (c .before .before .before .before .before .before .before .before .before .before .before .before) .pre .1 .1 in
+    let q = (c .before .before .before .before .before .before .before .before .before .before .before .before) .pre in
     let p = judged (c .before .before .before) .place in
-    (room-of ((c .before .before .before .verdict) .result) _ _ _ (judged (c .before .before .before)) (omega arith), (q .0 .2, λ k. let z = q .1 .0 k in omega arith))
+    record {
+      room = room-of ((c .before .before .before .verdict) .result) _ _ _ (judged (c .before .before .before)) (omega arith);
+      some = q .firstSome;
+      below = λ k. let z = q .firstWon k in omega arith;
+    }
 
 first : (c : tie.After-still-won) → Stands (c .still-won .result) ((c .before .before .before .before .before .before .before .before .before .before .before .before .before) .args .w .wire + contestSpan ((c .before .before .before .before .before .before .before .before .before .before .before .before .before) .args .p) + 4 + (c .before .before .before .before .before .before .before .before .before .before .before .before .before) .args .l) ((c .before .before .before .before .before .before .before .before .before .before .before .before .before) .args .m)
 first c =
     let a = (c .before .before .before .before .before .before .before .before .before .before .before .before .before) .args in
-    let q = (c .before .before .before .before .before .before .before .before .before .before .before .before .before) .pre .1 .1 in
+    let q = (c .before .before .before .before .before .before .before .before .before .before .before .before .before) .pre in
     let p = judged (c .before .before .before .before) .place in
     stands-after ((c .before .before .before .before .verdict) .result) ((c .before .before .before .before .verdict) .last .1 .0) _ (c .still-won .last .1 .0) (c .still-won .result) _ _ _ (c .still-won .ensures)
-    (still-won-block ((c .before .before .before .before .verdict) .result .wire) (a .u) ((c .before .before .before .before .before .before .before .before .before .contest) .result .wire - 2 + 4) (a .l) (λ k. let z = q .1 .0 k in omega arith) (omega (arith, compared (c .before .before .before .before .before .before .before .before .before) .place, p)) .long) (judged (c .before .before .before .before))
+    (still-won-block ((c .before .before .before .before .verdict) .result .wire) (a .u) ((c .before .before .before .before .before .before .before .before .before .contest) .result .wire - 2 + 4) (a .l) (λ k. let z = q .firstWon k in omega arith) (omega (arith, compared (c .before .before .before .before .before .before .before .before .before) .place, p)) .long) (judged (c .before .before .before .before))
 
 add-still-won-2 : tie.Need-add-still-won-2
 add-still-won-2 c =
-    omega (arith, compared (c .before .before .before .before .before .before .before .before .before .before .before .before) .place, (c .before .before .before .before .before .before .before .before .before .before .before .before .before .before .before .before) .pre .1 .0 .small)
+    omega (arith, compared (c .before .before .before .before .before .before .before .before .before .before .before .before) .place, (c .before .before .before .before .before .before .before .before .before .before .before .before .before .before .before .before) .pre .room .small)
 
 still-won-requires-2 : tie.Need-still-won-requires-2
 still-won-requires-2 c κs =
-    let q = (c .before .before .before .before .before .before .before .before .before .before .before .before .before .before .before .before) .pre .1 .1 in
+    let q = (c .before .before .before .before .before .before .before .before .before .before .before .before .before .before .before .before) .pre in
     let p = first (c .before .before .before) .place in
-    (first (c .before .before .before) .left, (q .0 .3, λ k. let z = q .1 .1 k in omega arith))
+    record {
+      room = first (c .before .before .before) .left;
+      some = q .secondSome;
+      below = λ k. let z = q .secondWon k in omega arith;
+    }
 
 returns : tie.Need-returns
 unfolding merge
@@ -89,11 +106,11 @@ same-length c =
 
 add-high-digits : tie.Need-add-high-digits
 add-high-digits c =
-    omega (arith, (c .before .before) .pre .1 .0 .small)
+    omega (arith, (c .before .before) .pre .room .small)
 
 high-digits-requires : tie.Need-high-digits-requires
 high-digits-requires c κs =
-    omega (arith, (c .before .before) .pre .1 .0 .small)
+    omega (arith, (c .before .before) .pre .room .small)
 
 pub merge-spec : {M : Type 1} → statement M
 merge-spec = tie.close (tie.spec add-high-digits high-digits-requires contest-requires sub-q verdict-requires add-still-won still-won-requires add-still-won-2 still-won-requires-2 same-length returns)

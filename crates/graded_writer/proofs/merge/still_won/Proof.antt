@@ -17,7 +17,7 @@ more-than-one m h e = ⊎-elim (λ (z : 1 < m). z) (λ (z : m ≤ 1). absurd (e 
 
 emit-requires : tie.Need-emit-requires
 emit-requires c κs =
-    room-less ((c .before .before .before .args) .w) _ _ (omega (arith, (c .before .before .before) .pre .1 .0)) ((c .before .before .before) .pre .0)
+    room-less ((c .before .before .before .args) .w) _ _ (omega (arith, (c .before .before .before) .pre .some)) ((c .before .before .before) .pre .room)
 
 returns : tie.Need-returns
 returns c =
@@ -26,7 +26,10 @@ returns c =
 
 both-of-requires : tie.Need-both-of-requires
 both-of-requires c κs =
-    ((c .before .before .before) .pre .0, (c .before .before .before) .pre .1 .1 (more-than-one ((c .before .before .before .args) .count) ((c .before .before .before) .pre .1 .0) ((c .before .if1) .left)))
+    record {
+      room = (c .before .before .before) .pre .room;
+      below = (c .before .before .before) .pre .below (more-than-one ((c .before .before .before .args) .count) ((c .before .before .before) .pre .some) ((c .before .if1) .left));
+    }
 
 same-length-2 : tie.Need-same-length-2
 same-length-2 c =
@@ -35,7 +38,7 @@ same-length-2 c =
 returns-2 : tie.Need-returns-2
 returns-2 c =
     let a = (c .before .before .before .before .before .before .args) in
-    wrote-as (a .w) (a .table .now) _ _ _ _ (won-many (a .at) (a .stays) (a .count) (more-than-one (a .count) ((c .before .before .before .before .before .before) .pre .1 .0) ((c .before .before .before .before .if1) .left))) ((c .before .before .both-of) .ensures)
+    wrote-as (a .w) (a .table .now) _ _ _ _ (won-many (a .at) (a .stays) (a .count) (more-than-one (a .count) ((c .before .before .before .before .before .before) .pre .some) ((c .before .before .before .before .if1) .left))) ((c .before .before .both-of) .ensures)
 
 same-length : tie.Need-same-length
 same-length c = search needs

@@ -12,19 +12,19 @@ use Rattle.graded_writer.proofs.merge.verdict.Tie as tie
 
 add-emit : tie.Need-add-emit
 add-emit c =
-    omega (arith, (c .before .before) .pre .0 .small, (c .before .before) .pre .1)
+    omega (arith, (c .before .before) .pre .room .small, (c .before .before) .pre .place)
 
 emit-requires : tie.Need-emit-requires
 emit-requires c κs =
-    room-less ((c .before .before .args) .w) _ _ (omega arith) ((c .before .before) .pre .0)
+    room-less ((c .before .before .args) .w) _ _ (omega arith) ((c .before .before) .pre .room)
 
 one : (c : tie.After-emit) → Stands ((c .emit) .result) ((c .before .before .before .args) .w .wire + 1) 3
 one c =
-    stands-after ((c .before .before .before .args) .w) ((c .before .before .before .args) .table .now) _ ((c .emit) .last .1 .0) ((c .emit) .result) _ 1 3 ((c .emit) .ensures) refl (stands ((c .before .before .before .args) .w) ((c .before .before .before .args) .w .wire) _ _ refl (omega arith) ((c .before .before .before) .pre .0))
+    stands-after ((c .before .before .before .args) .w) ((c .before .before .before .args) .table .now) _ ((c .emit) .last .1 .0) ((c .emit) .result) _ 1 3 ((c .emit) .ensures) refl (stands ((c .before .before .before .args) .w) ((c .before .before .before .args) .w .wire) _ _ refl (omega arith) ((c .before .before .before) .pre .room))
 
 add-emit-2 : tie.Need-add-emit-2
 add-emit-2 c =
-    omega (arith, (c .before .before .before .before .before .before) .pre .0 .small, (c .before .before .before .before .before .before) .pre .1)
+    omega (arith, (c .before .before .before .before .before .before) .pre .room .small, (c .before .before .before .before .before .before) .pre .place)
 
 emit-requires-2 : tie.Need-emit-requires-2
 emit-requires-2 c κs =
@@ -36,7 +36,7 @@ two c =
 
 add-emit-3 : tie.Need-add-emit-3
 add-emit-3 c =
-    omega (arith, (c .before .before .before .before .before .before .before .before .before .before) .pre .0 .small, (c .before .before .before .before .before .before .before .before .before .before) .pre .1)
+    omega (arith, (c .before .before .before .before .before .before .before .before .before .before) .pre .room .small, (c .before .before .before .before .before .before .before .before .before .before) .pre .place)
 
 emit-requires-3 : tie.Need-emit-requires-3
 emit-requires-3 c κs =
@@ -44,7 +44,7 @@ emit-requires-3 c κs =
 
 add-emit-4 : tie.Need-add-emit-4
 add-emit-4 c =
-    omega (arith, (c .before .before .before .before .before .before .before .before .before .before .before .before .before .before) .pre .0 .small, (c .before .before .before .before .before .before .before .before .before .before .before .before .before .before) .pre .1)
+    omega (arith, (c .before .before .before .before .before .before .before .before .before .before .before .before .before .before) .pre .room .small, (c .before .before .before .before .before .before .before .before .before .before .before .before .before .before) .pre .place)
 
 emit-requires-4 : tie.Need-emit-requires-4
 emit-requires-4 c κs =

@@ -1,4 +1,4 @@
--- `jury::ballots::first_bad_row` meets its contract: testing the rows from here is testing all from the start.
+-- `jury::ballots::first_bad_row` meets its contract: testing the rows from here on is testing all of them.
 -- Assumes nothing.
 use mathlib.Core.Path.{_≡_, _∙_, sym, ap}
 use mathlib.Core.List.{List}
@@ -28,7 +28,7 @@ loop-holds c = (
   ap (λ (n : ℕ). firstBadRow 0 (rowsOf (c .before .args .d) n (c .before .args .bytes .now))) (sub-zero (c .before .args .rows)),
 )
 
--- the row of a turn lies within the bytes
+-- a turn's row lies within the bytes
 end-within : (c : tie.In-loop Inv-loop μ-loop) →
     c .before .loop .at + c .before .before .before .args .d ≤ length (c .before .before .before .args .bytes .now)
 end-within c =
@@ -52,7 +52,7 @@ ones-in-requires : tie.Need-ones-in-requires Inv-loop μ-loop
 ones-in-requires c κs =
     let at = c .before .before in
     let start = at .before .before in
-    λ i l. part-bits (start .args .bytes .now) (at .loop .at) (at .loop .at + start .args .d - at .loop .at) i (start .pre .1) l
+    λ i l. part-bits (start .args .bytes .now) (at .loop .at) (at .loop .at + start .args .d - at .loop .at) i (start .pre .bits) l
 
 -- what the call counts
 counted : (c : tie.After-ones-in Inv-loop μ-loop) →

@@ -25,7 +25,7 @@ shared-slice-read-wide c = omega arith
 wide-requires : tie.Need-wide-requires Inv-loop μ-loop
 wide-requires c κs = tt
 
--- the byte of a turn, which is a bit
+-- a turn's byte, which is a bit
 bit : (c : tie.After-wide Inv-loop μ-loop) → let at = c .before .before .before in let xs = at .before .before .args .bytes .now in
     (at .loop .i < length xs) × (c .wide .result ≡ getD xs (at .loop .i) 0) × (c .wide .result ≤ 1)
 bit c =

@@ -1,4 +1,5 @@
--- `jury::ballots::test` meets its contract: each answer is the definition's at the outcomes of the tests that led there.
+-- `jury::ballots::test` meets its contract: each answer is the definition's for the outcomes of the tests that led
+-- there.
 -- Assumes nothing.
 use mathlib.Core.Path.{_≡_, _∙_, refl, sym}
 use mathlib.Core.Bool.{true, false}
@@ -28,7 +29,7 @@ returns c =
     let xs = start .args .ballots .now in
     sym (judged-by s xs false (firstAboveOne 0 xs) (kindReason s xs) (ne-eqb (length xs) (ballotBytes s) (λ e. c .if1 .taken (e ∙ sym (c .before .ballot-bytes .ensures)))) refl refl)
 
--- the length is as it must be
+-- the length is right
 size-known : (c : tie.Else1) → length (c .before .before .before .args .ballots .now) ≡ ballotBytes (c .before .before .before .args .shape)
 size-known c = c .if1 .left ∙ c .before .ballot-bytes .ensures
 
@@ -81,7 +82,10 @@ test-grades-requires c κs =
     let start = passed .before .before .before in
     let s = start .args .shape in
     let graded = ranking (c .before) ∙ c .if2 .left in
-    ((true-T (gradedLimits s) (graded-kind s (T-true (withinLimits s) (start .pre)) graded), size-known passed ∙ grades-columns s graded), all-bits 0 (start .args .ballots .now) (no-byte told))
+    record {
+      sized = record { within = true-T (gradedLimits s) (graded-kind s (T-true (withinLimits s) (start .pre)) graded); size = size-known passed ∙ grades-columns s graded };
+      bits = all-bits 0 (start .args .ballots .now) (no-byte told);
+    }
 
 returns-3 : tie.Need-returns-3
 returns-3 c =

@@ -1,4 +1,4 @@
--- `jury::ballots::test_grades` meets its contract: the answer is the definition's at the outcome of the search.
+-- `jury::ballots::test_grades` meets its contract: the answer is the definition's for what the search found.
 -- Assumes nothing.
 use mathlib.Core.Path.{_∙_, sym, ap}
 use mathlib.Core.List.{[], _∷_}
@@ -14,7 +14,7 @@ use Rattle.jury.proofs.ballots.test_grades.Tie as tie
 mul-first-bad-row : tie.Need-mul-first-bad-row
 mul-first-bad-row c =
     let start = c .before .before in
-    omega (arith, rows-bound (start .args .shape) (within-T (start .args .shape) (start .pre .0 .0)))
+    omega (arith, rows-bound (start .args .shape) (within-T (start .args .shape) (start .pre .sized .within)))
 
 first-bad-row-requires : tie.Need-first-bad-row-requires
 first-bad-row-requires c κs = search needs

@@ -1,4 +1,4 @@
--- `jury::ballots::test_rankings` meets its contract: each answer is the definition's at the outcomes of the searches that led there.
+-- `jury::ballots::test_rankings` meets its contract: each answer is the definition's for what the searches found.
 -- Assumes nothing.
 use mathlib.Core.Path.{_≡_, _∙_, sym, ap}
 use mathlib.Core.Option.{Option}
@@ -31,7 +31,7 @@ returns c =
 enum-told : tie.Need-enum-told
 enum-told c = search needs
 
--- no byte clashes
+-- 11 found nothing
 no-clash : (c : tie.After-enum-told) → let a = c .before .before .before .before .args in firstNotAsymmetric (a .shape .candidates) (a .shape .ballots) (a .ballots .now) ≡ Nowhere
 no-clash c = sym (c .before .before .first-not-asymmetric .ensures) ∙ c .enum-told .given .1
 

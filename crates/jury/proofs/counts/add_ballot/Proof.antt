@@ -1,4 +1,5 @@
--- `jury::counts::add_ballot` meets its contract: below c the rows have the ballot's rows added, and from c on they are as they came.
+-- `jury::counts::add_ballot` meets its contract: the rows below c have the ballot's rows added, the others are
+-- unchanged.
 -- Assumes nothing.
 use mathlib.Core.Path.{_≡_, _∙_, sym, ap}
 use mathlib.Core.List.{List, []}
@@ -33,10 +34,10 @@ loop-holds c =
       omega arith,
       omega (arith, zero-mul (start .args .d)),
       sym (fill-start 8 (new (start .args .d) (start .args .counts .now) (start .args .ballot .now)) (old (start .args .counts .now))
-          ∙ tabulate-getD (start .args .counts .now) 8 [] (start .pre .1 .rows)),
+          ∙ tabulate-getD (start .args .counts .now) 8 [] (start .pre .array .rows)),
     )
 
--- the row of a turn lies within the ballot
+-- a turn's row lies within the ballot
 end-within : (c : tie.In-loop Inv-loop μ-loop) →
     c .before .loop .at + c .before .before .before .args .d ≤ length (c .before .before .before .args .ballot .now)
 end-within c =
@@ -75,13 +76,12 @@ add-row-requires : tie.Need-add-row-requires Inv-loop μ-loop
 add-row-requires c κs =
     let turn = c .before .before in
     let start = turn .before .before .before in
-    let columns = start .pre .1 .columns (turn .before .loop .c) (omega arith) in (
-      (
-        rw (found turn) columns,
-        omega (arith, length-take (turn .before .loop .at + start .args .d - turn .before .loop .at) (drop (turn .before .loop .at) (start .args .ballot .now))),
-      ),
-      λ g. rw (found turn) (start .pre .1 .small (turn .before .loop .c) g),
-    )
+    let columns = start .pre .array .columns (turn .before .loop .c) (omega arith) in
+    record {
+      seven = rw (found turn) columns;
+      short = omega (arith, length-take (turn .before .loop .at + start .args .d - turn .before .loop .at) (drop (turn .before .loop .at) (start .args .ballot .now)));
+      small = λ g. rw (found turn) (start .pre .array .small (turn .before .loop .c) g);
+    }
 
 add-c : tie.Need-add-c Inv-loop μ-loop
 add-c c = omega arith

@@ -1,4 +1,4 @@
--- `jury::counts::add_row` meets its contract: below g the counts have their bytes added, and from g on they are as they came.
+-- `jury::counts::add_row` meets its contract: the counts below g have their bytes added, the others are unchanged.
 -- Assumes nothing.
 use mathlib.Core.Path.{_≡_, _∙_, sym, ap}
 use mathlib.Core.List.{List}
@@ -27,7 +27,7 @@ abbrev μ-loop : tie.MeasureT-loop
 loop-holds : tie.Need-loop-holds Inv-loop μ-loop
 loop-holds c = (
   omega arith,
-  sym (fill-start 7 (new (c .args .counts .now) (c .args .row .now)) (old (c .args .counts .now)) ∙ tabulate-getD (c .args .counts .now) 7 0 (c .pre .0 .0)),
+  sym (fill-start 7 (new (c .args .counts .now) (c .args .row .now)) (old (c .args .counts .now)) ∙ tabulate-getD (c .args .counts .now) 7 0 (c .pre .seven)),
 )
 
 shared-slice-read-counts : tie.Need-shared-slice-read-counts Inv-loop μ-loop
@@ -53,7 +53,7 @@ found c =
 add-counts : tie.Need-add-counts Inv-loop μ-loop
 add-counts c =
     let g = c .before .before .before .loop .g in
-    omega (arith, found (c .before), c .before .shared-slice-known .given g, c .before .before .before .before .pre .1 g)
+    omega (arith, found (c .before), c .before .shared-slice-known .given g, c .before .before .before .before .pre .small g)
 
 element-write-counts : tie.Need-element-write-counts Inv-loop μ-loop
 element-write-counts c = omega arith

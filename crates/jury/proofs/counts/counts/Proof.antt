@@ -33,7 +33,7 @@ loop-holds c =
     let w = within s (c .before .pre .within) in
     (omega (arith, w .n-least), omega (arith, zero-mul (s .candidates * s .grades)), sym (array-start s (c .before .args .ballots .now)))
 
--- the ballot of a turn lies within the ballots
+-- a turn's ballot lies within the ballots
 end-within : (c : tie.In-loop Inv-loop μ-loop) →
     c .before .loop .at + c .before .before .before .args .shape .candidates * c .before .before .before .args .shape .grades ≤ length (c .before .before .before .args .ballots .now)
 end-within c =
@@ -71,10 +71,13 @@ add-ballot-requires c κs =
     let s = start .args .shape in
     let xs = start .args .ballots .now in
     let w = within s (start .pre .within) in
-    let size = s .candidates * s .grades in (
-      (w .k-most, w .d-most, omega (arith, end-within turn, length-take (at .loop .at + size - at .loop .at) (drop (at .loop .at) xs), length-drop (at .loop .at) xs)),
-      rw (at .loop .inv .2) (array-eight-by-seven s xs (at .loop .b) (omega (arith, w .n-most))),
-    )
+    let size = s .candidates * s .grades in
+    record {
+      fewRows = w .k-most;
+      fewColumns = w .d-most;
+      size = omega (arith, end-within turn, length-take (at .loop .at + size - at .loop .at) (drop (at .loop .at) xs), length-drop (at .loop .at) xs);
+      array = rw (at .loop .inv .2) (array-eight-by-seven s xs (at .loop .b) (omega (arith, w .n-most)));
+    }
 
 add-b : tie.Need-add-b Inv-loop μ-loop
 add-b c = omega arith
@@ -108,7 +111,10 @@ returns c =
     let s = start .args .shape in
     let xs = start .args .ballots .now in
     let e = at .loop .inv .2 ∙ ap (arrayAfter s xs) {x = at .loop .b} {y = s .ballots} (omega arith) ∙ array-end s xs in
-    (e, λ i h. ap (λ (m : List (List ℕ)). sum (getD (rowsIn (s .candidates) (s .grades) m) i [])) e ∙ array-sum s xs (start .pre) i h)
+    record {
+      array = e;
+      addUp = λ i h. ap (λ (m : List (List ℕ)). sum (getD (rowsIn (s .candidates) (s .grades) m) i [])) e ∙ array-sum s xs (start .pre) i h;
+    }
 
 pub counts-spec : {M : Type 1} → statement M
 counts-spec =

@@ -1,4 +1,4 @@
--- `jury::rankings::first_not_asymmetric` meets its contract: no ballot before b has a byte that clashes.
+-- `jury::rankings::first_not_asymmetric` meets its contract: the ballots before b are asymmetric.
 -- Assumes nothing.
 use mathlib.Core.Path.{_≡_, _∙_, refl, sym, ap}
 use Prim.Native.Nat.{ℕ, _-_, _≤_}

@@ -1,4 +1,4 @@
--- `jury::rankings::first_not_weak_order` meets its contract: no ballot before b has a gap.
+-- `jury::rankings::first_not_weak_order` meets its contract: the ballots before b are weak orders.
 -- Assumes nothing.
 use mathlib.Core.Path.{_≡_, _∙_, refl, sym, ap}
 use mathlib.Core.Bool.{Bool, cond}

@@ -14,7 +14,7 @@ use Rattle.jury.proofs.Searches.{some-later, some-here}
 use Rattle.jury.proofs.rankings.is_apart.Statement.{statement}
 use Rattle.jury.proofs.rankings.is_apart.Tie as tie
 
--- l stands neither behind i nor before j
+-- l is not after i and not before j
 abbrev test : ℕ → List ℕ → ℕ → ℕ → ℕ → ℕ → Bool
 test k xs b i j l = not (before k xs b i l) && not (before k xs b l j)
 

@@ -1,4 +1,4 @@
--- `jury::rankings::not_asymmetric_in_ballot` meets its contract: no row before i has a byte that clashes.
+-- `jury::rankings::not_asymmetric_in_ballot` meets its contract: no byte in the rows before i is 1 with its opposite.
 -- Assumes nothing.
 use mathlib.Core.Path.{_≡_, _∙_, refl, sym, ap}
 use Prim.Native.Nat.{ℕ, _-_, _≤_}

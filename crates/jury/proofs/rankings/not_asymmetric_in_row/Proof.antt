@@ -1,4 +1,4 @@
--- `jury::rankings::not_asymmetric_in_row` meets its contract: no byte of the row before j clashes.
+-- `jury::rankings::not_asymmetric_in_row` meets its contract: no byte of the row before j is 1 with its opposite.
 -- Assumes nothing.
 use mathlib.Core.Path.{_≡_, _∙_, refl, sym, ap}
 use mathlib.Core.Logic.{⊎-elim}

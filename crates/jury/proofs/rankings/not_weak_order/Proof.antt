@@ -1,4 +1,4 @@
--- `jury::rankings::not_weak_order` meets its contract: no candidate below i has a gap after it.
+-- `jury::rankings::not_weak_order` meets its contract: the test fails for every candidate below i.
 -- Assumes nothing.
 use mathlib.Core.Path.{_≡_, _∙_, refl, sym, ap}
 use mathlib.Core.Bool.{false}

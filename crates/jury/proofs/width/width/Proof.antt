@@ -1,4 +1,4 @@
--- `jury::width::width` meets its contract: the digits counted so far and the width of what is left are the width of all.
+-- `jury::width::width` meets its contract: the digits counted so far plus the width of the rest are the whole width.
 -- Assumes nothing.
 use mathlib.Core.Path.{_≡_, ap}
 use Prim.Native.Nat.{ℕ, _+_, _/_, _<_}

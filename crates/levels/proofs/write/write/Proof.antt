@@ -1,4 +1,4 @@
--- `levels::write::write` meets its contract: the list is tested first, then the table's length, and nothing is written before.
+-- `levels::write::write` meets its contract: it tests the list, then the table's length, and writes only after that.
 -- Assumes nothing.
 use borrow.Author.Needs.{needs}
 use mathlib.Core.Path.{_≡_, _∙_, sym, ap}
@@ -12,7 +12,7 @@ use Rattle.basics.proofs.Flags.{true-T}
 use Rattle.tally.specs.Answer.{accepted, outcomeOf}
 use Rattle.tally.proofs.TestReasons.{test-passed}
 use Rattle.levels.specs.Answer.{levelReasonOf, depthsOutcome}
-use Rattle.levels.proofs.Reasons.{ListFacts, list-facts, of-list, other-length, all-pass, call-refused, call-accepted, depths-are}
+use Rattle.levels.proofs.Reasons.{ListFacts, list-facts, of-list, other-length, all-pass, call-refused, call-accepted, depths-are, same-result}
 use Rattle.levels.proofs.write.write.Statement.{statement}
 use Rattle.levels.proofs.write.write.Tie as tie
 
@@ -72,10 +72,10 @@ returns-3 c =
     let a = else .before .before .before .before .before .before .before .args in
     let f = facts (else .before .before) in
     let inputs = asked .ballot-bytes .ensures in
-    let e = call-accepted (a .shape) (a .table .now) (a .levels .now) (all-pass (a .shape) (a .table .now) (a .levels .now) (f .reasons) (long else)) in (
-      ap accepted (depths-are (ballotBytes (a .shape)) (a .table .now) _ _ _ (f .gates-are) (f .conditional-are) (done .write .ensures .0 ∙ ap (λ (n : ℕ). roundsOf n (gatesOf (a .table .now))) inputs)) ∙ e .0,
-      done .write .ensures .1 ∙ ap (λ (n : ℕ). levelsOf n (gatesOf (a .table .now))) inputs ∙ e .1,
-    )
+    same-result
+    (ap accepted (depths-are (ballotBytes (a .shape)) (a .table .now) _ _ _ (f .gates-are) (f .conditional-are) (done .write .ensures .rounds ∙ ap (λ (n : ℕ). roundsOf n (gatesOf (a .table .now))) inputs)))
+    (done .write .ensures .levels ∙ ap (λ (n : ℕ). levelsOf n (gatesOf (a .table .now))) inputs)
+    ∙ call-accepted (a .shape) (a .table .now) (a .levels .now) (all-pass (a .shape) (a .table .now) (a .levels .now) (f .reasons) (long else))
 
 pub write-spec : {M : Type 1} → statement M
 write-spec =

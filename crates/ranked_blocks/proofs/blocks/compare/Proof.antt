@@ -35,11 +35,13 @@ compare-words-requires : tie.Need-compare-words-requires
 compare-words-requires c κs =
     let a = (c .before .before .before .before .before .before .args) in
     let e = lowest (c .before .before .before) in
-    let n = (c .before .before .before .first-digit) .result .wire in (
-      room-behind (a .w) (a .table .now) _ ((c .before .before .before .first-digit) .last .1 .0) ((c .before .before .before .first-digit) .result) 3 _ _ ((c .before .before .before .first-digit) .ensures) (length-first-digit (a .w .wire) (a .x) (a .y))
-          (omega (arith, length-compare n (a .x + 1) (a .y + 1) (a .w .wire + 1) (a .w .wire + 2) (a .digits))) ((c .before .before .before .before .before .before .pre) .0),
-      (omega (arith, (c .before .before .before .before .before .before .pre) .1), omega (arith, (c .before .before .before .before .before .before .pre) .1)),
-    )
+    let n = (c .before .before .before .first-digit) .result .wire in
+    record {
+      room = room-behind (a .w) (a .table .now) _ ((c .before .before .before .first-digit) .last .1 .0) ((c .before .before .before .first-digit) .result) 3 _ _ ((c .before .before .before .first-digit) .ensures) (length-first-digit (a .w .wire) (a .x) (a .y))
+          (omega (arith, length-compare n (a .x + 1) (a .y + 1) (a .w .wire + 1) (a .w .wire + 2) (a .digits))) ((c .before .before .before .before .before .before .pre) .0);
+      firstBelow = omega (arith, (c .before .before .before .before .before .before .pre) .1);
+      secondBelow = omega (arith, (c .before .before .before .before .before .before .pre) .1);
+    }
 
 returns : tie.Need-returns
 unfolding compare

@@ -50,10 +50,12 @@ choose-requires : tie.Need-choose-requires
 choose-requires c κs =
     let a = (c .before .before .before .before .before .before .before .before .before .before .before .before .before .args) in
     let e = told (c .before .before .before .before .before .before .before) in
-    let one = (c .before .before .before .emit) .ensures .wires in (
-      room-behind ((c .before .before .before .before .before .before .before .order) .result) ((c .before .before .before .before .before .before .before .order) .last .1 .0) _ ((c .before .before .before .emit) .last .1 .0) ((c .before .before .before .emit) .result) 1 _ _ ((c .before .before .before .emit) .ensures) refl (omega arith) (room (c .before .before .before .before .before .before .before)),
-      (omega (arith, (c .before .before .before .before .before .before .before .before .before .before .before .before .before .pre) .1), omega (arith, (c .before .before .before .before .before .before .before .before .before .before .before .before .before .pre) .1)),
-    )
+    let one = (c .before .before .before .emit) .ensures .wires in
+    record {
+      room = room-behind ((c .before .before .before .before .before .before .before .order) .result) ((c .before .before .before .before .before .before .before .order) .last .1 .0) _ ((c .before .before .before .emit) .last .1 .0) ((c .before .before .before .emit) .result) 1 _ _ ((c .before .before .before .emit) .ensures) refl (omega arith) (room (c .before .before .before .before .before .before .before));
+      firstBelow = omega (arith, (c .before .before .before .before .before .before .before .before .before .before .before .before .before .pre) .1);
+      secondBelow = omega (arith, (c .before .before .before .before .before .before .before .before .before .before .before .before .before .pre) .1);
+    }
 
 end-is : (n x w end : ℕ) → end ≡ chainEnd (n + w) x w → end ≡ orderEnd n x w
 end-is n x w end e = unfold orderEnd in e

@@ -31,10 +31,12 @@ add-choose c = search needs
 choose-requires : tie.Need-choose-requires
 choose-requires c κs =
     let a = (c .before .before .before .before .before .before .before .before .args) in
-    let e = told (c .before .before .before) in (
-      room-behind (a .w) (a .table .now) _ ((c .before .before .before .order) .last .1 .0) ((c .before .before .before .order) .result) (2 * a .digits) _ _ ((c .before .before .before .order) .ensures) (length-order (a .w .wire) (a .x) (a .y) (a .digits)) (omega arith) ((c .before .before .before .before .before .before .before .before .pre) .0),
-      (omega (arith, (c .before .before .before .before .before .before .before .before .pre) .1 .1), omega (arith, (c .before .before .before .before .before .before .before .before .pre) .1 .1)),
-    )
+    let e = told (c .before .before .before) in
+    record {
+      room = room-behind (a .w) (a .table .now) _ ((c .before .before .before .order) .last .1 .0) ((c .before .before .before .order) .result) (2 * a .digits) _ _ ((c .before .before .before .order) .ensures) (length-order (a .w .wire) (a .x) (a .y) (a .digits)) (omega arith) ((c .before .before .before .before .before .before .before .before .pre) .0);
+      firstBelow = omega (arith, (c .before .before .before .before .before .before .before .before .pre) .1 .1);
+      secondBelow = omega (arith, (c .before .before .before .before .before .before .before .before .pre) .1 .1);
+    }
 
 -- the last wire of the order
 end-is : (n x w end : ℕ) → end ≡ chainEnd (n + w) x w → end ≡ orderEnd n x w

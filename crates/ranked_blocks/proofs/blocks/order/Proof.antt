@@ -31,10 +31,12 @@ add-above c = search needs
 above-requires : tie.Need-above-requires
 above-requires c κs =
     let a = (c .before .before .before .before .before .before .args) in
-    let e = differ (c .before .before .before) in (
-      room-behind (a .w) (a .table .now) _ ((c .before .before .before .differences) .last .1 .0) ((c .before .before .before .differences) .result) (a .digits) (a .digits) _ ((c .before .before .before .differences) .ensures) (length-differences (a .x + 1) (a .y + 1) (a .digits)) (omega arith) ((c .before .before .before .before .before .before .pre) .0),
-      (omega (arith, (c .before .before .before .before .before .before .pre) .1), omega (arith, (c .before .before .before .before .before .before .pre) .1)),
-    )
+    let e = differ (c .before .before .before) in
+    record {
+      room = room-behind (a .w) (a .table .now) _ ((c .before .before .before .differences) .last .1 .0) ((c .before .before .before .differences) .result) (a .digits) (a .digits) _ ((c .before .before .before .differences) .ensures) (length-differences (a .x + 1) (a .y + 1) (a .digits)) (omega arith) ((c .before .before .before .before .before .before .pre) .0);
+      firstBelow = omega (arith, (c .before .before .before .before .before .before .pre) .1);
+      secondBelow = omega (arith, (c .before .before .before .before .before .before .pre) .1);
+    }
 
 returns : tie.Need-returns
 unfolding order

@@ -1,123 +1,159 @@
 -- `ranked_blocks::entries::links_entry` meets its contract: a comparison for the later candidate, whose last two wires are kept.
 -- Assumes nothing.
-use mathlib.Core.Path.{_≡_, sym, ap}
-use mathlib.Core.Bool.{Bool, cond}
-use mathlib.Core.List.{List, []}
+use mathlib.Core.Path.{_≡_}
+use mathlib.Core.Bool.{true, _&&_}
+use mathlib.Core.List.{[]}
 use Prim.Native.Nat.{ℕ, _+_, _-_, _*_, _/_, _%_, _≤_, _<_}
 use native.Mathlib.Omega.{arith}
 use borrow.Author.Needs.{needs}
-use lib.ListN.{set, length-set}
-use borrow.Author.Tests.{lt-ltb, le-ltb}
+use lib.Dec.{leb, ltb}
+use lib.ListN.{length-set}
+use borrow.Author.Tests.{le-leb, lt-leb}
 use Rattle.gate_words.proofs.Writing.{room-less, wrote-nothing, wrote-as}
-use Rattle.ranked_circuit.specs.Blocks.{compare}
 use Rattle.ranked_circuit.proofs.BlockLaws.{length-whole}
-use Rattle.ranked_circuit.proofs.StageLaws.{links-length}
-use Rattle.ranked_blocks.specs.Ranked.{keptOf, keepLinks}
-use Rattle.ranked_blocks.proofs.Entering.{Place, place, index-small, links-kept, links-moved}
+use Rattle.ranked_blocks.specs.Ranked.{keptOf}
+use Rattle.ranked_blocks.proofs.Entering.{Place, place, index-small, not-later, no-row, a-row, same-links, new-links, links-kept, links-moved, links-long}
 use Rattle.ranked_blocks.proofs.entries.links_entry.Statement.{statement}
 use Rattle.ranked_blocks.proofs.entries.links_entry.Tie as tie
 
+-- the start; after the tests, after the block, and after the first of its wires was kept
+abbrev start : tie.Else2 → tie.Start
+start c = c .before .before .before .before .before
+
+abbrev tested : tie.After-compare → tie.Else2
+tested c = c .before .before .before .before
+
+abbrev made : tie.After-struct-known → tie.After-compare
+made c = c .before .before .before
+
+-- what is known once the tests are passed: row and column, the row being the later and having a block
+pub record Facts (k e first : ℕ) : Type 0 where
+  pub here : Place k e
+  pub later : e % k < e / k
+  pub row : (ltb (e % k) (e / k) && leb first (e / k)) ≡ true
+  pub index : e / k * k + e % k < 64
+  pub index-back : e % k * k + e / k < 64
+
+facts : (c : tie.Else2) → Facts (start c .args .p .candidates) (start c .args .e) (start c .args .first)
+facts c =
+    let s = start c in
+    let k = s .args .p .candidates in
+    let e = s .args .e in
+    let most = s .pre .kept .ranked .k-most in
+    let t = place k e most (s .pre .number) in
+    let l : e % k < e / k = omega (arith, c .before .if1 .left) in
+    record {
+      here = t;
+      later = l;
+      row = a-row (leb (s .args .first)) (e / k) (e % k) l (le-leb (s .args .first) (e / k) (omega (arith, c .if2 .left)));
+      index = index-small k (e / k) (e % k) most (t .row) (t .column);
+      index-back = index-small k (e % k) (e / k) most (t .column) (t .row);
+    }
+
 div-i : tie.Need-div-i
-div-i c = omega (arith, (c .before .before .before .pre) .0 .k-least)
+div-i c = omega (arith, c .before .before .before .pre .kept .ranked .k-least)
 
 rem-j : tie.Need-rem-j
-rem-j c = omega (arith, (c .before .before .before .pre) .0 .k-least)
-
-same-links : (ls : List ℕ) (k i j wire : ℕ) → i ≤ j → ls ≡ keepLinks ls k i j wire
-same-links ls k i j wire l = sym (ap (λ (t : Bool). cond t (set (set ls (i * k + j) (wire - 2)) (j * k + i) (wire - 1)) ls) (le-ltb j i l))
-
-new-links : (ls : List ℕ) (k i j wire : ℕ) → j < i → set (set ls (i * k + j) (wire - 2)) (j * k + i) (wire - 1) ≡ keepLinks ls k i j wire
-new-links ls k i j wire l = sym (ap (λ (t : Bool). cond t (set (set ls (i * k + j) (wire - 2)) (j * k + i) (wire - 1)) ls) (lt-ltb j i l))
+rem-j c = omega (arith, c .before .before .before .pre .kept .ranked .k-least)
 
 returns : tie.Need-returns
 returns c =
-    let a = (c .before .before .before .before .args) in
-    let k = a .p .candidates in (
-      wrote-as (a .w) (a .table .now) [] _ (a .table .now) (a .w) (links-kept (keptOf (a .words .now) k) (a .p .digits) (a .w .wire) (a .e / k) (a .e % k) ((c .if1) .taken)) (wrote-nothing (a .w) (a .table .now)),
-      same-links (a .links .now) k (a .e / k) (a .e % k) (a .w .wire) ((c .if1) .taken),
-    )
-
--- row and column, the row being the later
-at : (c : tie.Else1) → Place ((c .before .before .before .before .args) .p .candidates) ((c .before .before .before .before .args) .e) × ((c .before .before .before .before .args) .e % (c .before .before .before .before .args) .p .candidates < (c .before .before .before .before .args) .e / (c .before .before .before .before .args) .p .candidates)
-at c = (place ((c .before .before .before .before .args) .p .candidates) ((c .before .before .before .before .args) .e) ((c .before .before .before .before .pre) .0 .k-most) ((c .before .before .before .before .pre) .1 .1 .0 .0), omega (arith, (c .if1) .left))
-
-kept-requires : tie.Need-kept-requires
-kept-requires c κs = let t = at (c .before) in ((c .before .before .before .before .before .pre) .0 .k-most, t .0 .row, t .0 .column, (c .before .before .before .before .before .pre) .1 .1 .0 .1)
-
-kept-requires-2 : tie.Need-kept-requires-2
-kept-requires-2 c κs = let t = at (c .before .before) in ((c .before .before .before .before .before .before .pre) .0 .k-most, t .0 .column, t .0 .row, (c .before .before .before .before .before .before .pre) .1 .1 .0 .1)
-
-compare-requires : tie.Need-compare-requires
-compare-requires c κs =
-    let a = (c .before .before .before .before .before .before .before .args) in
+    let a = c .before .before .before .before .args in
     let k = a .p .candidates in
-    let t = at (c .before .before .before) in
-    let b = (c .before .before .before .before .before .before .before .pre) .1 .1 .1 in (
-      room-less (a .w) _ _ (omega (arith, links-length (keptOf (a .words .now) k) (a .p .digits) (a .w .wire) (a .e / k) (a .e % k) (t .1))) ((c .before .before .before .before .before .before .before .pre) .1 .0),
-      (
-        omega (arith, b (a .e / k) (a .e % k) (t .0 .row) (t .0 .column) (λ z. omega (arith, t .1)), (c .before .kept) .ensures),
-        omega (arith, b (a .e % k) (a .e / k) (t .0 .column) (t .0 .row) (λ z. omega (arith, t .1)), (c .kept2) .ensures),
-      ),
-    )
-
-ended : (c : tie.After-compare) → 2 ≤ (c .compare) .result .wire
-ended c = let a = (c .before .before .before .before .before .before .before .before .args) in omega (arith, (c .compare) .ensures .wires, length-whole (a .w .wire) ((c .before .before .kept) .result) ((c .before .kept2) .result) (a .p .digits))
-
-low : (c : tie.Else1) → ((c .before .before .before .before .args) .e / (c .before .before .before .before .args) .p .candidates * (c .before .before .before .before .args) .p .candidates + (c .before .before .before .before .args) .e % (c .before .before .before .before .args) .p .candidates < 64) × ((c .before .before .before .before .args) .e % (c .before .before .before .before .args) .p .candidates * (c .before .before .before .before .args) .p .candidates + (c .before .before .before .before .args) .e / (c .before .before .before .before .args) .p .candidates < 64)
-low c =
-    let k = (c .before .before .before .before .args) .p .candidates in
-    let e = (c .before .before .before .before .args) .e in
-    let t = at (c) in
-    (index-small k (e / k) (e % k) ((c .before .before .before .before .pre) .0 .k-most) (t .0 .row) (t .0 .column), index-small k (e % k) (e / k) ((c .before .before .before .before .pre) .0 .k-most) (t .0 .column) (t .0 .row))
-
-sub-links : tie.Need-sub-links
-sub-links c = omega (arith, ended (c .before .before .before))
-
-mul-links : tie.Need-mul-links
-mul-links c = omega (arith, low (c .before .before .before .before .before .before .before) .0)
-
-add-links : tie.Need-add-links
-add-links c = omega (arith, low (c .before .before .before .before .before .before .before) .0)
-
-cast-links : tie.Need-cast-links
-cast-links c = omega (arith, low (c .before .before .before .before .before .before .before) .0)
-
-mul-links-2 : tie.Need-mul-links-2
-mul-links-2 c = omega (arith, low (c .before .before .before .before .before .before .before) .0)
-
-slice-write-links : tie.Need-slice-write-links
-slice-write-links c = omega (arith, low (c .before .before .before .before .before .before .before) .0, (c .before .before .before .before .before .before .before .before .before .before .before .pre) .1 .1 .0 .2)
-
-sub-links-2 : tie.Need-sub-links-2
-sub-links-2 c = omega (arith, ended (c .before .before .before .before))
-
-mul-links-3 : tie.Need-mul-links-3
-mul-links-3 c = omega (arith, low (c .before .before .before .before .before .before .before .before) .1)
-
-add-links-2 : tie.Need-add-links-2
-add-links-2 c = omega (arith, low (c .before .before .before .before .before .before .before .before) .1)
-
-cast-links-2 : tie.Need-cast-links-2
-cast-links-2 c = omega (arith, low (c .before .before .before .before .before .before .before .before) .1)
-
-mul-links-4 : tie.Need-mul-links-4
-mul-links-4 c = omega (arith, low (c .before .before .before .before .before .before .before .before) .1)
-
-slice-write-links-2 : tie.Need-slice-write-links-2
-slice-write-links-2 c =
-    let a = (c .before .before .before .before .before .before .before .before .before .before .before .before .args) in
-    let k = a .p .candidates in
-    omega (arith, low (c .before .before .before .before .before .before .before .before) .1, (c .before .before .before .before .before .before .before .before .before .before .before .before .pre) .1 .1 .0 .2, length-set (a .links .now) (a .e / k * k + a .e % k) ((c .before .before .before .before .compare) .result .wire - 2))
+    let q = not-later (leb (a .first)) (a .e / k) (a .e % k) (c .if1 .taken) in
+    record {
+      wrote = wrote-as (a .w) (a .table .now) [] _ (a .table .now) (a .w) (links-kept (a .first) (keptOf (a .words .now) k) (a .p .digits) (a .w .wire) (a .e / k) (a .e % k) q) (wrote-nothing (a .w) (a .table .now));
+      kept = same-links (leb (a .first)) (a .links .now) k (a .e / k) (a .e % k) (a .w .wire) q;
+    }
 
 returns-2 : tie.Need-returns-2
 returns-2 c =
-    let a = (c .before .before .before .before .before .before .before .before .before .before .before .before .args) in
+    let a = c .before .before .before .before .before .args in
     let k = a .p .candidates in
-    let next = (c .before .before .before .before .compare) .result in
-    let t = at (c .before .before .before .before .before .before .before .before) in (
-      wrote-as (a .w) (a .table .now) _ _ ((c .before .before .before .before .compare) .last .1 .0) next (links-moved (keptOf (a .words .now) k) (a .p .digits) (a .w .wire) (a .e / k) (a .e % k) (t .1) ((c .before .before .before .before .before .before .kept) .result) ((c .before .before .before .before .before .kept2) .result) ((c .before .before .before .before .before .before .kept) .ensures) ((c .before .before .before .before .before .kept2) .ensures)) ((c .before .before .before .before .compare) .ensures),
-      new-links (a .links .now) k (a .e / k) (a .e % k) (next .wire) (t .1),
+    let q = no-row (leb (a .first)) (a .e / k) (a .e % k) (lt-leb (a .first) (a .e / k) (c .if2 .taken)) in
+    record {
+      wrote = wrote-as (a .w) (a .table .now) [] _ (a .table .now) (a .w) (links-kept (a .first) (keptOf (a .words .now) k) (a .p .digits) (a .w .wire) (a .e / k) (a .e % k) q) (wrote-nothing (a .w) (a .table .now));
+      kept = same-links (leb (a .first)) (a .links .now) k (a .e / k) (a .e % k) (a .w .wire) q;
+    }
+
+kept-requires : tie.Need-kept-requires
+kept-requires c κs = let t = facts (c .before) .here in let s = start (c .before) in (s .pre .kept .ranked .k-most, t .row, t .column, s .pre .kept .words-long)
+
+kept-requires-2 : tie.Need-kept-requires-2
+kept-requires-2 c κs = let p = c .before .before in let t = facts p .here in (start p .pre .kept .ranked .k-most, t .column, t .row, start p .pre .kept .words-long)
+
+compare-requires : tie.Need-compare-requires
+compare-requires c κs =
+    let p = c .before .before .before in
+    let s = start p in
+    let a = s .args in
+    let k = a .p .candidates in
+    let f = facts p in
+    let t = f .here in
+    let l = f .later in
+    let b = s .pre .kept .below in (
+      room-less (a .w) _ _ (omega (arith, links-long (a .first) (keptOf (a .words .now) k) (a .p .digits) (a .w .wire) (a .e / k) (a .e % k) (f .row))) (s .pre .room),
+      (
+        omega (arith, b (a .e / k) (a .e % k) (t .row) (t .column) (λ z. omega arith), c .before .kept .ensures),
+        omega (arith, b (a .e % k) (a .e / k) (t .column) (t .row) (λ z. omega arith), c .kept2 .ensures),
+      ),
     )
+
+ended : (c : tie.After-compare) → 2 ≤ c .compare .result .wire
+ended c = let a = start (tested c) .args in omega (arith, c .compare .ensures .wires, length-whole (a .w .wire) (c .before .before .kept .result) (c .before .kept2 .result) (a .p .digits))
+
+sub-links : tie.Need-sub-links
+sub-links c = omega (arith, ended (made c))
+
+mul-links : tie.Need-mul-links
+mul-links c = omega (arith, facts (tested (made c)) .index)
+
+add-links : tie.Need-add-links
+add-links c = omega (arith, facts (tested (made c)) .index)
+
+cast-links : tie.Need-cast-links
+cast-links c = omega (arith, facts (tested (made c)) .index)
+
+mul-links-2 : tie.Need-mul-links-2
+mul-links-2 c = omega (arith, facts (tested (made c)) .index)
+
+slice-write-links : tie.Need-slice-write-links
+slice-write-links c = omega (arith, facts (tested (made c)) .index, start (tested (made c)) .pre .kept .wires-long)
+
+sub-links-2 : tie.Need-sub-links-2
+sub-links-2 c = omega (arith, ended (made (c .before)))
+
+mul-links-3 : tie.Need-mul-links-3
+mul-links-3 c = omega (arith, facts (tested (made (c .before))) .index-back)
+
+add-links-2 : tie.Need-add-links-2
+add-links-2 c = omega (arith, facts (tested (made (c .before))) .index-back)
+
+cast-links-2 : tie.Need-cast-links-2
+cast-links-2 c = omega (arith, facts (tested (made (c .before))) .index-back)
+
+mul-links-4 : tie.Need-mul-links-4
+mul-links-4 c = omega (arith, facts (tested (made (c .before))) .index-back)
+
+slice-write-links-2 : tie.Need-slice-write-links-2
+slice-write-links-2 c =
+    let d = made (c .before) in
+    let s = start (tested d) in
+    let k = s .args .p .candidates in
+    omega (arith, facts (tested d) .index-back, s .pre .kept .wires-long, length-set (s .args .links .now) (s .args .e / k * k + s .args .e % k) (d .compare .result .wire - 2))
+
+returns-3 : tie.Need-returns-3
+returns-3 c =
+    let d = made (c .before) in
+    let s = start (tested d) in
+    let a = s .args in
+    let k = a .p .candidates in
+    let q = facts (tested d) .row in
+    let next = d .compare .result in
+    record {
+      wrote = wrote-as (a .w) (a .table .now) _ _ (d .compare .last .1 .0) next (links-moved (a .first) (keptOf (a .words .now) k) (a .p .digits) (a .w .wire) (a .e / k) (a .e % k) q (d .before .before .kept .result) (d .before .kept2 .result) (d .before .before .kept .ensures) (d .before .kept2 .ensures)) (d .compare .ensures);
+      kept = new-links (leb (a .first)) (a .links .now) k (a .e / k) (a .e % k) (next .wire) q;
+    }
 
 same-length : tie.Need-same-length
 same-length c = search needs
@@ -132,6 +168,7 @@ links-entry-spec =
     div-i
     rem-j
     returns
+    returns-2
     kept-requires
     kept-requires-2
     compare-requires
@@ -149,4 +186,4 @@ links-entry-spec =
     slice-write-links-2
     same-length
     same-length-2
-    returns-2)
+    returns-3)

@@ -39,10 +39,11 @@ masked-requires c κs =
     let a = (c .before .before .before .before .before .before .before .before .args) in
     let k = a .p .candidates in
     let q = (c .before .before .before .before .before .before .before .before .pre) .1 .1 .0 in
-    let ne : a .i ≢ a .j = apart-zero (a .i) (a .j) (ap (λ (x : ℕ). stays x (a .i) (a .j)) (sym ((c .before .before .if1) .taken)) ∙ q .3) in (
-      room-less (a .w) _ _ (omega (arith, long-zero (keptOf (a .links .now) k) (keptOf (a .words .now) k) (a .p .digits) (a .w .wire) (a .i) (a .j) (a .m) ((c .before .before .if1) .taken))) ((c .before .before .before .before .before .before .before .before .pre) .1 .0),
-      omega (arith, (c .before .before .before .before .before .before .before .before .pre) .1 .1 .1 (a .i) (a .j) (q .1) (q .2) ne, (c .before .before .before .kept2) .ensures),
-    )
+    let ne : a .i ≢ a .j = apart-zero (a .i) (a .j) (ap (λ (x : ℕ). stays x (a .i) (a .j)) (sym ((c .before .before .if1) .taken)) ∙ q .3) in
+    record {
+      room = room-less (a .w) _ _ (omega (arith, long-zero (keptOf (a .links .now) k) (keptOf (a .words .now) k) (a .p .digits) (a .w .wire) (a .i) (a .j) (a .m) ((c .before .before .if1) .taken))) ((c .before .before .before .before .before .before .before .before .pre) .1 .0);
+      below = omega (arith, (c .before .before .before .before .before .before .before .before .pre) .1 .1 .1 (a .i) (a .j) (q .1) (q .2) ne, (c .before .before .before .kept2) .ensures);
+    }
 
 returns : tie.Need-returns
 returns c =

@@ -52,13 +52,14 @@ size c =
 counter-requires : tie.Need-counter-requires
 counter-requires c κs =
     let a = (c .before .before .before .before .args) in
-    let f = (c .before .before .before .before .pre) .0 in (
-      room-less (a .w) _ _ (omega (arith, size (c .before))) ((c .before .before .before .before .pre) .1 .0),
-      (
-        bytes (c .before),
-        (omega (arith, square-small (a .p .candidates) (f .k-most)), omega (arith, f .n-most), f .countable),
-      ),
-    )
+    let f = (c .before .before .before .before .pre) .0 in
+    record {
+      room = room-less (a .w) _ _ (omega (arith, size (c .before))) ((c .before .before .before .before .pre) .1 .0);
+      below = bytes (c .before);
+      near = omega (arith, square-small (a .p .candidates) (f .k-most));
+      few = omega (arith, f .n-most);
+      countable = f .countable;
+    }
 
 ended : (c : tie.After-counter) → suc ((c .before .before .before .before .before .args) .p .digits) ≤ (c .counter) .result .wire
 ended c =

@@ -16,8 +16,8 @@ use Rattle.ranked_writer.proofs.list.first_tables.Statement.{statement}
 use Rattle.ranked_writer.proofs.list.first_tables.Tie as tie
 
 -- both tables
-long : (k n w : ℕ) → length (pathsTo k n w 0 .gates) ≡ length (table (n * k * k) k (votesBlock k n w)) + length (table (linksFrom k n w) k (linksBlock (votesAt k n w) w))
-long k n w = ap length (first-parts k n w) ∙ length-append (table (n * k * k) k (votesBlock k n w)) (table (linksFrom k n w) k (linksBlock (votesAt k n w) w))
+long : (k n w : ℕ) → length (pathsTo k n w 0 .gates) ≡ length (table (n * k * k) k (votesBlock k n w)) + length (table (linksFrom k n w) k (linksBlock 0 (votesAt k n w) w))
+long k n w = ap length (first-parts k n w) ∙ length-append (table (n * k * k) k (votesBlock k n w)) (table (linksFrom k n w) k (linksBlock 0 (votesAt k n w) w))
 
 votes-from : (k n w wire : ℕ) → wire ≡ n * k * k → table wire k (votesBlock k n w) ≡ table (n * k * k) k (votesBlock k n w)
 votes-from k n w wire q = ap (λ (x : ℕ). table x k (votesBlock k n w)) q
@@ -42,10 +42,10 @@ stands c =
     let p = a .p in
     omega (arith, (c .votes-table) .ensures .0 .wires, ap length (votes-from (p .candidates) (p .ballots) (p .digits) (a .w .wire) ((c .before .before .before .before .before .before .pre) .1 .1 .0)), links-from (p .candidates) (p .ballots) (p .digits), (c .before .before .before .before .before .before .pre) .1 .1 .0)
 
-same : (c : tie.After-votes-table) → table ((c .votes-table) .result .wire) ((c .before .before .before .before .before .before .args) .p .candidates) (linksBlock (keptOf ((c .votes-table) .last .1 .1 .0) ((c .before .before .before .before .before .before .args) .p .candidates)) ((c .before .before .before .before .before .before .args) .p .digits)) ≡ table (linksFrom ((c .before .before .before .before .before .before .args) .p .candidates) ((c .before .before .before .before .before .before .args) .p .ballots) ((c .before .before .before .before .before .before .args) .p .digits)) ((c .before .before .before .before .before .before .args) .p .candidates) (linksBlock (votesAt ((c .before .before .before .before .before .before .args) .p .candidates) ((c .before .before .before .before .before .before .args) .p .ballots) ((c .before .before .before .before .before .before .args) .p .digits)) ((c .before .before .before .before .before .before .args) .p .digits))
+same : (c : tie.After-votes-table) → table ((c .votes-table) .result .wire) ((c .before .before .before .before .before .before .args) .p .candidates) (linksBlock 0 (keptOf ((c .votes-table) .last .1 .1 .0) ((c .before .before .before .before .before .before .args) .p .candidates)) ((c .before .before .before .before .before .before .args) .p .digits)) ≡ table (linksFrom ((c .before .before .before .before .before .before .args) .p .candidates) ((c .before .before .before .before .before .before .args) .p .ballots) ((c .before .before .before .before .before .before .args) .p .digits)) ((c .before .before .before .before .before .before .args) .p .candidates) (linksBlock 0 (votesAt ((c .before .before .before .before .before .before .args) .p .candidates) ((c .before .before .before .before .before .before .args) .p .ballots) ((c .before .before .before .before .before .before .args) .p .digits)) ((c .before .before .before .before .before .before .args) .p .digits))
 same c =
     let p = (c .before .before .before .before .before .before .args) .p in
-    links-table-is (p .candidates) (p .ballots) (p .digits) (pathsTo (p .candidates) (p .ballots) (p .digits) 0 .words) ((c .votes-table) .last .1 .1 .0) (kept (c)) ((c .votes-table) .result .wire) (linksFrom (p .candidates) (p .ballots) (p .digits)) (stands (c))
+    links-table-is (p .candidates) (p .ballots) (p .digits) 0 (pathsTo (p .candidates) (p .ballots) (p .digits) 0 .words) ((c .votes-table) .last .1 .1 .0) (kept (c)) ((c .votes-table) .result .wire) (linksFrom (p .candidates) (p .ballots) (p .digits)) (stands (c))
     ∙ first-links-is (p .candidates) (p .ballots) (p .digits)
 
 links-table-requires : tie.Need-links-table-requires
@@ -53,14 +53,17 @@ links-table-requires c κs =
     let a = (c .before .before .before .before .before .before .before .before .before .before .before .before .before .args) in
     let p = a .p in
     let v = (c .before .before .before .before .before .before .before .votes-table) in
-    let k = kept (c .before .before .before .before .before .before .before) in (
-      (c .before .before .before .before .before .before .before .before .before .before .before .before .before .pre) .0,
-      (
-        room-after (a .w) (a .table .now) _ (v .last .1 .0) (v .result) _ _ (v .ensures .0)
-            (omega (arith, ap length (votes-from (p .candidates) (p .ballots) (p .digits) (a .w .wire) ((c .before .before .before .before .before .before .before .before .before .before .before .before .before .pre) .1 .1 .0)), long (p .candidates) (p .ballots) (p .digits), ap length (same (c .before .before .before .before .before .before .before)))) ((c .before .before .before .before .before .before .before .before .before .before .before .before .before .pre) .1 .0),
-        ((k .long, (c .before .before .before .before .before .before .before .before .before .before .before .before .before .pre) .1 .1 .1), votes-kept-below (p .candidates) (p .ballots) (p .digits) (v .result .wire) (v .last .1 .1 .0) (stands (c .before .before .before .before .before .before .before)) k),
-      ),
-    )
+    let k = kept (c .before .before .before .before .before .before .before) in
+    record {
+      kept = record {
+        ranked = (c .before .before .before .before .before .before .before .before .before .before .before .before .before .pre) .0;
+        words-long = k .long;
+        wires-long = (c .before .before .before .before .before .before .before .before .before .before .before .before .before .pre) .1 .1 .1;
+        below = votes-kept-below (p .candidates) (p .ballots) (p .digits) (v .result .wire) (v .last .1 .1 .0) (stands (c .before .before .before .before .before .before .before)) k;
+      };
+      room = room-after (a .w) (a .table .now) _ (v .last .1 .0) (v .result) _ _ (v .ensures .0)
+          (omega (arith, ap length (votes-from (p .candidates) (p .ballots) (p .digits) (a .w .wire) ((c .before .before .before .before .before .before .before .before .before .before .before .before .before .pre) .1 .1 .0)), long (p .candidates) (p .ballots) (p .digits), ap length (same (c .before .before .before .before .before .before .before)))) ((c .before .before .before .before .before .before .before .before .before .before .before .before .before .pre) .1 .0);
+    }
 
 returns : tie.Need-returns
 returns c =
@@ -73,11 +76,11 @@ returns c =
       wrote-as (a .w) (a .table .now) _ _ (l .last .1 .0) (l .result) (sym (first-parts (p .candidates) (p .ballots) (p .digits)))
           (wrote-both (a .w) (a .table .now) (table (p .ballots * p .candidates * p .candidates) (p .candidates) (votesBlock (p .candidates) (p .ballots) (p .digits))) (v .last .1 .0) (v .result) _ (l .last .1 .0) (l .result)
           (wrote-as (a .w) (a .table .now) _ _ (v .last .1 .0) (v .result) (votes-from (p .candidates) (p .ballots) (p .digits) (a .w .wire) ((c .before .before .before .before .before .before .before .before .before .before .before .before .before .before .before .before .before .before .pre) .1 .1 .0)) (v .ensures .0))
-          (wrote-as (v .result) (v .last .1 .0) _ _ (l .last .1 .0) (l .result) (same (c .before .before .before .before .before .before .before .before .before .before .before .before)) (l .ensures .0))),
+          (wrote-as (v .result) (v .last .1 .0) _ _ (l .last .1 .0) (l .result) (same (c .before .before .before .before .before .before .before .before .before .before .before .before)) (l .ensures .wrote))),
       (
         kept (c .before .before .before .before .before .before .before .before .before .before .before .before),
         subst (λ (f : ℕ → ℕ → ℕ). Keeps (p .candidates) (l .last .1 .1 .1 .0) f) (link-wire-is (p .candidates) (p .ballots) (p .digits))
-            (links-kept-is (p .candidates) (p .ballots) (p .digits) words (v .last .1 .1 .0) (kept (c .before .before .before .before .before .before .before .before .before .before .before .before)) (v .result .wire) from (l .last .1 .1 .1 .0) (stands (c .before .before .before .before .before .before .before .before .before .before .before .before)) (l .ensures .1)),
+            (links-kept-is (p .candidates) (p .ballots) (p .digits) words (v .last .1 .1 .0) (kept (c .before .before .before .before .before .before .before .before .before .before .before .before)) (v .result .wire) from (l .last .1 .1 .1 .0) (keptOf (a .links .now) (p .candidates)) (stands (c .before .before .before .before .before .before .before .before .before .before .before .before)) (l .ensures .kept)),
       ),
     )
 

@@ -29,17 +29,17 @@ stages p m = stagesTo (p .candidates) (p .ballots) (p .digits) m
 
 abbrev Inv-loop : tie.InvT-loop
 Inv-loop table₀ words₀ p links next₀ m₀ table words next m =
-    (m ≤ suc (p .candidates)) × Keeps (p .candidates) links (linkWire (p .candidates) (p .ballots) (p .digits)) × (next .wire ≡ endOf (p .candidates) (p .ballots) (p .digits) m)
+    (m ≤ p .candidates) × Keeps (p .candidates) links (linkWire (p .candidates) (p .ballots) (p .digits)) × (next .wire ≡ endOf (p .candidates) (p .ballots) (p .digits) m)
     × Wrote next₀ table₀ (stages p m) table next × Keeps (p .candidates) words (wordsAt p m)
 
 abbrev μ-loop : tie.MeasureT-loop
-μ-loop table₀ words₀ p links next₀ m₀ table words next m = suc (p .candidates) - m
+μ-loop table₀ words₀ p links next₀ m₀ table words next m = p .candidates - m
 
 first-tables-requires : tie.Need-first-tables-requires Inv-loop μ-loop
 first-tables-requires c κs =
     let a = (c .before .before .before .before .before .args) in
     let p = a .p in
-    ((c .before .before .before .before .before .pre) .0, (room-less (a .w) _ _ (omega (arith, stages-long (p .candidates) (p .ballots) (p .digits) (suc (p .candidates)))) ((c .before .before .before .before .before .pre) .1 .0), ((c .before .before .before .before .before .pre) .1 .1 .0, refl, (c .before .before .before .before .before .pre) .1 .1 .1)))
+    ((c .before .before .before .before .before .pre) .0, (room-less (a .w) _ _ (omega (arith, stages-long (p .candidates) (p .ballots) (p .digits) (p .candidates))) ((c .before .before .before .before .before .pre) .1 .0), ((c .before .before .before .before .before .pre) .1 .1 .0, refl, (c .before .before .before .before .before .pre) .1 .1 .1)))
 
 nothing : (p : Ranks) → stages p 0 ≡ []
 nothing p = unfold stagesTo in refl
@@ -61,7 +61,7 @@ same : (c : tie.Then1 Inv-loop μ-loop) → table ((c .before .before .loop) .ne
 same c =
     let p = (c .before .before .before .before .before .before .before .before .before .before .before .before .before .before .args) .p in
     let l = (c .before .before .loop) in
-    stage-table (p .candidates) (p .ballots) (p .digits) (l .m) ((c .if1) .taken) ((c .before .before .before .before .before .before .before .before .first-tables) .last .1 .1 .0) (l .words) (l .inv .1) (l .inv .4) (l .next .wire) (l .inv .2)
+    stage-table (p .candidates) (p .ballots) (p .digits) (l .m) (omega (arith, (c .if1) .taken)) ((c .before .before .before .before .before .before .before .before .first-tables) .last .1 .1 .0) (l .words) (l .inv .1) (l .inv .4) (l .next .wire) (l .inv .2)
 
 path-table-requires : tie.Need-path-table-requires Inv-loop μ-loop
 path-table-requires c κs =
@@ -69,13 +69,13 @@ path-table-requires c κs =
     let p = a .p in
     let l = (c .before .before .before .before .before .loop) in
     let f = (c .before .before .before .before .before .before .before .before .before .before .before .first-tables) in
-    let room₀ = room-after (a .w) (a .table .now) _ (f .last .1 .0) (f .result) (length (stages p (suc (p .candidates)))) _ (f .ensures .0) (omega (arith, stages-long (p .candidates) (p .ballots) (p .digits) (suc (p .candidates)))) ((c .before .before .before .before .before .before .before .before .before .before .before .before .before .before .before .before .before .pre) .1 .0) in
-    let grow = stages-grow (p .candidates) (p .ballots) (p .digits) (suc (p .candidates)) (suc (l .m)) (omega (arith, (c .before .before .before .if1) .taken)) in
+    let room₀ = room-after (a .w) (a .table .now) _ (f .last .1 .0) (f .result) (length (stages p (p .candidates))) _ (f .ensures .0) (omega (arith, stages-long (p .candidates) (p .ballots) (p .digits) (p .candidates))) ((c .before .before .before .before .before .before .before .before .before .before .before .before .before .before .before .before .before .pre) .1 .0) in
+    let grow = stages-grow (p .candidates) (p .ballots) (p .digits) (p .candidates) (suc (l .m)) ((c .before .before .before .if1) .taken) in
     let next = stages-next (p .candidates) (p .ballots) (p .digits) (l .m) in (
       (c .before .before .before .before .before .before .before .before .before .before .before .before .before .before .before .before .before .pre) .0,
       (
         room-after (f .result) (f .last .1 .0) _ (l .table) (l .next) _ _ (l .inv .3) (omega (arith, ap length (same (c .before .before .before)), grow, next)) room₀,
-        (((c .before .before .before .if1) .taken, l .inv .1 .long, l .inv .4 .long), kept-below (p .candidates) (p .ballots) (p .digits) (l .m) (l .words) (l .next .wire) (l .inv .4) (l .inv .2)),
+        ((omega (arith, (c .before .before .before .if1) .taken), l .inv .1 .long, l .inv .4 .long), kept-below (p .candidates) (p .ballots) (p .digits) (l .m) (l .words) (l .next .wire) (l .inv .4) (l .inv .2)),
       ),
     )
 
@@ -102,7 +102,7 @@ loop-again c =
       wrote-as (f .result) (f .last .1 .0) _ _ (h .last .1 .0) (h .result) (stages-are p (l .m) ∙ ap (stages p) (sym e))
           (wrote-both (f .result) (f .last .1 .0) (stages p (l .m)) (l .table) (l .next) _ (h .last .1 .0) (h .result) (l .inv .3) (wrote-as (l .next) (l .table) _ _ (h .last .1 .0) (h .result) (same (c .before .before .before .before .before .before .before .before)) (h .ensures .0))),
       subst (λ (x : ℕ). Keeps (p .candidates) (h .last .1 .1 .1 .0) (wordsAt p x)) (sym e)
-          (stage-words (p .candidates) (p .ballots) (p .digits) (l .m) ((c .before .before .before .before .before .before .before .before .if1) .taken) (f .last .1 .1 .0) (l .words) (l .inv .1) (l .inv .4) (l .next .wire) (h .last .1 .1 .1 .0) (l .inv .2) (h .ensures .1)),
+          (stage-words (p .candidates) (p .ballots) (p .digits) (l .m) (omega (arith, (c .before .before .before .before .before .before .before .before .if1) .taken)) (f .last .1 .1 .0) (l .words) (l .inv .1) (l .inv .4) (l .next .wire) (h .last .1 .1 .1 .0) (l .inv .2) (h .ensures .1)),
     )
 
 same-length : tie.Need-same-length Inv-loop μ-loop
@@ -117,7 +117,7 @@ returns c =
     let p = a .p in
     let l = (c .before .before .loop) in
     let f = (c .before .before .before .before .before .before .before .before .first-tables) in
-    let all : l .m ≡ suc (p .candidates) = omega (arith, (c .if1) .left) in (
+    let all : l .m ≡ p .candidates = omega (arith, (c .if1) .left, l .inv .0) in (
       wrote-as (a .w) (a .table .now) _ _ (l .table) (l .next) (sym (stages-split (p .candidates) (p .ballots) (p .digits) (l .m)) ∙ ap (λ (x : ℕ). pathsTo (p .candidates) (p .ballots) (p .digits) x .gates) all)
           (wrote-both (a .w) (a .table .now) (pathsTo (p .candidates) (p .ballots) (p .digits) 0 .gates) (f .last .1 .0) (f .result) (stages p (l .m)) (l .table) (l .next) (f .ensures .0) (l .inv .3)),
       subst (λ (x : ℕ). Keeps (p .candidates) (l .words) (wordsAt p x)) all (l .inv .4),

@@ -106,7 +106,15 @@ pair-circuit-requires : tie.Need-pair-circuit-requires
 pair-circuit-requires c κs = (ranked (c .before .before), (room (c .before .before), ((c .before .if2) .taken, ap (λ (v : Writer). v .wire) ((c .before .before .before .before .new) .ensures))))
 
 circuit-requires : tie.Need-circuit-requires
-circuit-requires c κs = (ranked (c .before .before), (room (c .before .before), (three ((c .before .before .before .before .before .before .args) .candidates) ((c .before .before .before .before .before .before .pre) .0) ((c .before .before .before .if1) .left) ((c .before .if2) .left), ap (λ (v : Writer). v .wire) ((c .before .before .before .before .new) .ensures))))
+circuit-requires c κs =
+    let q = c .before .before in
+    let s = q .before .before .before .before in
+    record {
+      ranked = ranked q;
+      room = room q;
+      many = three (s .args .candidates) (s .pre .0) (q .before .if1 .left) (c .before .if2 .left);
+      place = ap (λ (v : Writer). v .wire) (q .before .before .new .ensures);
+    }
   where
     three : (k : ℕ) → 1 ≤ k → (k ≡ 1 → ⊥) → (k ≡ 2 → ⊥) → 3 ≤ k
     three k l h g = omega arith

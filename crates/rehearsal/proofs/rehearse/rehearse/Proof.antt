@@ -1,4 +1,5 @@
--- `rehearsal::rehearse::rehearse` meets its contract: a shape outside the limits is refused for it, and else the list is written and run.
+-- `rehearsal::rehearse::rehearse` meets its contract: a shape outside the limits is refused; otherwise the list is
+-- written and run.
 -- Assumes nothing.
 use mathlib.Core.Path.{_∙_, sym}
 use native.Mathlib.Omega.{arith}

@@ -1,4 +1,4 @@
--- `rehearsal::rehearse::rehearse_shape` meets its contract: a refused write decides, and else the run of what was written.
+-- `rehearsal::rehearse::rehearse_shape` meets its contract: a refused write decides; otherwise the run does.
 -- Assumes nothing.
 use mathlib.Core.Path.{_≡_, _∙_, sym, ap}
 use mathlib.Core.List.{List, []}

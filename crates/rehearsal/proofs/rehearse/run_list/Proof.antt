@@ -1,4 +1,5 @@
--- `rehearsal::rehearse::run_list` meets its contract: the buffers are long enough to be cut, and the run answers by the ballots alone.
+-- `rehearsal::rehearse::run_list` meets its contract: the buffers are long enough to be cut, and only the ballots
+-- decide the run's answer.
 -- Assumes nothing.
 use mathlib.Core.Path.{_∙_, sym, ap}
 use Prim.Native.Nat.{_+_, _≤_}

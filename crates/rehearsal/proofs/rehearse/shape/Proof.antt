@@ -20,7 +20,7 @@ new-requires c κs = search needs
 
 returns : tie.Need-returns
 unfolding shapeIn
-returns c = c .new .ensures .0 ∙ rw (c .before .before .before .byte .ensures, c .before .before .byte2 .ensures, c .before .byte3 .ensures)
+returns c = c .new .ensures .result ∙ rw (c .before .before .before .byte .ensures, c .before .before .byte2 .ensures, c .before .byte3 .ensures)
 
 pub shape-spec : {M : Type 1} → statement M
 shape-spec = tie.close (tie.spec byte-requires byte-requires-2 byte-requires-3 new-requires returns)

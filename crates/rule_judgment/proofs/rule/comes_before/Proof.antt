@@ -1,4 +1,5 @@
--- `rule_judgment::rule::comes_before` meets its contract: the walk so far holds the last difference below half, and returns at the first one that is not.
+-- `rule_judgment::rule::comes_before` meets its contract: the loop keeps the last difference below half, and returns
+-- at the first one that is not below.
 -- Assumes nothing.
 use mathlib.Core.Path.{_∙_, refl, sym, ap, subst}
 use mathlib.Core.Logic.{⊎-elim}
@@ -29,24 +30,24 @@ abbrev second : tie.Start Inv-loop μ-loop → List ℕ
 second c = getD (c .args .counts .now) (c .args .b) []
 
 alike : (c : tie.Start Inv-loop μ-loop) → Alike (c .args .n) (take (c .args .d) (first c)) (take (c .args .d) (second c))
-alike c = record { sum-a = c .pre .1 .0; sum-b = c .pre .1 .1 }
+alike c = record { sum-a = c .pre .firstSum; sum-b = c .pre .secondSum }
 
 loop-holds : tie.Need-loop-holds Inv-loop μ-loop
 loop-holds c =
     let x = c .args in
-    (omega arith, walk-start (x .n) (take (x .d) (first c)) (take (x .d) (second c)) (alike c) (c .pre .0 .3) (record { a = 0; b = 0 }) (record { a = 0; b = 0 }) refl refl refl refl)
+    (omega arith, walk-start (x .n) (take (x .d) (first c)) (take (x .d) (second c)) (alike c) (c .pre .someBallot) (record { a = 0; b = 0 }) (record { a = 0; b = 0 }) refl refl refl refl)
 
 mul-wide : tie.Need-mul-wide Inv-loop μ-loop
-mul-wide c = omega (arith, c .before .before .pre .0)
+mul-wide c = omega (arith, c .before .before .pre)
 
 mul-wide-2 : tie.Need-mul-wide-2 Inv-loop μ-loop
-mul-wide-2 c = omega (arith, c .before .before .pre .0)
+mul-wide-2 c = omega (arith, c .before .before .pre)
 
 index-1-wide : tie.Need-index-1-wide Inv-loop μ-loop
-index-1-wide c = c .before .before .pre .0 .0
+index-1-wide c = c .before .before .pre .firstInside
 
 index-2-wide : tie.Need-index-2-wide Inv-loop μ-loop
-index-2-wide c = omega (arith, c .before .before .pre .0)
+index-2-wide c = omega (arith, c .before .before .pre)
 
 wide-requires : tie.Need-wide-requires Inv-loop μ-loop
 wide-requires c κs = tt
@@ -55,19 +56,19 @@ add-t18 : tie.Need-add-t18 Inv-loop μ-loop
 add-t18 c =
     let at = c .before .before .before .before in
     let x = at .before .args in
-    omega (arith, sum-room (first (at .before)) (x .d) (at .loop .g) (at .loop .sums .a) (omega arith) (at .loop .inv .1 .sums-at .first), at .before .pre .1 .0)
+    omega (arith, sum-room (first (at .before)) (x .d) (at .loop .g) (at .loop .sums .a) (omega arith) (at .loop .inv .1 .sums-at .first), at .before .pre .firstSum)
 
 mul-wide-3 : tie.Need-mul-wide-3 Inv-loop μ-loop
-mul-wide-3 c = omega (arith, c .before .before .before .before .before .pre .0)
+mul-wide-3 c = omega (arith, c .before .before .before .before .before .pre)
 
 mul-wide-4 : tie.Need-mul-wide-4 Inv-loop μ-loop
-mul-wide-4 c = omega (arith, c .before .before .before .before .before .pre .0)
+mul-wide-4 c = omega (arith, c .before .before .before .before .before .pre)
 
 index-1-wide-2 : tie.Need-index-1-wide-2 Inv-loop μ-loop
-index-1-wide-2 c = c .before .before .before .before .before .pre .0 .1
+index-1-wide-2 c = c .before .before .before .before .before .pre .secondInside
 
 index-2-wide-2 : tie.Need-index-2-wide-2 Inv-loop μ-loop
-index-2-wide-2 c = omega (arith, c .before .before .before .before .before .pre .0)
+index-2-wide-2 c = omega (arith, c .before .before .before .before .before .pre)
 
 wide-requires-2 : tie.Need-wide-requires-2 Inv-loop μ-loop
 wide-requires-2 c κs = tt
@@ -76,9 +77,9 @@ add-t27 : tie.Need-add-t27 Inv-loop μ-loop
 add-t27 c =
     let at = c .before .before .before .before .before .before .before in
     let x = at .before .args in
-    omega (arith, sum-room (second (at .before)) (x .d) (at .loop .g) (at .loop .sums .b) (omega arith) (at .loop .inv .1 .sums-at .second), at .before .pre .1 .1)
+    omega (arith, sum-room (second (at .before)) (x .d) (at .loop .g) (at .loop .sums .b) (omega arith) (at .loop .inv .1 .sums-at .second), at .before .pre .secondSum)
 
--- the sums that a turn tests
+-- the sums of this turn
 next : (c : tie.After-struct-known2 Inv-loop μ-loop) → Sums
 next c = record { a = c .before .before .before .before .before .before .before .loop .sums .a + c .before .before .before .before .wide .result; b = c .before .before .before .before .before .before .before .loop .sums .b + c .before .wide2 .result }
 

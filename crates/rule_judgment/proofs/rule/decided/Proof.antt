@@ -1,4 +1,4 @@
--- `rule_judgment::rule::decided` meets its contract, one way through it after the other.
+-- `rule_judgment::rule::decided` meets its contract, one branch after another.
 -- Assumes nothing.
 use native.Mathlib.Omega.{arith}
 use Rattle.rule_judgment.proofs.Deciding.{first-not-smaller, first-smaller, second-smaller, second-not-smaller, neither-larger}

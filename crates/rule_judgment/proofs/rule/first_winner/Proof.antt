@@ -29,7 +29,7 @@ rows-are c = rows-length (c .args .k) (c .args .d) (c .args .t1) (omega (arith, 
 
 -- a row's grades
 row-sum : (c : tie.Start Inv-loop μ-loop) (i : ℕ) → i < c .args .k → sum (take (c .args .d) (getD (c .args .t1) i [])) ≡ c .args .n
-row-sum c i l = ap sum (sym (row-at (c .args .k) (c .args .d) (c .args .t1) i l)) ∙ c .pre .1 i (omega (arith, rows-are c))
+row-sum c i l = ap sum (sym (row-at (c .args .k) (c .args .d) (c .args .t1) i l)) ∙ c .pre .gets i (omega (arith, rows-are c))
 
 loop-holds : tie.Need-loop-holds Inv-loop μ-loop
 loop-holds c =
@@ -40,8 +40,16 @@ comes-before-requires : tie.Need-comes-before-requires Inv-loop μ-loop
 comes-before-requires c κs =
     let at = c .before .before in
     let start = at .before in
-    let p = start .pre .0 in
-    ((omega (arith, p), omega (arith, p, at .loop .inv .1), p .2, p .3, p .4), (row-sum start (at .loop .c) (omega arith), row-sum start (at .loop .first) (omega arith)))
+    let p = start .pre in
+    record {
+      firstInside = omega (arith, p);
+      secondInside = omega (arith, p, at .loop .inv .1);
+      fewGrades = p .fewGrades;
+      someBallot = p .someBallot;
+      fewBallots = p .fewBallots;
+      firstSum = row-sum start (at .loop .c) (omega arith);
+      secondSum = row-sum start (at .loop .first) (omega arith);
+    }
 
 add-c : tie.Need-add-c Inv-loop μ-loop
 add-c c = omega arith
@@ -49,7 +57,7 @@ add-c c = omega arith
 loop-less : tie.Need-loop-less Inv-loop μ-loop
 loop-less c = omega arith
 
--- what the call answers, of the rows
+-- the call's answer, in terms of the rows
 as-rows : (c : tie.Start Inv-loop μ-loop) (i j : ℕ) → i < c .args .k → j < c .args .k →
     precedes (sequenceOf (take (c .args .d) (getD (c .args .t1) i []))) (sequenceOf (take (c .args .d) (getD (c .args .t1) j []))) ≡ precedes (sequenceOf (getD (rows c) i [])) (sequenceOf (getD (rows c) j []))
 as-rows c i j hi hj = sym (rw (row-at (c .args .k) (c .args .d) (c .args .t1) i hi, row-at (c .args .k) (c .args .d) (c .args .t1) j hj))
@@ -75,7 +83,10 @@ returns c =
     let at = c .before in
     let start = at .before in
     let size = rows-are start in
-    (at .loop .inv .1, byte-one (rows start) (at .loop .first) (omega arith) (λ j l. at .loop .inv .2 j (omega arith)))
+    record {
+      inside = at .loop .inv .1;
+      byte = byte-one (rows start) (at .loop .first) (omega arith) (λ j l. at .loop .inv .2 j (omega arith));
+    }
 
 pub first-winner-spec : {M : Type 1} → statement M
 first-winner-spec =

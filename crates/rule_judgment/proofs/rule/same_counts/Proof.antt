@@ -1,4 +1,5 @@
--- `rule_judgment::rule::same_counts` meets its contract: what is left of the two rows is the same exactly where they are.
+-- `rule_judgment::rule::same_counts` meets its contract: the rest of the two rows is the same exactly if the rows
+-- are.
 -- Assumes nothing.
 use mathlib.Core.Path.{_≡_, _∙_, refl, sym, ap}
 use mathlib.Core.Bool.{Bool}
@@ -9,6 +10,7 @@ use native.Mathlib.Omega.{arith}
 use lib.ListN.{length, take, drop, getD}
 use lib.Seq.{length-take-le}
 use Rattle.rule_judgment.specs.inner.Decision.{sameCounts}
+use Rattle.rule_judgment.specs.inner.Ready.{Compared}
 use Rattle.rule_judgment.proofs.SameCounts.{same-later, same-not, same-end}
 use Rattle.rule_judgment.proofs.rule.same_counts.Statement.{statement}
 use Rattle.rule_judgment.proofs.rule.same_counts.Tie as tie
@@ -28,42 +30,47 @@ abbrev second : tie.Start Inv-loop μ-loop → List ℕ
 second c = getD (c .args .counts .now) (c .args .b) []
 
 first-length : (c : tie.Start Inv-loop μ-loop) → c .args .d ≤ length (first c)
-first-length c = omega (arith, c .pre .0 .2, c .pre .1 .0)
+first-length c = omega (arith, c .pre .fewGrades, c .pre .firstColumns)
 
 second-length : (c : tie.Start Inv-loop μ-loop) → c .args .d ≤ length (second c)
-second-length c = omega (arith, c .pre .0 .2, c .pre .1 .1)
+second-length c = omega (arith, c .pre .fewGrades, c .pre .secondColumns)
 
 -- an answer, with the rows' length
 both : (c : tie.Start Inv-loop μ-loop) {r : Bool} → r ≡ sameCounts (take (c .args .d) (first c)) (take (c .args .d) (second c)) →
-    (r ≡ sameCounts (take (c .args .d) (first c)) (take (c .args .d) (second c))) × (length (take (c .args .d) (first c)) ≡ c .args .d) × (length (take (c .args .d) (second c)) ≡ c .args .d)
-both c e = (e, length-take-le (c .args .d) (first c) (first-length c), length-take-le (c .args .d) (second c) (second-length c))
+    Compared (take (c .args .d) (first c)) (take (c .args .d) (second c)) (c .args .d) r
+both c e =
+    record {
+      answer = e;
+      firstLength = length-take-le (c .args .d) (first c) (first-length c);
+      secondLength = length-take-le (c .args .d) (second c) (second-length c);
+    }
 
 loop-holds : tie.Need-loop-holds Inv-loop μ-loop
 loop-holds c = (omega arith, refl)
 
 mul-if1 : tie.Need-mul-if1 Inv-loop μ-loop
-mul-if1 c = omega (arith, c .before .before .pre .0)
+mul-if1 c = omega (arith, c .before .before .pre)
 
 mul-if1-2 : tie.Need-mul-if1-2 Inv-loop μ-loop
-mul-if1-2 c = omega (arith, c .before .before .pre .0)
+mul-if1-2 c = omega (arith, c .before .before .pre)
 
 index-1-if1 : tie.Need-index-1-if1 Inv-loop μ-loop
-index-1-if1 c = c .before .before .pre .0 .0
+index-1-if1 c = c .before .before .pre .firstInside
 
 index-2-if1 : tie.Need-index-2-if1 Inv-loop μ-loop
-index-2-if1 c = omega (arith, c .before .before .pre .0)
+index-2-if1 c = omega (arith, c .before .before .pre)
 
 mul-if1-3 : tie.Need-mul-if1-3 Inv-loop μ-loop
-mul-if1-3 c = omega (arith, c .before .before .before .pre .0)
+mul-if1-3 c = omega (arith, c .before .before .before .pre)
 
 mul-if1-4 : tie.Need-mul-if1-4 Inv-loop μ-loop
-mul-if1-4 c = omega (arith, c .before .before .before .pre .0)
+mul-if1-4 c = omega (arith, c .before .before .before .pre)
 
 index-1-if1-2 : tie.Need-index-1-if1-2 Inv-loop μ-loop
-index-1-if1-2 c = c .before .before .before .pre .0 .1
+index-1-if1-2 c = c .before .before .before .pre .secondInside
 
 index-2-if1-2 : tie.Need-index-2-if1-2 Inv-loop μ-loop
-index-2-if1-2 c = omega (arith, c .before .before .before .pre .0)
+index-2-if1-2 c = omega (arith, c .before .before .before .pre)
 
 returns : tie.Need-returns Inv-loop μ-loop
 returns c =

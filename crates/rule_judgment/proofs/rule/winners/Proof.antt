@@ -1,4 +1,5 @@
--- `rule_judgment::rule::winners` meets its contract: below c the closing bytes are 1 for those with the first winner's counts, and from c on they are 0.
+-- `rule_judgment::rule::winners` meets its contract: below c the bytes are 1 for those with the first winner's
+-- counts; from c on they are 0.
 -- Assumes nothing.
 use mathlib.Core.Path.{_≡_, _∙_, sym, ap}
 use mathlib.Core.Bool.{true, false}
@@ -34,7 +35,7 @@ abbrev μ-loop : tie.MeasureT-loop
 μ-loop counts k d first closing₀ c₀ closing c = k - c
 
 within-limits : (c : tie.Start Inv-loop μ-loop) → Within (c .args .shape)
-within-limits c = within-T (c .args .shape) (c .pre .0)
+within-limits c = within-T (c .args .shape) (c .pre .within)
 
 abbrev rows : tie.Start Inv-loop μ-loop → List (List ℕ)
 rows c = rowsIn (c .args .shape .candidates) (c .args .shape .grades) (c .args .t2)
@@ -45,7 +46,14 @@ rows-are c = rows-length (c .args .shape .candidates) (c .args .shape .grades) (
 first-winner-requires : tie.Need-first-winner-requires Inv-loop μ-loop
 first-winner-requires c κs =
     let w = within-limits c in
-    ((w .k-least, w .k-most, w .d-most, w .n-least, w .n-most), c .pre .1 .0)
+    record {
+      someCandidate = w .k-least;
+      fewCandidates = w .k-most;
+      fewGrades = w .d-most;
+      someBallot = w .n-least;
+      fewBallots = w .n-most;
+      gets = c .pre .gets;
+    }
 
 loop-holds : tie.Need-loop-holds Inv-loop μ-loop
 unfolding tabulate
@@ -57,8 +65,14 @@ same-counts-requires c κs =
     let start = at .before .before in
     let w = within-limits start in
     let now : at .loop .c < 8 = omega (arith, w .k-most) in
-    let first : at .before .first-winner .result < 8 = omega (arith, w .k-most, at .before .first-winner .ensures .0) in
-    ((now, first, w .d-most), (start .pre .1 .1 (at .loop .c) now, start .pre .1 .1 (at .before .first-winner .result) first))
+    let first : at .before .first-winner .result < 8 = omega (arith, w .k-most, at .before .first-winner .ensures .inside) in
+    record {
+      firstInside = now;
+      secondInside = first;
+      fewGrades = w .d-most;
+      firstColumns = start .pre .columns (at .loop .c) now;
+      secondColumns = start .pre .columns (at .before .first-winner .result) first;
+    }
 
 array-write-closing : tie.Need-array-write-closing Inv-loop μ-loop
 array-write-closing c = omega (arith, within-limits (c .before .before .before .before .before .before) .k-most)
@@ -69,7 +83,7 @@ add-c c = omega arith
 loop-less : tie.Need-loop-less Inv-loop μ-loop
 loop-less c = omega arith
 
--- what a turn's comparison says of its candidate's byte
+-- what a turn's comparison says about its candidate's byte
 module _ (c : tie.After-same-counts Inv-loop μ-loop) where
   abbrev at : tie.At-loop Inv-loop μ-loop
   at = c .before .before .before
@@ -84,24 +98,24 @@ module _ (c : tie.After-same-counts Inv-loop μ-loop) where
   row i l = row-at (begin .args .shape .candidates) (begin .args .shape .grades) (begin .args .t2) i l
 
   winner-inside : winner < begin .args .shape .candidates
-  winner-inside = at .before .first-winner .ensures .0
+  winner-inside = at .before .first-winner .ensures .inside
 
   turn-inside : at .loop .c < begin .args .shape .candidates
   turn-inside = omega arith
 
   compared-rows : c .same-counts .result ≡ sameCounts (getD (rows begin) (at .loop .c) []) (getD (rows begin) winner [])
-  compared-rows = c .same-counts .ensures .0 ∙ sym (rw (row (at .loop .c) turn-inside, row winner winner-inside))
+  compared-rows = c .same-counts .ensures .answer ∙ sym (rw (row (at .loop .c) turn-inside, row winner winner-inside))
 
   byte-one : c .same-counts .result ≡ true → byte (rows begin) (at .loop .c) ≡ 1
   byte-one e =
-      same-wins (begin .args .shape .ballots) (rows begin) (begin .pre .1 .0) winner (omega (arith, rows-are begin, winner-inside)) (at .before .first-winner .ensures .1)
+      same-wins (begin .args .shape .ballots) (rows begin) (begin .pre .gets) winner (omega (arith, rows-are begin, winner-inside)) (at .before .first-winner .ensures .byte)
       (at .loop .c) (omega (arith, rows-are begin, turn-inside)) (sym compared-rows ∙ e)
 
   byte-zero : c .same-counts .result ≡ false → byte (rows begin) (at .loop .c) ≡ 0
   byte-zero e =
-      other-loses (begin .args .shape .ballots) (rows begin) (begin .pre .1 .0) winner (omega (arith, rows-are begin, winner-inside)) (at .before .first-winner .ensures .1)
+      other-loses (begin .args .shape .ballots) (rows begin) (begin .pre .gets) winner (omega (arith, rows-are begin, winner-inside)) (at .before .first-winner .ensures .byte)
       (at .loop .c) (omega (arith, rows-are begin, turn-inside))
-      (ap length (row (at .loop .c) turn-inside) ∙ c .same-counts .ensures .1 ∙ sym (c .same-counts .ensures .2) ∙ sym (ap length (row winner winner-inside)))
+      (ap length (row (at .loop .c) turn-inside) ∙ c .same-counts .ensures .firstLength ∙ sym (c .same-counts .ensures .secondLength) ∙ sym (ap length (row winner winner-inside)))
       (sym compared-rows ∙ e)
 
 loop-again : tie.Need-loop-again Inv-loop μ-loop

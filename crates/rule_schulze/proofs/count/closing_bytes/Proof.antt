@@ -1,4 +1,4 @@
--- `rule_schulze::count::closing_bytes` meets its contract: the rule looks at the numbers of the k candidates alone.
+-- `rule_schulze::count::closing_bytes` meets its contract: the rule reads only the votes between the k candidates.
 -- Assumes nothing.
 use mathlib.Core.Path.{_∙_, ap}
 use Prim.Native.Nat.{_-_}

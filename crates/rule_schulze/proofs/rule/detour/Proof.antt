@@ -1,4 +1,5 @@
--- `rule_schulze::rule::detour` meets its contract: the rows below i have the way over l, which is the detour of the definition wherever i and j differ.
+-- `rule_schulze::rule::detour` meets its contract: the rows below i allow paths over l, which is the definition's
+-- detour wherever i and j differ.
 -- Assumes nothing.
 use mathlib.Core.Path.{_≡_, _∙_, refl}
 use Prim.Native.Nat.{ℕ, min, max, _-_, _≤_, _<_}

@@ -1,4 +1,4 @@
--- `rule_schulze::rule::link` meets its contract: by cases of the comparison.
+-- `rule_schulze::rule::link` meets its contract, by cases of the comparison.
 -- Assumes nothing.
 use mathlib.Core.Path.{sym, ap}
 use mathlib.Core.Bool.{Bool, cond}

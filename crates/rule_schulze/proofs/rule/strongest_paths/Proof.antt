@@ -1,4 +1,5 @@
--- `rule_schulze::rule::strongest_paths` meets its contract: after l turns the table is that of the detours over the candidates below l.
+-- `rule_schulze::rule::strongest_paths` meets its contract: after l turns the table has the detours over the
+-- candidates below l.
 -- Assumes nothing.
 use mathlib.Core.Path.{_∙_, refl, sym, ap}
 use Prim.Native.Nat.{ℕ, _-_, _≤_}

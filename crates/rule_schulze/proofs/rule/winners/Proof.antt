@@ -1,4 +1,5 @@
--- `rule_schulze::rule::winners` meets its contract: below i the closing bytes are those of the table, and the table is the rule's by the paths theorem.
+-- `rule_schulze::rule::winners` meets its contract: below i the closing bytes are the table's, and by the paths
+-- theorem the table is the rule's.
 -- Assumes nothing.
 use mathlib.Core.Path.{_≡_, _∙_, sym, ap}
 use mathlib.Core.Bool.{Bool, cond}

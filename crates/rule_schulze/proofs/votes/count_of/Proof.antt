@@ -17,12 +17,12 @@ Inv-loop ballots k n i j ballot at₀ count₀ b₀ at count b = (b ≤ n) × (a
 abbrev μ-loop : tie.MeasureT-loop
 μ-loop ballots k n i j ballot at₀ count₀ b₀ at count b = n - b
 
--- the first place looked at is a small number
+-- the first place that is read is a small number
 first-place : (c : tie.Start Inv-loop μ-loop) → c .args .i * c .args .k ≤ 64
 first-place c = mul-le-mul {n₁ = c .args .i} {m₁ = c .args .k} {n₂ = 8} {m₂ = 8} (omega arith) (omega arith)
 
 mul-ballot : tie.Need-mul-ballot Inv-loop μ-loop
-mul-ballot c = omega (arith, few-bytes (c .args .k) (c .args .n) (c .args .ballots .now) (c .pre .0) .0)
+mul-ballot c = omega (arith, few-bytes (c .args .k) (c .args .n) (c .args .ballots .now) (c .pre .sized) .0)
 
 mul-at : tie.Need-mul-at Inv-loop μ-loop
 mul-at c = omega (arith, first-place c)
@@ -39,7 +39,7 @@ inside : (c : tie.In-loop Inv-loop μ-loop) → c .before .loop .at < length (c 
 inside c =
     let at = c .before in
     let start = at .before in
-    omega (arith, start .pre .0 .size, place-within (start .args .k) (start .args .n) (at .loop .b) (start .args .i) (start .args .j) (omega arith) (omega arith) (omega arith))
+    omega (arith, start .pre .sized .size, place-within (start .args .k) (start .args .n) (at .loop .b) (start .args .i) (start .args .j) (omega arith) (omega arith) (omega arith))
 
 shared-slice-read-if1 : tie.Need-shared-slice-read-if1 Inv-loop μ-loop
 shared-slice-read-if1 c = inside (c .before)
@@ -48,7 +48,7 @@ add-count : tie.Need-add-count Inv-loop μ-loop
 add-count c = omega arith
 
 add-at-2 : tie.Need-add-at-2 Inv-loop μ-loop
-add-at-2 c = let start = c .before .before .before .before in omega (arith, inside (c .before .before), few-bytes (start .args .k) (start .args .n) (start .args .ballots .now) (start .pre .0))
+add-at-2 c = let start = c .before .before .before .before in omega (arith, inside (c .before .before), few-bytes (start .args .k) (start .args .n) (start .args .ballots .now) (start .pre .sized))
 
 add-b : tie.Need-add-b Inv-loop μ-loop
 add-b c = omega arith

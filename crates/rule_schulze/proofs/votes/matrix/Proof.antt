@@ -1,4 +1,4 @@
--- `rule_schulze::votes::matrix` meets its contract: the rows below i have the numbers of ballots.
+-- `rule_schulze::votes::matrix` meets its contract: the rows below i have the votes.
 -- Assumes nothing.
 use mathlib.Core.Path.{_≡_, _∙_, refl}
 use Prim.Native.Nat.{ℕ, _-_, _≤_, _<_}

@@ -1,4 +1,4 @@
--- `rule_schulze::votes::row_of` meets its contract: below j the row has the numbers of ballots.
+-- `rule_schulze::votes::row_of` meets its contract: below j the row has the votes.
 -- Assumes nothing.
 use mathlib.Core.Path.{_≡_, _∙_, refl}
 use Prim.Native.Nat.{ℕ, _-_, _≤_, _<_}

@@ -1,4 +1,4 @@
--- `season::run::number` meets its contract: the four bytes make a number of 32 bits.
+-- `season::run::number` meets its contract: four bytes make a 32-bit number.
 -- Assumes nothing.
 use Rattle.season.specs.Season.{numberAt}
 use borrow.Author.Needs.{needs}

@@ -1,4 +1,4 @@
--- `season::sheet::first_bad` meets its contract: testing the runs from here is testing all from the start.
+-- `season::sheet::first_bad` meets its contract: testing the runs from here on is testing all of them.
 -- Assumes nothing.
 use mathlib.Core.Path.{_≡_, _∙_, sym, ap}
 use mathlib.Core.List.{List}
@@ -23,7 +23,7 @@ abbrev μ-loop : tie.MeasureT-loop
 loop-holds : tie.Need-loop-holds Inv-loop μ-loop
 loop-holds c = (omega arith, omega arith, ap (λ (n : ℕ). firstBadRun 0 (firstRuns n (c .before .args .bytes .now))) (sub-zero (c .before .args .runs)))
 
--- the run of a turn lies within the bytes
+-- a turn's run lies within the bytes
 end-within : (c : tie.In-loop Inv-loop μ-loop) → c .before .loop .at + runBytes ≤ length (c .before .before .before .args .bytes .now)
 end-within c = omega arith
 
@@ -42,10 +42,10 @@ part-read-end c = end-within c
 read-requires : tie.Need-read-requires Inv-loop μ-loop
 read-requires c κs = part-long (c .before .before .loop .at) (c .before .before .before .before .args .bytes .now) (end-within (c .before))
 
--- what the test says of the run
+-- what the test says about the run
 tested : (c : tie.After-is-good Inv-loop μ-loop) → c .is-good .result
     ≡ goodRun (runOf (take (c .before .before .before .before .loop .at + runBytes - c .before .before .before .before .loop .at) (drop (c .before .before .before .before .loop .at) (c .before .before .before .before .before .before .args .bytes .now))))
-tested c = c .is-good .ensures ∙ ap goodRun (c .before .read .ensures .0)
+tested c = c .is-good .ensures ∙ ap goodRun (c .before .read .ensures .is)
 
 is-good-requires : tie.Need-is-good-requires Inv-loop μ-loop
 is-good-requires c κs = search needs

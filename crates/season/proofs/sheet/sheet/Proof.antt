@@ -1,4 +1,5 @@
--- `season::sheet::sheet` meets its contract: each answer is the definition's at the outcomes of the tests that led there.
+-- `season::sheet::sheet` meets its contract: each answer is the definition's for the outcomes of the tests that led
+-- there.
 -- Assumes nothing.
 use mathlib.Core.Path.{_∙_, sym}
 use Rattle.season.specs.declared.sheet.Refusal.the-variants.{Length, BadRun}

@@ -1,4 +1,4 @@
--- `season::sheet::sums` meets its contract: the sums so far and those of the runs that are left are those of all.
+-- `season::sheet::sums` meets its contract: the sums so far and those of the runs left add up to those of all.
 -- Assumes nothing.
 use mathlib.Core.Path.{_≡_, _∙_, sym, ap}
 use Prim.Native.Nat.{ℕ, _+_, _-_, _*_, _≤_}
@@ -27,7 +27,7 @@ loop-holds c = (
   plus-start (totalsOf (firstRuns (c .before .args .runs - 0) (c .before .args .bytes .now))) ∙ ap (λ (n : ℕ). totalsOf (firstRuns n (c .before .args .bytes .now))) (sub-zero (c .before .args .runs)),
 )
 
--- the run of a turn lies within the bytes
+-- a turn's run lies within the bytes
 end-within : (c : tie.In-loop Inv-loop μ-loop) → c .before .loop .at + runBytes ≤ length (c .before .before .before .args .bytes .now)
 end-within c = omega arith
 
@@ -49,7 +49,10 @@ read-requires c κs = part-long (c .before .before .loop .at) (c .before .before
 plus-requires : tie.Need-plus-requires Inv-loop μ-loop
 plus-requires c κs =
     let at = c .before .before .before in
-    (c .read .ensures .1, sums-most (at .loop .done) 4096 (at .loop .totals) (omega arith) (at .loop .inv .2))
+    record {
+      run = c .read .ensures .small;
+      sums = sums-most (at .loop .done) 4096 (at .loop .totals) (omega arith) (at .loop .inv .2);
+    }
 
 add-done : tie.Need-add-done Inv-loop μ-loop
 add-done c = omega arith
@@ -63,8 +66,8 @@ loop-again c =
     let xs = at .before .before .args .bytes .now in (
       omega arith,
       omega arith,
-      sums-grow (at .loop .done) (at .loop .totals) (c .plus .result) (c .before .read .result) (at .loop .inv .2) (c .before .read .ensures .1) (c .plus .ensures),
-      sums-turn (at .loop .totals) (c .plus .result) (c .before .read .result) (at .loop .done) (at .before .before .args .runs) (at .loop .at) xs (omega arith) (c .plus .ensures) (c .before .read .ensures .0) ∙ at .loop .inv .3,
+      sums-grow (at .loop .done) (at .loop .totals) (c .plus .result) (c .before .read .result) (at .loop .inv .2) (c .before .read .ensures .small) (c .plus .ensures),
+      sums-turn (at .loop .totals) (c .plus .result) (c .before .read .result) (at .loop .done) (at .before .before .args .runs) (at .loop .at) xs (omega arith) (c .plus .ensures) (c .before .read .ensures .is) ∙ at .loop .inv .3,
     )
 
 returns : tie.Need-returns Inv-loop μ-loop

@@ -1,4 +1,5 @@
--- `tally::count::closing_bytes` meets its contract: by the kind of the shape it counts grades or preferences, and applies the rule of that kind.
+-- `tally::count::closing_bytes` meets its contract: it counts grades or preferences, and applies the rule of that
+-- kind.
 -- Assumes nothing.
 use mathlib.Core.Path.{_≡_, _∙_, sym, ap, subst}
 use mathlib.Core.Bool.{true, false}
@@ -53,13 +54,12 @@ winners-requires c κs =
     let graded = c .before in
     let a = graded .before .before .before .args in
     let s = a .shape in
-    let xs = a .ballots .now in (
-      true-T (gradedLimits s) (graded-limits graded),
-      (
-        subst (λ (m : List (List ℕ)). EachGets (s .ballots) (rowsIn (s .candidates) (s .grades) m)) (sym (c .counts .ensures .0)) (array-gets s xs (graded-ballots graded)),
-        λ i l. subst (λ (m : List (List ℕ)). length (getD m i []) ≡ 7) (sym (c .counts .ensures .0)) (array-columns s xs i l),
-      ),
-    )
+    let xs = a .ballots .now in
+    record {
+      within = true-T (gradedLimits s) (graded-limits graded);
+      gets = subst (λ (m : List (List ℕ)). EachGets (s .ballots) (rowsIn (s .candidates) (s .grades) m)) (sym (c .counts .ensures .array)) (array-gets s xs (graded-ballots graded));
+      columns = λ i l. subst (λ (m : List (List ℕ)). length (getD m i []) ≡ 7) (sym (c .counts .ensures .array)) (array-columns s xs i l);
+    }
 
 returns : tie.Need-returns
 returns c =
@@ -73,7 +73,7 @@ returns-2 c =
     let s = a .shape in
     let xs = a .ballots .now in
     c .winners .ensures
-    ∙ ap (λ (m : List (List ℕ)). eightBytes (judgmentOf (rowsIn (s .candidates) (s .grades) m))) (c .before .counts .ensures .0)
+    ∙ ap (λ (m : List (List ℕ)). eightBytes (judgmentOf (rowsIn (s .candidates) (s .grades) m))) (c .before .counts .ensures .array)
     ∙ ap (λ (m : List (List ℕ)). eightBytes (judgmentOf m)) (array-rows s xs (within s (graded-limits graded)))
     ∙ ap eightBytes (sym (closing-graded s xs (grading graded)))
 

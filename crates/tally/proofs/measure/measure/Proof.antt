@@ -1,4 +1,4 @@
--- `tally::measure::measure` meets its contract: `graded_writer` measures the own list of a shape within its limits.
+-- `tally::measure::measure` meets its contract: it measures the own list of a shape within its limits.
 -- Assumes nothing.
 use mathlib.Core.Path.{_≡_, _∙_, sym, ap}
 use mathlib.Core.Bool.{Bool, true, false}
@@ -53,7 +53,7 @@ returns-2 : tie.Need-returns-2
 unfolding measuredBy
 returns-2 c =
     let s = c .before .before .before .before .args .shape in
-    ap accepted (measured s (c .before .measure .result .gate) (c .before .measure .result .conditional) (c .ballot-bytes .result) (c .before .measure .ensures .0) (c .before .measure .ensures .1) (c .ballot-bytes .ensures)) ∙ sym (inside s (limits (c .before .before)))
+    ap accepted (measured s (c .before .measure .result .gate) (c .before .measure .result .conditional) (c .ballot-bytes .result) (c .before .measure .ensures .gates) (c .before .measure .ensures .conditionals) (c .ballot-bytes .ensures)) ∙ sym (inside s (limits (c .before .before)))
 
 pub measure-spec : {M : Type 1} → statement M
 measure-spec =

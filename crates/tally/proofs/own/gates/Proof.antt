@@ -1,4 +1,4 @@
--- `tally::own::gates` meets its contract: each kind's own way to count the gates.
+-- `tally::own::gates` meets its contract: each kind has its own way to count its gates.
 -- Assumes nothing.
 use mathlib.Core.Path.{_≡_, _∙_, sym, ap}
 use mathlib.Core.Bool.{false}

@@ -20,7 +20,7 @@ use Rattle.tally.proofs.own.own_list.Tie as tie
 is-ranking-requires : tie.Need-is-ranking-requires
 is-ranking-requires c κs = search needs
 
--- the writer that starts a list of so many inputs
+-- the writer that starts a list with this many inputs
 first : ℕ → Writer
 first inputs = record { gate = 0; wire = inputs; conditional = 0 }
 
@@ -31,7 +31,7 @@ ranking c = sym (c .before .is-ranking .ensures) ∙ c .if1 .taken
 grading : (c : tie.Else1) → isRanking (c .before .before .before .args .shape) ≡ false
 grading c = sym (c .before .is-ranking .ensures) ∙ c .if1 .left
 
--- so their numbers are few
+-- so their numbers are small
 ranks : (c : tie.Then1) → Ranked (c .before .before .before .args .shape)
 ranks c =
     let start = c .before .before .before in

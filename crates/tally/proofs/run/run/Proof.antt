@@ -1,4 +1,5 @@
--- `tally::run::run` meets its contract: where the tests pass, the evaluation fills the wire table and the board and the wire table is emptied, and else nothing is touched.
+-- `tally::run::run` meets its contract: if the tests pass, the evaluation fills wire table and board, and the wire
+-- table is emptied; otherwise nothing is touched.
 -- Assumes nothing.
 use mathlib.Core.Path.{_≡_, _∙_, refl, sym, ap}
 use mathlib.Core.Option.{Option, none, some}
@@ -19,7 +20,7 @@ test-run-requires c κs = search needs
 enum-told : tie.Need-enum-told
 enum-told c = search needs
 
--- where the tests pass
+-- after the tests have passed
 start-of : tie.After-enum-told → tie.Start
 start-of c = c .before .before .before .before .before .before .before .before .before .before
 
@@ -63,7 +64,7 @@ returns c =
     let e = ran-by (a .shape) (a .table .now) (a .ballots .now) (a .tape .now) (a .wires .now) (a .board .now) none (no-reason told) in
     let kept = done .run .kept .1 .1 .1 .1 .0 in
     same-result (told .before .before .test-run .ensures ∙ ap (λ (o : Option Reason). outcome o (sizeOf (gatesOf (a .table .now)))) (no-reason told))
-    (emptied .empty .ensures ∙ ap (λ (n : ℕ). replicate n 0) kept) (done .run .ensures .1)
+    (emptied .empty .ensures ∙ ap (λ (n : ℕ). replicate n 0) kept) (done .run .ensures .board)
     ∙ sym e
 
 same-length-3 : tie.Need-same-length-3

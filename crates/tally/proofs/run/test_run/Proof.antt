@@ -1,4 +1,4 @@
--- `tally::run::test_run` meets its contract: the list is tested first, then the ballots, then what else is lent.
+-- `tally::run::test_run` meets its contract: it tests the list, then the ballots, then the buffers.
 -- Assumes nothing.
 use mathlib.Core.Path.{_≡_, _∙_, sym, ap}
 use mathlib.Core.Option.{Option, none, some}
@@ -17,13 +17,13 @@ use Rattle.tally.proofs.RunReasons.{by-test, by-ballots, by-lent}
 use Rattle.tally.proofs.run.test_run.Statement.{statement}
 use Rattle.tally.proofs.run.test_run.Tie as tie
 
--- the first reason decides of the answer
+-- the first reason decides the answer
 refuses : (c : tie.Start) (r : Reason) → let a = c .args in firstOf (runReasons (a .shape) (a .table .now) (a .ballots .now) (a .tape .now) (a .wires .now) (a .board .now)) ≡ some r
     → refused r ≡ outcome (firstOf (runReasons (a .shape) (a .table .now) (a .ballots .now) (a .tape .now) (a .wires .now) (a .board .now))) (sizeOf (gatesOf (a .table .now)))
 unfolding outcome
 refuses c r e = sym (ap (λ (o : Option Reason). outcome o (sizeOf (gatesOf (c .args .table .now)))) e)
 
--- past the test of the list
+-- after the test of the list
 size : tie.After-known-told → Size
 size c = let g = c .before .answer .given in record { gates = g .0 .0; conditional = g .0 .1 .0 }
 
@@ -33,7 +33,7 @@ passed c =
     let a = c .before .before .before .before .before .before .before .before .before .args in
     test-passed (a .shape) (a .table .now) (size c) (sym (c .before .before .before .test .ensures) ∙ ap outcomeOf (c .before .answer .given .1))
 
--- past the test of the ballots
+-- after the test of the ballots
 no-reason : (c : tie.After-enum-told2) → let a = c .before .before .before .before .before .before .before .before .before .before .before .before .args in firstOf (ballotReasons (a .shape) (a .ballots .now)) ≡ none
 unfolding refusedFor
 no-reason c = sym (c .before .before .test2 .ensures) ∙ ap refusedFor (c .enum-told2 .given .1)

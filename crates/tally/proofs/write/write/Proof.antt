@@ -1,4 +1,5 @@
--- `tally::write::write` meets its contract: `graded_writer` writes the own list where the table has room for it.
+-- `tally::write::write` meets its contract: the writer of the shape's kind writes the own list if the table has room
+-- for it.
 -- Assumes nothing.
 use mathlib.Core.Path.{_≡_, _∙_, sym, ap}
 use mathlib.Core.Bool.{true}

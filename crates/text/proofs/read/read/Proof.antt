@@ -35,7 +35,7 @@ returns c =
     let w = c .before .is-within-limits in
     same-text (read-refused (a .shape) (a .text .now) (a .output .now) (reasonAt 1 0) (shape-outside (a .shape) (a .text .now) (a .output .now) (sym (w .ensures) ∙ not-true (w .result) (c .if1 .taken))))
 
--- what the tests passed establish, one after the other
+-- what each test that passed establishes
 limits : (c : tie.Else1) → withinLimits (c .before .before .before .before .args .shape) ≡ true
 limits c = sym (c .before .is-within-limits .ensures) ∙ not-false (c .before .is-within-limits .result) (c .if1 .left)
 
@@ -102,7 +102,7 @@ ballot-bytes-requires : tie.Need-ballot-bytes-requires
 ballot-bytes-requires c κs = true-T (withinLimits (c .before .before .before .before .before .before .before .before .before .before .before .args .shape)) (limits (c .before .before .before .before .before .before .before))
 
 first-bad-requires : tie.Need-first-bad-requires
-first-bad-requires c κs = (inputs-some c, (inputs-few c, gates-all (c .before)))
+first-bad-requires c κs = record { some = inputs-some c; few = inputs-few c; formed = gates-all (c .before) }
 
 enum-known-g : tie.Need-enum-known-g
 enum-known-g c = search needs
@@ -133,7 +133,11 @@ fits : (c : tie.Else4) → 4 * length (linesOf (c .before .before .before .befor
 fits c = omega (arith, c .before .before .before .before .before .before .before .before .before .before .before .line-count .ensures, c .if4 .left)
 
 put-gates-requires : tie.Need-put-gates-requires
-put-gates-requires c κs = (gates-all (c .before .before .before .before .before .before), fits (c .before))
+put-gates-requires c κs =
+    record {
+      formed = gates-all (c .before .before .before .before .before .before);
+      room = fits (c .before);
+    }
 
 mul-t18 : tie.Need-mul-t18
 mul-t18 c = omega (arith, c .before .before .before .before .before .before .before .before .before .before .before .before .before .before .before .line-count .ensures, few (c .before .before .before .before .before .before .before .before .before .before .before .before))

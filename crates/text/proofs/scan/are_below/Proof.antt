@@ -1,4 +1,4 @@
--- `text::scan::are_below` meets its contract: each test that fails decides.
+-- `text::scan::are_below` meets its contract: the first test that fails decides.
 -- Assumes nothing.
 use borrow.Author.Tests.{lt-ltb, le-ltb}
 use Rattle.text.proofs.scan.are_below.Statement.{statement}

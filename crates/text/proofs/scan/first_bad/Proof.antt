@@ -22,7 +22,7 @@ abbrev μ-loop : tie.MeasureT-loop
 μ-loop inputs text at₀ i₀ at i = length text - at
 
 loop-holds : tie.Need-loop-holds Inv-loop μ-loop
-loop-holds c = (omega arith, omega arith, c .before .pre .1 .1, refl)
+loop-holds c = (omega arith, omega arith, c .before .pre .formed, refl)
 
 gate-at-requires : tie.Need-gate-at-requires Inv-loop μ-loop
 gate-at-requires c κs = search needs
@@ -38,7 +38,7 @@ returns c =
     let l = c .before .before .before .before .loop in
     let text = c .before .before .before .before .before .before .args .text .now in
     let r = c .before .before .gate-at in
-    not-both (firstMalformed 0 (linesOf (drop (l .at) text))) 0 (here-other text (l .at) (r .result) (r .ensures .0) (r .ensures .1) (c .enum-told .given .1) (c .before .before .before .loop-test .taken) 0) (l .inv .2)
+    not-both (firstMalformed 0 (linesOf (drop (l .at) text))) 0 (here-other text (l .at) (r .result) (r .ensures) (c .enum-told .given .1) (c .before .before .before .loop-test .taken) 0) (l .inv .2)
 
 add-are-below : tie.Need-add-are-below Inv-loop μ-loop
 add-are-below c = omega arith
@@ -51,7 +51,7 @@ returns-2 c =
     let l = c .before .before .before .before .before .before .before .loop in
     let a = c .before .before .before .before .before .before .before .before .before .args in
     let r = c .before .before .before .before .before .gate-at in
-    sym (here-bad (a .text .now) (l .at) (r .result) (r .ensures .0) (r .ensures .1) _ _ _ _ _ (c .before .before .before .kind .given .1) (a .inputs) (l .i) (sym (not-true (c .before .are-below .result) (c .if1 .taken)) ∙ c .before .are-below .ensures ∙ sym (good-here (a .text .now) (l .at) (r .result) (r .ensures .0) (r .ensures .1) _ _ _ _ _ (c .before .before .before .kind .given .1) (a .inputs + l .i) (omega (arith, c .before .before .before .before .before .before .before .before .before .pre .0))))) ∙ l .inv .3
+    sym (here-bad (a .text .now) (l .at) (r .result) (r .ensures) _ _ _ _ _ (c .before .before .before .kind .given .1) (a .inputs) (l .i) (sym (not-true (c .before .are-below .result) (c .if1 .taken)) ∙ c .before .are-below .ensures ∙ sym (good-here (a .text .now) (l .at) (r .result) (r .ensures) _ _ _ _ _ (c .before .before .before .kind .given .1) (a .inputs + l .i) (omega (arith, c .before .before .before .before .before .before .before .before .before .pre .some))))) ∙ l .inv .3
 
 add-i : tie.Need-add-i Inv-loop μ-loop
 add-i c = omega arith
@@ -59,7 +59,7 @@ add-i c = omega arith
 loop-less : tie.Need-loop-less Inv-loop μ-loop
 loop-less c =
     let r = c .before .before .before .before .before .gate-at in
-    let later = next-later (c .before .before .before .before .before .before .before .before .before .args .text .now) (c .before .before .before .before .before .before .before .loop .at) (r .result) (r .ensures .0) (r .ensures .1) _ _ _ _ _ (c .before .before .before .kind .given .1) in
+    let later = next-later (c .before .before .before .before .before .before .before .before .before .args .text .now) (c .before .before .before .before .before .before .before .loop .at) (r .result) (r .ensures) _ _ _ _ _ (c .before .before .before .kind .given .1) in
     omega (arith, c .before .before .before .before .before .before .loop-test .taken)
 
 loop-again : tie.Need-loop-again Inv-loop μ-loop
@@ -70,13 +70,13 @@ loop-again c =
     let r = c .before .before .before .before .before .gate-at in
     let g = c .before .before .before .kind .given in
     let next = g .0 .1 .1 .1 .1 .0 in
-    let later = next-later text (l .at) (r .result) (r .ensures .0) (r .ensures .1) _ _ _ _ next (g .1) in
-    let good = sym (not-false (c .before .are-below .result) (c .if1 .left)) ∙ c .before .are-below .ensures ∙ sym (good-here text (l .at) (r .result) (r .ensures .0) (r .ensures .1) _ _ _ _ next (g .1) (a .inputs + l .i) (omega (arith, c .before .before .before .before .before .before .before .before .before .pre .0))) in (
-      next-within text (l .at) (r .result) (r .ensures .0) (r .ensures .1) _ _ _ _ next (g .1),
+    let later = next-later text (l .at) (r .result) (r .ensures) _ _ _ _ next (g .1) in
+    let good = sym (not-false (c .before .are-below .result) (c .if1 .left)) ∙ c .before .are-below .ensures ∙ sym (good-here text (l .at) (r .result) (r .ensures) _ _ _ _ next (g .1) (a .inputs + l .i) (omega (arith, c .before .before .before .before .before .before .before .before .before .pre .some))) in (
+      next-within text (l .at) (r .result) (r .ensures) _ _ _ _ next (g .1),
       omega arith,
-      nowhere-any (linesOf (drop next text)) 1 0 (sym (later-other text (l .at) (r .result) (r .ensures .0) (r .ensures .1) _ _ _ _ next (g .1) 0) ∙ l .inv .2),
+      nowhere-any (linesOf (drop next text)) 1 0 (sym (later-other text (l .at) (r .result) (r .ensures) _ _ _ _ next (g .1) 0) ∙ l .inv .2),
       ap (λ (n : ℕ). firstBad (a .inputs) n (gatesIn (linesOf (drop next text)))) (add-one (l .i))
-          ∙ sym (later-good text (l .at) (r .result) (r .ensures .0) (r .ensures .1) _ _ _ _ next (g .1) (a .inputs) (l .i) good) ∙ l .inv .3,
+          ∙ sym (later-good text (l .at) (r .result) (r .ensures) _ _ _ _ next (g .1) (a .inputs) (l .i) good) ∙ l .inv .3,
     )
 
 returns-3 : tie.Need-returns-3 Inv-loop μ-loop

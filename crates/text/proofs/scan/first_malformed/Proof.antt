@@ -33,7 +33,7 @@ returns : tie.Need-returns Inv-loop μ-loop
 returns c =
     let l = c .before .before .before .before .loop in
     let r = c .before .before .gate-at in
-    sym (here-other (c .before .before .before .before .before .before .args .text .now) (l .at) (r .result) (r .ensures .0) (r .ensures .1) (c .enum-told .given .1) (c .before .before .before .loop-test .taken) (l .i)) ∙ l .inv .2
+    sym (here-other (c .before .before .before .before .before .before .args .text .now) (l .at) (r .result) (r .ensures) (c .enum-told .given .1) (c .before .before .before .loop-test .taken) (l .i)) ∙ l .inv .2
 
 add-i : tie.Need-add-i Inv-loop μ-loop
 add-i c = omega arith
@@ -41,7 +41,7 @@ add-i c = omega arith
 loop-less : tie.Need-loop-less Inv-loop μ-loop
 loop-less c =
     let r = c .before .before .before .gate-at in
-    let later = next-later (c .before .before .before .before .before .before .before .args .text .now) (c .before .before .before .before .before .loop .at) (r .result) (r .ensures .0) (r .ensures .1) _ _ _ _ _ (c .before .next .given .1) in
+    let later = next-later (c .before .before .before .before .before .before .before .args .text .now) (c .before .before .before .before .before .loop .at) (r .result) (r .ensures) _ _ _ _ _ (c .before .next .given .1) in
     omega (arith, c .before .before .before .before .loop-test .taken)
 
 loop-again : tie.Need-loop-again Inv-loop μ-loop
@@ -51,11 +51,11 @@ loop-again c =
     let r = c .before .before .before .gate-at in
     let g = c .before .next .given in
     let next = g .0 .1 .1 .1 .1 .0 in
-    let later = next-later text (l .at) (r .result) (r .ensures .0) (r .ensures .1) _ _ _ _ next (g .1) in (
-      next-within text (l .at) (r .result) (r .ensures .0) (r .ensures .1) _ _ _ _ next (g .1),
+    let later = next-later text (l .at) (r .result) (r .ensures) _ _ _ _ next (g .1) in (
+      next-within text (l .at) (r .result) (r .ensures) _ _ _ _ next (g .1),
       omega arith,
       ap (λ (n : ℕ). firstMalformed n (linesOf (drop next text))) (add-one (l .i))
-          ∙ sym (later-other text (l .at) (r .result) (r .ensures .0) (r .ensures .1) _ _ _ _ next (g .1) (l .i)) ∙ l .inv .2,
+          ∙ sym (later-other text (l .at) (r .result) (r .ensures) _ _ _ _ next (g .1) (l .i)) ∙ l .inv .2,
     )
 
 returns-2 : tie.Need-returns-2 Inv-loop μ-loop

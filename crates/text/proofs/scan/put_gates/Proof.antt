@@ -25,7 +25,7 @@ abbrev μ-loop : tie.MeasureT-loop
 μ-loop text output₀ at₀ i₀ output at i = length text - at
 
 loop-holds : tie.Need-loop-holds Inv-loop μ-loop
-loop-holds c = (omega arith, c .before .before .pre .0, omega (arith, c .before .before .pre .1), refl, refl)
+loop-holds c = (omega arith, c .before .before .pre .formed, omega (arith, c .before .before .pre .room), refl, refl)
 
 gate-at-requires : tie.Need-gate-at-requires Inv-loop μ-loop
 gate-at-requires c κs = search needs
@@ -44,14 +44,14 @@ returns c =
     let l = c .before .before .before .before .loop in
     let text = c .before .before .before .before .before .before .before .args .text .now in
     let r = c .before .before .gate-at in
-    not-both (firstMalformed 0 (linesOf (drop (l .at) text))) 0 (here-other text (l .at) (r .result) (r .ensures .0) (r .ensures .1) (c .enum-told .given .1) (c .before .before .before .loop-test .taken) 0) (l .inv .1)
+    not-both (firstMalformed 0 (linesOf (drop (l .at) text))) 0 (here-other text (l .at) (r .result) (r .ensures) (c .enum-told .given .1) (c .before .before .before .loop-test .taken) 0) (l .inv .1)
 
 -- there is room for one more gate
 room : (c : tie.After-known-told Inv-loop μ-loop) → c .before .before .before .before .before .loop .i + 4 ≤ length (c .before .before .before .before .before .loop .output)
 room c =
     let l = c .before .before .before .before .before .loop in
     let r = c .before .before .before .gate-at in
-    omega (arith, l .inv .2, later-lines (c .before .before .before .before .before .before .before .before .args .text .now) (l .at) (r .result) (r .ensures .0) (r .ensures .1) _ _ _ _ _ (c .before .kind .given .1))
+    omega (arith, l .inv .2, later-lines (c .before .before .before .before .before .before .before .before .args .text .now) (l .at) (r .result) (r .ensures) _ _ _ _ _ (c .before .kind .given .1))
 
 mul-output : tie.Need-mul-output Inv-loop μ-loop
 mul-output c = omega (arith, room c)
@@ -92,7 +92,7 @@ add-i c = omega (arith, room c)
 loop-less : tie.Need-loop-less Inv-loop μ-loop
 loop-less c =
     let r = c .before .before .before .gate-at in
-    let later = next-later (c .before .before .before .before .before .before .before .before .args .text .now) (c .before .before .before .before .before .loop .at) (r .result) (r .ensures .0) (r .ensures .1) _ _ _ _ _ (c .before .kind .given .1) in
+    let later = next-later (c .before .before .before .before .before .before .before .before .args .text .now) (c .before .before .before .before .before .loop .at) (r .result) (r .ensures) _ _ _ _ _ (c .before .kind .given .1) in
     omega (arith, c .before .before .before .before .loop-test .taken)
 
 loop-again : tie.Need-loop-again Inv-loop μ-loop
@@ -108,13 +108,13 @@ loop-again c =
     let z = g .0 .1 .1 .1 .0 in
     let rest = numbersOf (gatesIn (linesOf (drop next text))) in
     let long = long-four (l .output) (l .i) k x y z in
-    let lines = later-lines text (l .at) (r .result) (r .ensures .0) (r .ensures .1) _ _ _ _ next (g .1) in (
-      next-within text (l .at) (r .result) (r .ensures .0) (r .ensures .1) _ _ _ _ next (g .1),
-      nowhere-any (linesOf (drop next text)) 1 0 (sym (later-other text (l .at) (r .result) (r .ensures .0) (r .ensures .1) _ _ _ _ next (g .1) 0) ∙ l .inv .1),
+    let lines = later-lines text (l .at) (r .result) (r .ensures) _ _ _ _ next (g .1) in (
+      next-within text (l .at) (r .result) (r .ensures) _ _ _ _ next (g .1),
+      nowhere-any (linesOf (drop next text)) 1 0 (sym (later-other text (l .at) (r .result) (r .ensures) _ _ _ _ next (g .1) 0) ∙ l .inv .1),
       omega (arith, l .inv .2),
       long ∙ l .inv .3,
       put-four (l .output) (l .i) k x y z rest
-          ∙ ap (sets (l .output) (l .i)) (sym (ap numbersOf (later-gates text (l .at) (r .result) (r .ensures .0) (r .ensures .1) k x y z next (g .1)) ∙ numbers-cons (record { kind = k; a = x; b = y; c = z }) (gatesIn (linesOf (drop next text)))))
+          ∙ ap (sets (l .output) (l .i)) (sym (ap numbersOf (later-gates text (l .at) (r .result) (r .ensures) k x y z next (g .1)) ∙ numbers-cons (record { kind = k; a = x; b = y; c = z }) (gatesIn (linesOf (drop next text)))))
           ∙ l .inv .4,
     )
 

@@ -87,13 +87,13 @@ loop-again c =
     let n = length-append line rest in
     let k = ap (λ (j : ℕ). textOf (drop j (gatesOf t))) (add-one (l .g)) in
     let r = c .before .before .put-line in
-    let long = ap length (r .ensures .1) ∙ length-sets (l .output) (l .place) line in (
+    let long = ap length (r .ensures .is) ∙ length-sets (l .output) (l .place) line in (
       omega arith,
-      omega (arith, l .inv .1, r .ensures .0, ap length k),
+      omega (arith, l .inv .1, r .ensures .next, ap length k),
       long ∙ l .inv .2,
       ap (λ (x : List ℕ). sets (r .last .1 .1 .1 .1 .1 .0) (r .result) x) k
-          ∙ ap (λ (x : List ℕ). sets x (r .result) rest) (r .ensures .1)
-          ∙ ap (λ (p : ℕ). sets (sets (l .output) (l .place) line) p rest) (r .ensures .0)
+          ∙ ap (λ (x : List ℕ). sets x (r .result) rest) (r .ensures .is)
+          ∙ ap (λ (p : ℕ). sets (sets (l .output) (l .place) line) p rest) (r .ensures .next)
           ∙ sym (ap (sets (l .output) (l .place)) here ∙ sets-append (l .output) (l .place) line rest)
           ∙ l .inv .3,
     )

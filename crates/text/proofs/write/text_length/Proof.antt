@@ -64,7 +64,7 @@ line-length-requires : tie.Need-line-length-requires Inv-loop μ-loop
 line-length-requires c κs = search needs
 
 add-total : tie.Need-add-total Inv-loop μ-loop
-add-total c = omega (arith, c .line-length .ensures .1, c .before .before .before .before .before .before .before .before .pre, length-gates (c .before .before .before .before .before .before .before .before .args .table .now))
+add-total c = omega (arith, c .line-length .ensures .short, c .before .before .before .before .before .before .before .before .pre, length-gates (c .before .before .before .before .before .before .before .before .args .table .now))
 
 add-g : tie.Need-add-g Inv-loop μ-loop
 add-g c = omega arith
@@ -80,7 +80,7 @@ loop-again c =
     let e = ap length (text-from t (l .g) (omega (arith, length-gates t))) in
     let n = length-append (lineOf (record { kind = getD t (4 * l .g) 0; a = getD t (4 * l .g + 1) 0; b = getD t (4 * l .g + 2) 0; c = getD t (4 * l .g + 3) 0 })) rest in
     let k = ap (λ (j : ℕ). length (textOf (drop j (gatesOf t)))) (add-one (l .g)) in
-    (omega arith, omega (arith, c .line-length .ensures .1), omega (arith, c .line-length .ensures .0, l .inv .2))
+    (omega arith, omega (arith, c .line-length .ensures .short), omega (arith, c .line-length .ensures .is, l .inv .2))
 
 returns : tie.Need-returns Inv-loop μ-loop
 returns c =

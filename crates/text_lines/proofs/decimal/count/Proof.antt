@@ -1,4 +1,4 @@
--- `text::decimal::count` meets its contract.
+-- `text_lines::decimal::count` meets its contract.
 -- Assumes nothing.
 use mathlib.Core.Path.{subst}
 use Prim.Native.Nat.{ℕ, _*_, _≤_}

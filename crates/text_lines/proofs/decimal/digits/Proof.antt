@@ -1,4 +1,4 @@
--- `text::decimal::digits` meets its contract.
+-- `text_lines::decimal::digits` meets its contract.
 -- Assumes nothing.
 use mathlib.Core.Path.{_≡_, _∙_, refl, sym, ap}
 use mathlib.Core.Bool.{true}
@@ -39,7 +39,10 @@ returns c =
     let at = c .before .before .before .before in
     let text = at .before .before .args .text .now in
     let other = sym (c .before .is-digit .ensures) ∙ not-true (c .before .is-digit .result) (c .if1 .taken) in
-    (sym (digits-stop (at .loop .value) text (at .loop .i) (c .before .before .before .loop-test .taken) other) ∙ at .loop .inv .2, at .loop .inv .0)
+    record {
+      found = sym (digits-stop (at .loop .value) text (at .loop .i) (c .before .before .before .loop-test .taken) other) ∙ at .loop .inv .2;
+      within = at .loop .inv .0;
+    }
 
 -- the character of a turn is a digit
 is-digit-here : (c : tie.Else1 Inv-loop μ-loop) → isDigit (getD (c .before .before .before .before .before .before .args .text .now) (c .before .before .before .before .loop .i) 0) ≡ true
@@ -68,7 +71,10 @@ unfolding numberFound
 returns-2 c =
     let at = c .before .before .before .before .before .before in
     let text = at .before .before .args .text .now in
-    (sym (digits-over (at .loop .value) text (at .loop .i) (c .before .before .before .before .before .loop-test .taken) (is-digit-here (c .before .before)) (omega (arith, value-is (c .before)))) ∙ at .loop .inv .2, tt)
+    record {
+      found = sym (digits-over (at .loop .value) text (at .loop .i) (c .before .before .before .before .before .loop-test .taken) (is-digit-here (c .before .before)) (omega (arith, value-is (c .before)))) ∙ at .loop .inv .2;
+      within = tt;
+    }
 
 add-i : tie.Need-add-i Inv-loop μ-loop
 add-i c = omega arith
@@ -98,7 +104,10 @@ unfolding numberFound
 returns-3 c =
     let at = c .before in
     let text = at .before .before .args .text .now in
-    (sym (digits-all (at .loop .value) text (at .loop .i) (c .loop-test .left)) ∙ at .loop .inv .2, at .loop .inv .0)
+    record {
+      found = sym (digits-all (at .loop .value) text (at .loop .i) (c .loop-test .left)) ∙ at .loop .inv .2;
+      within = at .loop .inv .0;
+    }
 
 pub digits-spec : {M : Type 1} → statement M
 digits-spec =

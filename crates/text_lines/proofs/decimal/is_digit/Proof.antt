@@ -1,4 +1,4 @@
--- `text::decimal::is_digit` meets its contract.
+-- `text_lines::decimal::is_digit` meets its contract.
 -- Assumes nothing.
 use borrow.Author.Tests.{le-leb, lt-leb}
 use Rattle.text_lines.specs.Decimal.{isDigit}

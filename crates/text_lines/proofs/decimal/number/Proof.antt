@@ -1,4 +1,4 @@
--- `text::decimal::number` meets its contract.
+-- `text_lines::decimal::number` meets its contract.
 -- Assumes nothing.
 use mathlib.Core.Path.{_≡_, _∙_, sym, ap}
 use mathlib.Core.Bool.{true}
@@ -16,7 +16,9 @@ use Rattle.text_lines.proofs.decimal.number.Tie as tie
 
 returns : tie.Need-returns
 unfolding numberFound
-returns c = let a = c .before .before .args in (sym (number-none (a .text .now) (a .at) (c .if1 .taken)), tt)
+returns c =
+    let a = c .before .before .args in
+    record { found = sym (number-none (a .text .now) (a .at) (c .if1 .taken)); within = tt }
 
 shared-slice-read-c : tie.Need-shared-slice-read-c
 shared-slice-read-c c = search needs
@@ -29,7 +31,7 @@ unfolding numberFound
 returns-2 c =
     let a = c .before .before .before .before .before .args in
     let other = sym (c .before .is-digit .ensures) ∙ not-true (c .before .is-digit .result) (c .if2 .taken) in
-    (sym (number-other (a .text .now) (a .at) (omega arith) other), tt)
+    record { found = sym (number-other (a .text .now) (a .at) (omega arith) other); within = tt }
 
 add-t9 : tie.Need-add-t9
 add-t9 c = search needs
@@ -38,7 +40,10 @@ returns-3 : tie.Need-returns-3
 unfolding numberFound
 returns-3 c =
     let a = c .before .before .before .before .before .before .args in
-    (ap (λ (k : ℕ). taken 0 (drop k (a .text .now))) (add-one (a .at)) ∙ sym (number-zero (a .text .now) (a .at) (omega arith) (c .if3 .taken)), omega arith)
+    record {
+      found = ap (λ (k : ℕ). taken 0 (drop k (a .text .now))) (add-one (a .at)) ∙ sym (number-zero (a .text .now) (a .at) (omega arith) (c .if3 .taken));
+      within = omega arith;
+    }
 
 -- the first character is a digit
 is-digit-here : (c : tie.Else2) → isDigit (getD (c .before .before .before .before .before .args .text .now) (c .before .before .before .before .before .args .at) 0) ≡ true
@@ -59,11 +64,12 @@ digits-requires c κs = search needs
 returns-4 : tie.Need-returns-4
 returns-4 c =
     let a = c .before .before .before .before .before .before .before .args in
-    let text = a .text .now in (
-      c .digits .ensures .0 ∙ ap (λ (k : ℕ). digitsIn (getD text (a .at) 0 - 48) (drop k text)) (add-one (a .at))
-          ∙ sym (number-digits text (a .at) (omega arith) (is-digit-here (c .before .before)) (c .before .if3 .left)),
-      c .digits .ensures .1,
-    )
+    let text = a .text .now in
+    record {
+      found = c .digits .ensures .found ∙ ap (λ (k : ℕ). digitsIn (getD text (a .at) 0 - 48) (drop k text)) (add-one (a .at))
+          ∙ sym (number-digits text (a .at) (omega arith) (is-digit-here (c .before .before)) (c .before .if3 .left));
+      within = c .digits .ensures .within;
+    }
 
 pub number-spec : {M : Type 1} → statement M
 number-spec =

@@ -1,4 +1,4 @@
--- `text::decimal::put` meets its contract.
+-- `text_lines::decimal::put` meets its contract: the last digit goes to the last place, and its tenth before it.
 -- Assumes nothing.
 use mathlib.Core.Path.{refl}
 use mathlib.Core.Path.{_≡_, _∙_}
@@ -73,10 +73,11 @@ same-length c = length-set (c .before .before .loop .output) (c .before .before 
 returns : tie.Need-returns Inv-loop μ-loop
 returns c =
     let l = c .before .before .loop in
-    let a = c .before .before .before .before .before .args in (
-      omega (arith, c .before .before .before .count .ensures),
-      store-first (l .output) (a .at) (l .i) (l .rest) (c .digit2 .result) (c .before .loop-test .left) (c .digit2 .ensures) (l .inv .1) ∙ l .inv .4,
-    )
+    let a = c .before .before .before .before .before .args in
+    record {
+      next = omega (arith, c .before .before .before .count .ensures);
+      is = store-first (l .output) (a .at) (l .i) (l .rest) (c .digit2 .result) (c .before .loop-test .left) (c .digit2 .ensures) (l .inv .1) ∙ l .inv .4;
+    }
 
 pub put-spec : {M : Type 1} → statement M
 put-spec =

@@ -1,4 +1,4 @@
--- `text::line::gate_at` meets its contract.
+-- `text_lines::line::gate_at` meets its contract.
 -- Assumes nothing.
 use mathlib.Core.Path.{_≡_, _∙_, sym, ap}
 use mathlib.Core.Option.{none, some}
@@ -30,27 +30,34 @@ returns : tie.Need-returns
 unfolding lineFound
 returns c =
     let n = c .before .before .number in
-    (sym (kind-lost (drop (c .before .before .before .before .args .at) (c .before .before .before .before .args .text .now)) (lost (c .before .before .before .before .args .text .now) (n .result) _ (n .ensures .0) (c .enum-told .given .1))), tt)
+    record {
+      found = sym (kind-lost (drop (c .before .before .before .before .args .at) (c .before .before .before .before .args .text .now)) (lost (c .before .before .before .before .args .text .now) (n .result) _ (n .ensures .found) (c .enum-told .given .1)));
+      within = tt;
+    }
 
 -- the kind as it was read, and what is left of the reading
 abbrev kind-read : tie.After-known-told → Taken ℕ
 kind-read c = record { value = c .before .kind .given .0 .0; behind = drop (c .before .kind .given .0 .1 .0) (c .before .before .before .before .before .args .text .now) }
 
 number-is : (c : tie.After-known-told) → numberIn (drop (c .before .before .before .before .before .args .at) (c .before .before .before .before .before .args .text .now)) ≡ some (kind-read c)
-number-is c = let n = c .before .before .before .number in found (c .before .before .before .before .before .args .text .now) (n .result) _ (n .ensures .0) _ _ (c .before .kind .given .1)
+number-is c = let n = c .before .before .before .number in found (c .before .before .before .before .before .args .text .now) (n .result) _ (n .ensures .found) _ _ (c .before .kind .given .1)
 
 left-kind : (c : tie.Else1) → gateIn (drop (c .before .before .before .before .before .before .args .at) (c .before .before .before .before .before .before .args .text .now)) ≡ afterKind (kind-read (c .before))
 left-kind c = kind-found (drop (c .before .before .before .before .before .before .args .at) (c .before .before .before .before .before .before .args .text .now)) (kind-read (c .before)) (number-is (c .before)) (c .if1 .left)
 
 returns-2 : tie.Need-returns-2
 unfolding lineFound
-returns-2 c = (sym (kind-unknown (drop (c .before .before .before .before .before .before .args .at) (c .before .before .before .before .before .before .args .text .now)) (kind-read (c .before)) (number-is (c .before)) (c .if1 .taken)), tt)
+returns-2 c =
+    record {
+      found = sym (kind-unknown (drop (c .before .before .before .before .before .before .args .at) (c .before .before .before .before .before .before .args .text .now)) (kind-read (c .before)) (number-is (c .before)) (c .if1 .taken));
+      within = tt;
+    }
 
 operands-requires : tie.Need-operands-requires
 operands-requires c κs = search needs
 
 operand-requires : tie.Need-operand-requires
-operand-requires c κs = let n = c .before .before .before .before .before .before .number in found-within (c .before .before .before .before .before .before .before .before .args .text .now) (n .result) _ _ (n .ensures .1) (c .before .before .before .before .kind .given .1)
+operand-requires c κs = let n = c .before .before .before .before .before .before .number in found-within (c .before .before .before .before .before .before .before .before .args .text .now) (n .result) _ _ (n .ensures .within) (c .before .before .before .before .kind .given .1)
 
 enum-known-a : tie.Need-enum-known-a
 enum-known-a c = search needs
@@ -73,7 +80,10 @@ unfolding lineFound
 returns-3 c =
     let k = kind-read (c .before .before .before .before .before .before) in
     let n = c .before .before .operand in
-    (sym (left-kind (c .before .before .before .before .before) ∙ a-lost k (a-asked (c .before .before .before) (k .behind) ∙ lost (c .before .before .before .before .before .before .before .before .before .before .before .args .text .now) (n .result) _ (n .ensures .0) (c .enum-told2 .given .1))), tt)
+    record {
+      found = sym (left-kind (c .before .before .before .before .before) ∙ a-lost k (a-asked (c .before .before .before) (k .behind) ∙ lost (c .before .before .before .before .before .before .before .before .before .before .before .args .text .now) (n .result) _ (n .ensures .found) (c .enum-told2 .given .1)));
+      within = tt;
+    }
 
 abbrev a-read : tie.After-known-told2 → Taken ℕ
 a-read c = record { value = c .before .a .given .0 .0; behind = drop (c .before .a .given .0 .1 .0) (c .before .before .before .before .before .before .before .before .before .before .before .before .args .text .now) }
@@ -82,10 +92,10 @@ left-a : (c : tie.After-known-told2) → gateIn (drop (c .before .before .before
 left-a c =
     let k = kind-read (c .before .before .before .before .before .before .before) in
     let n = c .before .before .before .operand in
-    left-kind (c .before .before .before .before .before .before) ∙ a-found k (a-read c) (a-asked (c .before .before .before .before) (k .behind) ∙ found (c .before .before .before .before .before .before .before .before .before .before .before .before .args .text .now) (n .result) _ (n .ensures .0) _ _ (c .before .a .given .1))
+    left-kind (c .before .before .before .before .before .before) ∙ a-found k (a-read c) (a-asked (c .before .before .before .before) (k .behind) ∙ found (c .before .before .before .before .before .before .before .before .before .before .before .before .args .text .now) (n .result) _ (n .ensures .found) _ _ (c .before .a .given .1))
 
 operand-requires-2 : tie.Need-operand-requires-2
-operand-requires-2 c κs = let n = c .before .before .before .operand in found-within (c .before .before .before .before .before .before .before .before .before .before .before .before .args .text .now) (n .result) _ _ (n .ensures .1) (c .before .a .given .1)
+operand-requires-2 c κs = let n = c .before .before .before .operand in found-within (c .before .before .before .before .before .before .before .before .before .before .before .before .args .text .now) (n .result) _ _ (n .ensures .within) (c .before .a .given .1)
 
 enum-known-b : tie.Need-enum-known-b
 enum-known-b c = search needs
@@ -99,7 +109,10 @@ returns-4 c =
     let k = kind-read (c .before .before .before .before .before .before .before .before .before .before) in
     let x = a-read (c .before .before .before) in
     let n = c .before .before .operand2 in
-    (sym (left-a (c .before .before .before) ∙ b-lost k x (b-asked (c .before .before .before .before .before .before .before) (x .behind) ∙ lost (c .before .before .before .before .before .before .before .before .before .before .before .before .before .before .before .args .text .now) (n .result) _ (n .ensures .0) (c .enum-told3 .given .1))), tt)
+    record {
+      found = sym (left-a (c .before .before .before) ∙ b-lost k x (b-asked (c .before .before .before .before .before .before .before) (x .behind) ∙ lost (c .before .before .before .before .before .before .before .before .before .before .before .before .before .before .before .args .text .now) (n .result) _ (n .ensures .found) (c .enum-told3 .given .1)));
+      within = tt;
+    }
 
 abbrev b-read : tie.After-known-told3 → Taken ℕ
 b-read c = record { value = c .before .b .given .0 .0; behind = drop (c .before .b .given .0 .1 .0) (c .before .before .before .before .before .before .before .before .before .before .before .before .before .before .before .before .args .text .now) }
@@ -109,10 +122,10 @@ left-b c =
     let k = kind-read (c .before .before .before .before .before .before .before .before .before .before .before) in
     let x = a-read (c .before .before .before .before) in
     let n = c .before .before .before .operand2 in
-    left-a (c .before .before .before .before) ∙ b-found k x (b-read c) (b-asked (c .before .before .before .before .before .before .before .before) (x .behind) ∙ found (c .before .before .before .before .before .before .before .before .before .before .before .before .before .before .before .before .args .text .now) (n .result) _ (n .ensures .0) _ _ (c .before .b .given .1))
+    left-a (c .before .before .before .before) ∙ b-found k x (b-read c) (b-asked (c .before .before .before .before .before .before .before .before) (x .behind) ∙ found (c .before .before .before .before .before .before .before .before .before .before .before .before .before .before .before .before .args .text .now) (n .result) _ (n .ensures .found) _ _ (c .before .b .given .1))
 
 operand-requires-3 : tie.Need-operand-requires-3
-operand-requires-3 c κs = let n = c .before .before .before .operand2 in found-within (c .before .before .before .before .before .before .before .before .before .before .before .before .before .before .before .before .args .text .now) (n .result) _ _ (n .ensures .1) (c .before .b .given .1)
+operand-requires-3 c κs = let n = c .before .before .before .operand2 in found-within (c .before .before .before .before .before .before .before .before .before .before .before .before .before .before .before .before .args .text .now) (n .result) _ _ (n .ensures .within) (c .before .b .given .1)
 
 enum-known-c : tie.Need-enum-known-c
 enum-known-c c = search needs
@@ -127,7 +140,10 @@ returns-5 c =
     let x = a-read (c .before .before .before .before .before .before .before) in
     let y = b-read (c .before .before .before) in
     let n = c .before .before .operand3 in
-    (sym (left-b (c .before .before .before) ∙ c-lost k x y (c-asked (c .before .before .before .before .before .before .before .before .before .before .before) (y .behind) ∙ lost (c .before .before .before .before .before .before .before .before .before .before .before .before .before .before .before .before .before .before .before .args .text .now) (n .result) _ (n .ensures .0) (c .enum-told4 .given .1))), tt)
+    record {
+      found = sym (left-b (c .before .before .before) ∙ c-lost k x y (c-asked (c .before .before .before .before .before .before .before .before .before .before .before) (y .behind) ∙ lost (c .before .before .before .before .before .before .before .before .before .before .before .before .before .before .before .before .before .before .before .args .text .now) (n .result) _ (n .ensures .found) (c .enum-told4 .given .1)));
+      within = tt;
+    }
 
 abbrev c-read : tie.After-known-told4 → Taken ℕ
 c-read c = record { value = c .before .c .given .0 .0; behind = drop (c .before .c .given .0 .1 .0) (c .before .before .before .before .before .before .before .before .before .before .before .before .before .before .before .before .before .before .before .before .args .text .now) }
@@ -138,22 +154,30 @@ left-c c =
     let x = a-read (c .before .before .before .before .before .before .before .before) in
     let y = b-read (c .before .before .before .before) in
     let n = c .before .before .before .operand3 in
-    left-b (c .before .before .before .before) ∙ c-found k x y (c-read c) (c-asked (c .before .before .before .before .before .before .before .before .before .before .before .before) (y .behind) ∙ found (c .before .before .before .before .before .before .before .before .before .before .before .before .before .before .before .before .before .before .before .before .args .text .now) (n .result) _ (n .ensures .0) _ _ (c .before .c .given .1))
+    left-b (c .before .before .before .before) ∙ c-found k x y (c-read c) (c-asked (c .before .before .before .before .before .before .before .before .before .before .before .before) (y .behind) ∙ found (c .before .before .before .before .before .before .before .before .before .before .before .before .before .before .before .before .before .before .before .before .args .text .now) (n .result) _ (n .ensures .found) _ _ (c .before .c .given .1))
 
--- the line ends in something else than a line feed
+-- the line does not end in a line feed
 unended : (c : tie.After-known-told4) → endIn (c-read c .behind) ≡ none → gateIn (drop (c .before .before .before .before .before .before .before .before .before .before .before .before .before .before .before .before .before .before .before .before .args .at) (c .before .before .before .before .before .before .before .before .before .before .before .before .before .before .before .before .before .before .before .before .args .text .now)) ≡ none
 unended c e = left-c c ∙ end-lost (kind-read (c .before .before .before .before .before .before .before .before .before .before .before .before .before .before .before)) (a-read (c .before .before .before .before .before .before .before .before)) (b-read (c .before .before .before .before)) (c-read c) e
 
 returns-6 : tie.Need-returns-6
 unfolding lineFound
-returns-6 c = (sym (unended (c .before) (end-none (c .before .before .before .before .before .before .before .before .before .before .before .before .before .before .before .before .before .before .before .before .before .args .text .now) (c .before .before .c .given .0 .1 .0) (c .if2 .taken))), tt)
+returns-6 c =
+    record {
+      found = sym (unended (c .before) (end-none (c .before .before .before .before .before .before .before .before .before .before .before .before .before .before .before .before .before .before .before .before .before .args .text .now) (c .before .before .c .given .0 .1 .0) (c .if2 .taken)));
+      within = tt;
+    }
 
 shared-slice-read-if3 : tie.Need-shared-slice-read-if3
 shared-slice-read-if3 c = search needs
 
 returns-7 : tie.Need-returns-7
 unfolding lineFound
-returns-7 c = (sym (unended (c .before .before .before) (end-other (c .before .before .before .before .before .before .before .before .before .before .before .before .before .before .before .before .before .before .before .before .before .before .before .args .text .now) (c .before .before .before .before .c .given .0 .1 .0) (c .before .before .if2 .left) (c .if3 .taken))), tt)
+returns-7 c =
+    record {
+      found = sym (unended (c .before .before .before) (end-other (c .before .before .before .before .before .before .before .before .before .before .before .before .before .before .before .before .before .before .before .before .before .before .before .args .text .now) (c .before .before .before .before .c .given .0 .1 .0) (c .before .before .if2 .left) (c .if3 .taken)));
+      within = tt;
+    }
 
 add-t20 : tie.Need-add-t20
 add-t20 c = search needs
@@ -168,7 +192,10 @@ returns-8 c =
     let x = a-read (p .before .before .before .before .before .before .before .before) in
     let y = b-read (p .before .before .before .before) in
     let z = c-read p in
-    (sym (left-c p ∙ end-found k x y z (drop (i + 1) text) (end-feed text i (c .before .before .if2 .left) (c .if3 .left) ∙ ap (λ (j : ℕ). some (drop j text)) (sym (add-one i)))), omega (arith, c .before .before .if2 .left))
+    record {
+      found = sym (left-c p ∙ end-found k x y z (drop (i + 1) text) (end-feed text i (c .before .before .if2 .left) (c .if3 .left) ∙ ap (λ (j : ℕ). some (drop j text)) (sym (add-one i))));
+      within = omega (arith, c .before .before .if2 .left);
+    }
 
 pub gate-at-spec : {M : Type 1} → statement M
 gate-at-spec =

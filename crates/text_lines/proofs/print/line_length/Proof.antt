@@ -1,4 +1,4 @@
--- `text::print::line_length` meets its contract.
+-- `text_lines::print::line_length` meets its contract.
 -- Assumes nothing.
 use Prim.Native.Nat.{_≤_}
 use lib.Dec.{ltb}
@@ -58,7 +58,10 @@ returns c =
     let s = c .before .before .before .before .before .before .args in
     let m = c .before .before .before .before .operands in
     let long = line-long (m .result) (record { kind = s .kind; a = s .a; b = s .b; c = s .c }) (m .ensures) in
-    (omega (arith, c .before .before .before .count .ensures, c .before .before .operand-length .ensures, c .before .operand-length2 .ensures, c .operand-length3 .ensures), omega (arith, short c))
+    record {
+      is = omega (arith, c .before .before .before .count .ensures, c .before .before .operand-length .ensures, c .before .operand-length2 .ensures, c .operand-length3 .ensures);
+      short = omega (arith, short c);
+    }
 
 pub line-length-spec : {M : Type 1} → statement M
 line-length-spec =

@@ -1,4 +1,4 @@
--- `text::print::operand_length` meets its contract.
+-- `text_lines::print::operand_length` meets its contract.
 -- Assumes nothing.
 use mathlib.Core.Path.{sym, ap}
 use lib.ListN.{length}

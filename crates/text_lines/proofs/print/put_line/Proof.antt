@@ -1,4 +1,4 @@
--- `text::print::put_line` meets its contract.
+-- `text_lines::print::put_line` meets its contract.
 -- Assumes nothing.
 use mathlib.Core.Path.{_≡_, _∙_, refl, ap}
 use mathlib.Core.List.{List, [], _∷_, _++_}
@@ -8,7 +8,8 @@ use lib.ListN.{length, length-append}
 use lib.Seq.{sets}
 use Rattle.text_lines.specs.Decimal.{decimal}
 use Rattle.text_lines.specs.Line.{operandText, lineOf}
-use Rattle.text_lines.proofs.Storing.{Stored, stored-long, stored-then, line-with, line-long}
+use Rattle.text_lines.specs.inner.Stored.{Stored}
+use Rattle.text_lines.proofs.Storing.{stored-long, stored-then, line-with, line-long}
 use native.Mathlib.Omega.{arith}
 use borrow.Author.Needs.{needs}
 use Rattle.text_lines.proofs.print.put_line.Statement.{statement}
@@ -31,25 +32,25 @@ abbrev kind-text : tie.Start → List ℕ
 kind-text s = decimal (s .args .kind)
 
 kind-stored : (c : tie.After-put) → Stored (c .before .before .before .before .before .args .output .now) (c .before .before .before .before .before .args .at) (decimal (c .before .before .before .before .before .args .kind)) (c .put .last .1 .1 .0) (c .put .result)
-kind-stored c = record { is = c .put .ensures .1; next = c .put .ensures .0 }
+kind-stored c = c .put .ensures
 
 abbrev a-text : tie.After-put-operand → List ℕ
 a-text c = decimal (c .before .before .before .before .before .before .before .before .before .args .kind) ++ operandText (ltb 0 (c .before .before .before .before .before .before .operands .result)) (c .before .before .before .before .before .before .before .before .before .args .a)
 
 a-stored : (c : tie.After-put-operand) → Stored (c .before .before .before .before .before .before .before .before .before .args .output .now) (c .before .before .before .before .before .before .before .before .before .args .at) (a-text c) (c .put-operand .last .1 .1 .1 .0) (c .put-operand .result)
-a-stored c = stored-then (kind-stored (c .before .before .before .before)) (operandText (ltb 0 (c .before .before .before .before .before .before .operands .result)) (c .before .before .before .before .before .before .before .before .before .args .a)) (c .put-operand .last .1 .1 .1 .0) (c .put-operand .result) (c .put-operand .ensures .1) (c .put-operand .ensures .0)
+a-stored c = stored-then (kind-stored (c .before .before .before .before)) (c .put-operand .ensures)
 
 abbrev b-text : tie.After-put-operand2 → List ℕ
 b-text c = a-text (c .before .before .before .before) ++ operandText (ltb 1 (c .before .before .before .before .before .before .before .before .before .before .operands .result)) (c .before .before .before .before .before .before .before .before .before .before .before .before .before .args .b)
 
 b-stored : (c : tie.After-put-operand2) → Stored (c .before .before .before .before .before .before .before .before .before .before .before .before .before .args .output .now) (c .before .before .before .before .before .before .before .before .before .before .before .before .before .args .at) (b-text c) (c .put-operand2 .last .1 .1 .1 .0) (c .put-operand2 .result)
-b-stored c = stored-then (a-stored (c .before .before .before .before)) (operandText (ltb 1 (c .before .before .before .before .before .before .before .before .before .before .operands .result)) (c .before .before .before .before .before .before .before .before .before .before .before .before .before .args .b)) (c .put-operand2 .last .1 .1 .1 .0) (c .put-operand2 .result) (c .put-operand2 .ensures .1) (c .put-operand2 .ensures .0)
+b-stored c = stored-then (a-stored (c .before .before .before .before)) (c .put-operand2 .ensures)
 
 abbrev c-text : tie.After-put-operand3 → List ℕ
 c-text c = b-text (c .before .before .before .before) ++ operandText (ltb 2 (c .before .before .before .before .before .before .before .before .before .before .before .before .before .before .operands .result)) (c .before .before .before .before .before .before .before .before .before .before .before .before .before .before .before .before .before .args .c)
 
 c-stored : (c : tie.After-put-operand3) → Stored (c .before .before .before .before .before .before .before .before .before .before .before .before .before .before .before .before .before .args .output .now) (c .before .before .before .before .before .before .before .before .before .before .before .before .before .before .before .before .before .args .at) (c-text c) (c .put-operand3 .last .1 .1 .1 .0) (c .put-operand3 .result)
-c-stored c = stored-then (b-stored (c .before .before .before .before)) (operandText (ltb 2 (c .before .before .before .before .before .before .before .before .before .before .before .before .before .before .operands .result)) (c .before .before .before .before .before .before .before .before .before .before .before .before .before .before .before .before .before .args .c)) (c .put-operand3 .last .1 .1 .1 .0) (c .put-operand3 .result) (c .put-operand3 .ensures .1) (c .put-operand3 .ensures .0)
+c-stored c = stored-then (b-stored (c .before .before .before .before)) (c .put-operand3 .ensures)
 
 -- how long they are
 a-long : (c : tie.After-put-operand) → length (a-text c) ≡ length (decimal (c .before .before .before .before .before .before .before .before .before .args .kind)) + length (operandText (ltb 0 (c .before .before .before .before .before .before .operands .result)) (c .before .before .before .before .before .before .before .before .before .args .a))
@@ -92,7 +93,7 @@ whole : (c : tie.After-put-operand3) →
 whole c =
     let s = c .before .before .before .before .before .before .before .before .before .before .before .before .before .before .before .before .before .args in
     let r = c .put-operand3 .last .1 .1 .1 .0 in
-    let st = stored-then (c-stored c) (10 ∷ []) (sets r (c .put-operand3 .result) (10 ∷ [])) (c .put-operand3 .result + 1) refl refl in
+    let st = stored-then (c-stored c) {ys = 10 ∷ []} (record { next = refl; is = refl }) in
     let e = line-with (c .before .before .before .before .before .before .before .before .before .before .before .before .before .before .operands .result) (record { kind = s .kind; a = s .a; b = s .b; c = s .c }) (c .before .before .before .before .before .before .before .before .before .before .before .before .before .before .operands .ensures) in
     record { is = st .is ∙ ap (sets (s .output .now) (s .at)) e; next = omega (arith, st .next, ap length e) }
 
@@ -106,7 +107,7 @@ same-length : tie.Need-same-length
 same-length c = stored-long (whole (c .before .before))
 
 returns : tie.Need-returns
-returns c = (whole (c .before .before) .next, whole (c .before .before) .is)
+returns c = whole (c .before .before)
 
 pub put-line-spec : {M : Type 1} → statement M
 put-line-spec =

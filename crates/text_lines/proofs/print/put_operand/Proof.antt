@@ -1,4 +1,4 @@
--- `text::print::put_operand` meets its contract.
+-- `text_lines::print::put_operand` meets its contract.
 -- Assumes nothing.
 use mathlib.Core.Path.{_≡_, _∙_, sym, ap}
 use mathlib.Core.List.{_∷_}
@@ -18,7 +18,7 @@ returns : tie.Need-returns
 returns c =
     let a = c .before .before .args in
     let e = text-unused (a .used) (a .n) (not-true (a .used) (c .if1 .taken)) in
-    (omega (arith, ap length e), sym (ap (sets (a .output .now) (a .at)) e))
+    record { next = omega (arith, ap length e); is = sym (ap (sets (a .output .now) (a .at)) e) }
 
 -- from here on the operand is in use
 in-use : (c : tie.Else1) → operandText (c .before .before .args .used) (c .before .before .args .n) ≡ 32 ∷ decimal (c .before .before .args .n)
@@ -38,15 +38,16 @@ put-requires c κs =
 same-length : tie.Need-same-length
 same-length c =
     let a = c .before .before .before .before .before .before .args in
-    ap length (c .before .before .put .ensures .1) ∙ length-sets (set (a .output .now) (a .at) 32) (a .at + 1) (decimal (a .n)) ∙ length-set (a .output .now) (a .at) 32
+    ap length (c .before .before .put .ensures .is) ∙ length-sets (set (a .output .now) (a .at) 32) (a .at + 1) (decimal (a .n)) ∙ length-set (a .output .now) (a .at) 32
 
 returns-2 : tie.Need-returns-2
 returns-2 c =
     let a = c .before .before .before .before .before .before .args in
-    let p = c .before .before .put .ensures in (
-      omega (arith, p .0, ap length (in-use (c .before .before .before .before))),
-      p .1 ∙ ap (λ (k : ℕ). sets (set (a .output .now) (a .at) 32) k (decimal (a .n))) (add-one (a .at)) ∙ sym (ap (sets (a .output .now) (a .at)) (in-use (c .before .before .before .before))),
-    )
+    let p = c .before .before .put .ensures in
+    record {
+      next = omega (arith, p .next, ap length (in-use (c .before .before .before .before)));
+      is = p .is ∙ ap (λ (k : ℕ). sets (set (a .output .now) (a .at) 32) k (decimal (a .n))) (add-one (a .at)) ∙ sym (ap (sets (a .output .now) (a .at)) (in-use (c .before .before .before .before)));
+    }
 
 pub put-operand-spec : {M : Type 1} → statement M
 put-operand-spec =

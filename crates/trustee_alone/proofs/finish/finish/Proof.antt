@@ -1,4 +1,4 @@
--- `trustee_alone::finish::finish` meets its contract: the list is tested first, then the length.
+-- `trustee_alone::finish::finish` meets its contract: it tests the list, then the length.
 -- Assumes nothing.
 use borrow.Author.Needs.{needs}
 use mathlib.Core.Path.{_≡_, _∙_, sym, ap}
@@ -17,7 +17,7 @@ use Rattle.tally.proofs.TestReasons.{test-passed}
 use Rattle.tally.proofs.RunReasons.{outcome-refused}
 use Rattle.levels.proofs.Reasons.{ListFacts, list-facts}
 use Rattle.trustee_alone.specs.Finish.{finishReasons, finishOutcome, finishedWires}
-use Rattle.trustee_alone.proofs.Tests.{pass, fail, end, before, behind, outcome-some, outcome-none, left-old, left-new}
+use Rattle.trustee_alone.proofs.Tests.{pass, fail, end, before, behind, outcome-some, outcome-none, left-old, left-new, same-finish}
 use Rattle.trustee_alone.proofs.Sizes.{size-is}
 use Rattle.trustee_alone.proofs.finish.finish.Statement.{statement}
 use Rattle.trustee_alone.proofs.finish.finish.Tie as tie
@@ -51,7 +51,9 @@ returns c =
     let r = reasonOf (c .enum-told .given .0 .0) in
     let e = ap outcomeOf (c .enum-told .given .1) in
     let why = before (testReasons (a .shape) (a .table .now)) _ r (outcome-refused (firstOf (testReasons (a .shape) (a .table .now))) (sizeOf (gatesOf (a .table .now))) r (sym (c .before .before .test .ensures) ∙ e)) in
-    (e ∙ outcome-some (firstOf (finishReasons (a .shape) (a .table .now) (a .wires .now))) (sizeOf (gatesOf (a .table .now))) r why, left-old (firstOf (finishReasons (a .shape) (a .table .now) (a .wires .now))) (replicate (length (a .wires .now)) 0) (a .wires .now) r why)
+    same-finish
+    (e ∙ outcome-some (firstOf (finishReasons (a .shape) (a .table .now) (a .wires .now))) (sizeOf (gatesOf (a .table .now))) r why)
+    (left-old (firstOf (finishReasons (a .shape) (a .table .now) (a .wires .now))) (replicate (length (a .wires .now)) 0) (a .wires .now) r why)
 
 ballot-bytes-requires : tie.Need-ballot-bytes-requires
 ballot-bytes-requires c κs = true-T (withinLimits (c .before .before .before .before .before .before .args .shape)) (facts (c .before) .within)
@@ -67,7 +69,9 @@ unfolding outcomeOf reasonOf finishReasons finishOutcome finishedWires
 returns-2 c =
     let a = c .before .before .before .before .before .before .before .before .before .before .args in
     let why = behind (testReasons (a .shape) (a .table .now)) _ (facts (c .before .before .before .before .before) .reasons) ∙ fail _ 17 [] (sym (length-is (c .before)) ∙ not-true (c .before .has-length .result) (c .if1 .taken)) in
-    (outcome-some (firstOf (finishReasons (a .shape) (a .table .now) (a .wires .now))) (sizeOf (gatesOf (a .table .now))) (reasonAt 17 0) why, left-old (firstOf (finishReasons (a .shape) (a .table .now) (a .wires .now))) (replicate (length (a .wires .now)) 0) (a .wires .now) (reasonAt 17 0) why)
+    same-finish
+    (outcome-some (firstOf (finishReasons (a .shape) (a .table .now) (a .wires .now))) (sizeOf (gatesOf (a .table .now))) (reasonAt 17 0) why)
+    (left-old (firstOf (finishReasons (a .shape) (a .table .now) (a .wires .now))) (replicate (length (a .wires .now)) 0) (a .wires .now) (reasonAt 17 0) why)
 
 empty-requires : tie.Need-empty-requires
 empty-requires c κs = search needs
@@ -81,10 +85,10 @@ returns-3 c =
     let a = c .before .before .before .before .before .before .before .before .before .before .before .before .before .before .args in
     let known = c .before .before .before .before .before .before .before .before .before in
     let tested = c .before .before .before .before .before in
-    let why = behind (testReasons (a .shape) (a .table .now)) _ (facts known .reasons) ∙ pass _ 17 [] (sym (length-is tested) ∙ not-false (tested .has-length .result) (c .before .before .before .before .if1 .left)) ∙ end in (
-      outcome-none (firstOf (finishReasons (a .shape) (a .table .now) (a .wires .now))) (sizeOf (gatesOf (a .table .now))) _ why (size-is _ _ (a .table .now) (facts known .gates-are) (facts known .conditional-are)),
-      c .before .before .empty .ensures ∙ left-new (firstOf (finishReasons (a .shape) (a .table .now) (a .wires .now))) (replicate (length (a .wires .now)) 0) (a .wires .now) why,
-    )
+    let why = behind (testReasons (a .shape) (a .table .now)) _ (facts known .reasons) ∙ pass _ 17 [] (sym (length-is tested) ∙ not-false (tested .has-length .result) (c .before .before .before .before .if1 .left)) ∙ end in
+    same-finish
+    (outcome-none (firstOf (finishReasons (a .shape) (a .table .now) (a .wires .now))) (sizeOf (gatesOf (a .table .now))) _ why (size-is _ _ (a .table .now) (facts known .gates-are) (facts known .conditional-are)))
+    (c .before .before .empty .ensures ∙ left-new (firstOf (finishReasons (a .shape) (a .table .now) (a .wires .now))) (replicate (length (a .wires .now)) 0) (a .wires .now) why)
 
 pub finish-spec : {M : Type 1} → statement M
 finish-spec =

@@ -1,4 +1,4 @@
--- `trustee_alone::own::tables_fit` meets its contract: one length after the other is compared.
+-- `trustee_alone::own::tables_fit` meets its contract, one length after another.
 -- Assumes nothing.
 use Prim.Native.Nat.{_+_, _*_}
 use native.Mathlib.Omega.{arith}

@@ -18,7 +18,7 @@ use Rattle.levels.specs.Answer.{Depths, depthsOf, depthsOutcome, levelReasonOf}
 use Rattle.tally.proofs.RunReasons.{outcome-refused, accepted-values}
 use Rattle.trustee_rounds.specs.Rounds.{Turn, enters, publishes, closes}
 use Rattle.trustee_alone.specs.Rounds.{roundReasons, roundOutcome, ownTurn, wiresMade, publishedMade, roundedWires, roundedPublished}
-use Rattle.trustee_alone.proofs.Tests.{pass, outcome-some, outcome-none, left-old, left-new}
+use Rattle.trustee_alone.proofs.Tests.{pass, outcome-some, outcome-none, left-old, left-new, same-own}
 use Rattle.trustee_alone.proofs.Passed.{Passed, round-passed}
 use Rattle.trustee_alone.proofs.round.round.Statement.{statement}
 use Rattle.trustee_alone.proofs.round.round.Tie as tie
@@ -58,7 +58,10 @@ returns c =
     let r = levelReasonOf (c .enum-told .given .0 .0) in
     let e = ap depthsOutcome (c .enum-told .given .1) in
     let why = outcome-refused (firstOf (roundReasons (a .shape) (a .table .now) (a .t) (a .p) (a .round) (a .levels .now) (a .dealt .now) (a .heard .now) (a .wires .now) (a .published .now))) (depthsOf (ballotBytes (a .shape)) (gatesOf (a .table .now))) r (sym (c .before .before .test-round .ensures) ∙ e) in
-    (e ∙ outcome-some (firstOf (roundReasons (a .shape) (a .table .now) (a .t) (a .p) (a .round) (a .levels .now) (a .dealt .now) (a .heard .now) (a .wires .now) (a .published .now))) (depthsOf (ballotBytes (a .shape)) (gatesOf (a .table .now))) r why, (left-old (firstOf (roundReasons (a .shape) (a .table .now) (a .t) (a .p) (a .round) (a .levels .now) (a .dealt .now) (a .heard .now) (a .wires .now) (a .published .now))) (wiresMade (a .shape) (a .table .now) (a .p) (a .round) (a .levels .now) (a .dealt .now) (a .heard .now) (a .wires .now)) (a .wires .now) r why, left-old (firstOf (roundReasons (a .shape) (a .table .now) (a .t) (a .p) (a .round) (a .levels .now) (a .dealt .now) (a .heard .now) (a .wires .now) (a .published .now))) (publishedMade (a .shape) (a .table .now) (a .p) (a .round) (a .levels .now) (a .dealt .now) (a .heard .now) (a .wires .now) (a .published .now)) (a .published .now) r why))
+    same-own
+    (e ∙ outcome-some (firstOf (roundReasons (a .shape) (a .table .now) (a .t) (a .p) (a .round) (a .levels .now) (a .dealt .now) (a .heard .now) (a .wires .now) (a .published .now))) (depthsOf (ballotBytes (a .shape)) (gatesOf (a .table .now))) r why)
+    (left-old (firstOf (roundReasons (a .shape) (a .table .now) (a .t) (a .p) (a .round) (a .levels .now) (a .dealt .now) (a .heard .now) (a .wires .now) (a .published .now))) (wiresMade (a .shape) (a .table .now) (a .p) (a .round) (a .levels .now) (a .dealt .now) (a .heard .now) (a .wires .now)) (a .wires .now) r why)
+    (left-old (firstOf (roundReasons (a .shape) (a .table .now) (a .t) (a .p) (a .round) (a .levels .now) (a .dealt .now) (a .heard .now) (a .wires .now) (a .published .now))) (publishedMade (a .shape) (a .table .now) (a .p) (a .round) (a .levels .now) (a .dealt .now) (a .heard .now) (a .wires .now) (a .published .now)) (a .published .now) r why)
 
 ballot-bytes-requires : tie.Need-ballot-bytes-requires
 ballot-bytes-requires c κs = true-T (withinLimits (c .before .before .before .before .before .before .before .before .before .before .before .before .args .shape)) (known (c .before) .facts .within)
@@ -105,13 +108,11 @@ returns-2 c =
     let done = c .before .before .before .before .round .ensures in
     let u : ℕ → Turn = λ n. record { trustee = a .p; round = a .round; inputs = n; levels = a .levels .now; dealt = a .dealt .now; heard = a .heard .now } in
     let X : ℕ → ℕ → ℕ → List ℕ = λ n m c.
-    closes (a .round) m c (a .shape .candidates) (enters (u n) (gatesOf (a .table .now)) 0 0 (a .wires .now)) (publishes (u n) (enters (u n) (gatesOf (a .table .now)) 0 0 (a .wires .now)) (gatesOf (a .table .now)) 0 0 (a .published .now)) in (
-      outcome-none (firstOf (roundReasons (a .shape) (a .table .now) (a .t) (a .p) (a .round) (a .levels .now) (a .dealt .now) (a .heard .now) (a .wires .now) (a .published .now))) (depthsOf (ballotBytes (a .shape)) (gatesOf (a .table .now))) _ (by .0) (sym (by .1)),
-      (
-        done .0 ∙ ap (λ (n : ℕ). enters (u n) (gatesOf (a .table .now)) 0 0 (a .wires .now)) e ∙ left-new (firstOf (roundReasons (a .shape) (a .table .now) (a .t) (a .p) (a .round) (a .levels .now) (a .dealt .now) (a .heard .now) (a .wires .now) (a .published .now))) (wiresMade (a .shape) (a .table .now) (a .p) (a .round) (a .levels .now) (a .dealt .now) (a .heard .now) (a .wires .now)) (a .wires .now) (by .0),
-        done .1 ∙ ap (λ (n : ℕ). X n (ok .answer .given .0 .1 .1 .0) (ok .answer .given .0 .1 .0)) e ∙ ap (λ (m : ℕ). X (ballotBytes (a .shape)) m (ok .answer .given .0 .1 .0)) (sym rounds) ∙ ap (λ (c : ℕ). X (ballotBytes (a .shape)) (roundsOf (ballotBytes (a .shape)) (gatesOf (a .table .now))) c) (sym conditional) ∙ left-new (firstOf (roundReasons (a .shape) (a .table .now) (a .t) (a .p) (a .round) (a .levels .now) (a .dealt .now) (a .heard .now) (a .wires .now) (a .published .now))) (publishedMade (a .shape) (a .table .now) (a .p) (a .round) (a .levels .now) (a .dealt .now) (a .heard .now) (a .wires .now) (a .published .now)) (a .published .now) (by .0),
-      ),
-    )
+    closes (a .round) m c (a .shape .candidates) (enters (u n) (gatesOf (a .table .now)) 0 0 (a .wires .now)) (publishes (u n) (enters (u n) (gatesOf (a .table .now)) 0 0 (a .wires .now)) (gatesOf (a .table .now)) 0 0 (a .published .now)) in
+    same-own
+    (outcome-none (firstOf (roundReasons (a .shape) (a .table .now) (a .t) (a .p) (a .round) (a .levels .now) (a .dealt .now) (a .heard .now) (a .wires .now) (a .published .now))) (depthsOf (ballotBytes (a .shape)) (gatesOf (a .table .now))) _ (by .0) (sym (by .1)))
+    (done .parts ∙ ap (λ (n : ℕ). enters (u n) (gatesOf (a .table .now)) 0 0 (a .wires .now)) e ∙ left-new (firstOf (roundReasons (a .shape) (a .table .now) (a .t) (a .p) (a .round) (a .levels .now) (a .dealt .now) (a .heard .now) (a .wires .now) (a .published .now))) (wiresMade (a .shape) (a .table .now) (a .p) (a .round) (a .levels .now) (a .dealt .now) (a .heard .now) (a .wires .now)) (a .wires .now) (by .0))
+    (done .shown ∙ ap (λ (n : ℕ). X n (ok .answer .given .0 .1 .1 .0) (ok .answer .given .0 .1 .0)) e ∙ ap (λ (m : ℕ). X (ballotBytes (a .shape)) m (ok .answer .given .0 .1 .0)) (sym rounds) ∙ ap (λ (c : ℕ). X (ballotBytes (a .shape)) (roundsOf (ballotBytes (a .shape)) (gatesOf (a .table .now))) c) (sym conditional) ∙ left-new (firstOf (roundReasons (a .shape) (a .table .now) (a .t) (a .p) (a .round) (a .levels .now) (a .dealt .now) (a .heard .now) (a .wires .now) (a .published .now))) (publishedMade (a .shape) (a .table .now) (a .p) (a .round) (a .levels .now) (a .dealt .now) (a .heard .now) (a .wires .now) (a .published .now)) (a .published .now) (by .0))
 
 pub round-spec : {M : Type 1} → statement M
 round-spec =

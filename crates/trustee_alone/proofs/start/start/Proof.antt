@@ -9,6 +9,7 @@ use native.Mathlib.Omega.{arith}
 use lib.Dec.{eqb}
 use lib.ListN.{length, take, drop, length-replicate}
 use borrow.Author.Tests.{eqb-true}
+use Rattle.basics.proofs.Tables.{copied}
 use Rattle.gates.specs.Gate.{gatesOf}
 use Rattle.gates.specs.Board.{conditionalCount}
 use Rattle.jury.specs.Shape.{withinLimits, ballotBytes}
@@ -22,7 +23,7 @@ use Rattle.levels.proofs.Reasons.{ListFacts, list-facts}
 use Rattle.trustee_rounds.specs.Rounds.{startWires, startPublished}
 use Rattle.trustee_alone.specs.Own.{tablesFit}
 use Rattle.trustee_alone.specs.Start.{ownReasons, startReasons, startOutcome, startedWires, startedPublished}
-use Rattle.trustee_alone.proofs.Tests.{passed, before, behind, both-passed, outcome-some, outcome-none, left-old, left-new}
+use Rattle.trustee_alone.proofs.Tests.{passed, before, behind, both-passed, outcome-some, outcome-none, left-old, left-new, same-own}
 use Rattle.trustee_alone.proofs.Sizes.{tables-ready, small-sizes, size-is, Fit, fit, started, started-published}
 use Rattle.trustee_alone.proofs.start.start.Statement.{statement}
 use Rattle.trustee_alone.proofs.start.start.Tie as tie
@@ -77,7 +78,10 @@ returns c =
     let r = reasonOf (c .enum-told .given .0 .0) in
     let e = ap outcomeOf (c .enum-told .given .1) in
     let why = before (testReasons (a .shape) (a .table .now)) (ownReasons (ballotBytes (a .shape)) (a .shape .candidates) (sizeOf (gatesOf (a .table .now))) (a .t) (a .p) (a .parts .now) (a .dealt .now) (a .wires .now) (a .published .now)) r (outcome-refused (firstOf (testReasons (a .shape) (a .table .now))) (sizeOf (gatesOf (a .table .now))) r (sym (c .before .before .test .ensures) ∙ e)) in
-    (e ∙ outcome-some (firstOf (startReasons (a .shape) (a .table .now) (a .t) (a .p) (a .parts .now) (a .dealt .now) (a .wires .now) (a .published .now))) (sizeOf (gatesOf (a .table .now))) r why, (left-old (firstOf (startReasons (a .shape) (a .table .now) (a .t) (a .p) (a .parts .now) (a .dealt .now) (a .wires .now) (a .published .now))) (startWires (length (gatesOf (a .table .now))) (a .parts .now)) (a .wires .now) r why, left-old (firstOf (startReasons (a .shape) (a .table .now) (a .t) (a .p) (a .parts .now) (a .dealt .now) (a .wires .now) (a .published .now))) (startPublished (conditionalCount (gatesOf (a .table .now))) (a .shape .candidates)) (a .published .now) r why))
+    same-own
+    (e ∙ outcome-some (firstOf (startReasons (a .shape) (a .table .now) (a .t) (a .p) (a .parts .now) (a .dealt .now) (a .wires .now) (a .published .now))) (sizeOf (gatesOf (a .table .now))) r why)
+    (left-old (firstOf (startReasons (a .shape) (a .table .now) (a .t) (a .p) (a .parts .now) (a .dealt .now) (a .wires .now) (a .published .now))) (startWires (length (gatesOf (a .table .now))) (a .parts .now)) (a .wires .now) r why)
+    (left-old (firstOf (startReasons (a .shape) (a .table .now) (a .t) (a .p) (a .parts .now) (a .dealt .now) (a .wires .now) (a .published .now))) (startPublished (conditionalCount (gatesOf (a .table .now))) (a .shape .candidates)) (a .published .now) r why)
 
 ballot-bytes-requires : tie.Need-ballot-bytes-requires
 ballot-bytes-requires c κs = true-T (withinLimits (c .before .before .before .before .before .before .before .before .before .args .shape)) (facts (c .before) .within)
@@ -103,7 +107,10 @@ returns-2 c =
     let a = c .before .before .before .before .before .before .before .before .before .before .before .before .before .before .before .before .args in
     let r = reasonOf (c .before .reason .given .0 .0) in
     let why = own-answer (c .before .before .before) ∙ ap refusedFor (c .before .reason .given .1) in
-    (outcome-some (firstOf (startReasons (a .shape) (a .table .now) (a .t) (a .p) (a .parts .now) (a .dealt .now) (a .wires .now) (a .published .now))) (sizeOf (gatesOf (a .table .now))) r why, (left-old (firstOf (startReasons (a .shape) (a .table .now) (a .t) (a .p) (a .parts .now) (a .dealt .now) (a .wires .now) (a .published .now))) (startWires (length (gatesOf (a .table .now))) (a .parts .now)) (a .wires .now) r why, left-old (firstOf (startReasons (a .shape) (a .table .now) (a .t) (a .p) (a .parts .now) (a .dealt .now) (a .wires .now) (a .published .now))) (startPublished (conditionalCount (gatesOf (a .table .now))) (a .shape .candidates)) (a .published .now) r why))
+    same-own
+    (outcome-some (firstOf (startReasons (a .shape) (a .table .now) (a .t) (a .p) (a .parts .now) (a .dealt .now) (a .wires .now) (a .published .now))) (sizeOf (gatesOf (a .table .now))) r why)
+    (left-old (firstOf (startReasons (a .shape) (a .table .now) (a .t) (a .p) (a .parts .now) (a .dealt .now) (a .wires .now) (a .published .now))) (startWires (length (gatesOf (a .table .now))) (a .parts .now)) (a .wires .now) r why)
+    (left-old (firstOf (startReasons (a .shape) (a .table .now) (a .t) (a .p) (a .parts .now) (a .dealt .now) (a .wires .now) (a .published .now))) (startPublished (conditionalCount (gatesOf (a .table .now))) (a .shape .candidates)) (a .published .now) r why)
 
 enum-told-2 : tie.Need-enum-told-2
 enum-told-2 c = search needs
@@ -133,14 +140,12 @@ returns-3 c =
     let told = c .before .before .before .before .before .before .before .before .before .before .before .before in
     let known = c .before .before .before .before .before .before .before .before .before .before .before .before .before .before .before .before .before .before .before in
     let why = none-applies told in
-    let l = lengths told in (
-      outcome-none (firstOf (startReasons (a .shape) (a .table .now) (a .t) (a .p) (a .parts .now) (a .dealt .now) (a .wires .now) (a .published .now))) (sizeOf (gatesOf (a .table .now))) _ why (size-is _ _ (a .table .now) (facts known .gates-are) (facts known .conditional-are)),
-      (
-        c .before .before .before .before .before .before .copy .ensures .1 ∙ ap (λ (z : List ℕ). take (length (a .parts .now)) (a .parts .now) ++ drop (length (a .parts .now)) z) (c .before .before .before .before .before .before .before .before .before .before .empty .ensures)
-            ∙ started (a .parts .now) (a .wires .now) (ballotBytes (a .shape)) (length (gatesOf (a .table .now))) (l .0) (l .1 .wires-length) ∙ left-new (firstOf (startReasons (a .shape) (a .table .now) (a .t) (a .p) (a .parts .now) (a .dealt .now) (a .wires .now) (a .published .now))) (startWires (length (gatesOf (a .table .now))) (a .parts .now)) (a .wires .now) why,
-        c .before .before .empty2 .ensures ∙ started-published (a .published .now) (conditionalCount (gatesOf (a .table .now))) (a .shape .candidates) (l .1 .published-length) ∙ left-new (firstOf (startReasons (a .shape) (a .table .now) (a .t) (a .p) (a .parts .now) (a .dealt .now) (a .wires .now) (a .published .now))) (startPublished (conditionalCount (gatesOf (a .table .now))) (a .shape .candidates)) (a .published .now) why,
-      ),
-    )
+    let l = lengths told in
+    same-own
+    (outcome-none (firstOf (startReasons (a .shape) (a .table .now) (a .t) (a .p) (a .parts .now) (a .dealt .now) (a .wires .now) (a .published .now))) (sizeOf (gatesOf (a .table .now))) _ why (size-is _ _ (a .table .now) (facts known .gates-are) (facts known .conditional-are)))
+    (copied (c .before .before .before .before .before .before .copy .ensures) ∙ ap (λ (z : List ℕ). take (length (a .parts .now)) (a .parts .now) ++ drop (length (a .parts .now)) z) (c .before .before .before .before .before .before .before .before .before .before .empty .ensures)
+    ∙ started (a .parts .now) (a .wires .now) (ballotBytes (a .shape)) (length (gatesOf (a .table .now))) (l .0) (l .1 .wires-length) ∙ left-new (firstOf (startReasons (a .shape) (a .table .now) (a .t) (a .p) (a .parts .now) (a .dealt .now) (a .wires .now) (a .published .now))) (startWires (length (gatesOf (a .table .now))) (a .parts .now)) (a .wires .now) why)
+    (c .before .before .empty2 .ensures ∙ started-published (a .published .now) (conditionalCount (gatesOf (a .table .now))) (a .shape .candidates) (l .1 .published-length) ∙ left-new (firstOf (startReasons (a .shape) (a .table .now) (a .t) (a .p) (a .parts .now) (a .dealt .now) (a .wires .now) (a .published .now))) (startPublished (conditionalCount (gatesOf (a .table .now))) (a .shape .candidates)) (a .published .now) why)
 
 pub start-spec : {M : Type 1} → statement M
 start-spec =

@@ -1,4 +1,4 @@
--- `trustee_gates::bits::product_bit` meets its contract: sums modulo 2 may be taken one after the other.
+-- `trustee_gates::bits::product_bit` meets its contract: each sum may be taken modulo 2 by itself.
 -- Assumes nothing.
 use borrow.Author.Needs.{needs}
 use Prim.Native.Nat.{_*_}

@@ -30,7 +30,7 @@ loop-holds : tie.Need-loop-holds Inv-loop μ-loop
 loop-holds c = (omega arith, all-none _)
 
 open-requires : tie.Need-open-requires Inv-loop μ-loop
-open-requires c κs = (omega arith, c .before .before .before .before .pre)
+open-requires c κs = record { inside = omega arith; long = c .before .before .before .before .pre }
 
 shared-slice-read-if1 : tie.Need-shared-slice-read-if1 Inv-loop μ-loop
 shared-slice-read-if1 c = omega arith

@@ -26,7 +26,7 @@ loop-holds : tie.Need-loop-holds Inv-loop μ-loop
 loop-holds c = (omega arith, all-none _)
 
 product-adds-up-requires : tie.Need-product-adds-up-requires Inv-loop μ-loop
-product-adds-up-requires c κs = (omega arith, c .before .before .before .pre .1)
+product-adds-up-requires c κs = (omega arith, c .before .before .before .pre .long)
 
 returns : tie.Need-returns Inv-loop μ-loop
 unfolding productsAddUp

@@ -1,4 +1,5 @@
--- `trustee_gates::evaluate::evaluate` meets its contract: the inputs are copied, the gates run, the closing bits copied.
+-- `trustee_gates::evaluate::evaluate` meets its contract: the inputs are copied, the gates run, and the closing bits
+-- copied.
 -- Assumes nothing.
 use borrow.Author.Needs.{needs}
 use mathlib.Core.Path.{_≡_, _∙_, refl, sym, ap}
@@ -78,9 +79,9 @@ copy-pieces-requires-2 c κs =
     let s = copied .before .before .before .before .before .before .before in
     let a = s .args in
     record {
-      source-length = wires-long (a .t) (a .inputs) (gatesOf (a .table .now)) (a .k) (dealing s) (a .wires .now) (a .published .now) (a .inputs + length (a .table .now) / 4) (2 * a .conditional + a .k) (a .conditional) (s .pre .conditional-is) (size-is s) (s .pre .enough) refl (s .pre .ballot-length) (wires-length s) (s .pre .published-length) _ (copied .copy-pieces .ensures) _ _ (done .run-gates .ensures .0) (done .run-gates .ensures .1);
+      source-length = wires-long (a .t) (a .inputs) (gatesOf (a .table .now)) (a .k) (dealing s) (a .wires .now) (a .published .now) (a .inputs + length (a .table .now) / 4) (2 * a .conditional + a .k) (a .conditional) (s .pre .conditional-is) (size-is s) (s .pre .enough) refl (s .pre .ballot-length) (wires-length s) (s .pre .published-length) _ (copied .copy-pieces .ensures) _ _ (done .run-gates .ensures .parts) (done .run-gates .ensures .shown);
       source-fits = omega (arith, small s);
-      target-length = published-long (a .t) (a .inputs) (gatesOf (a .table .now)) (a .k) (dealing s) (a .wires .now) (a .published .now) (a .inputs + length (a .table .now) / 4) (2 * a .conditional + a .k) (a .conditional) (s .pre .conditional-is) (size-is s) (s .pre .enough) refl (s .pre .ballot-length) (wires-length s) (s .pre .published-length) _ (copied .copy-pieces .ensures) _ _ (done .run-gates .ensures .0) (done .run-gates .ensures .1);
+      target-length = published-long (a .t) (a .inputs) (gatesOf (a .table .now)) (a .k) (dealing s) (a .wires .now) (a .published .now) (a .inputs + length (a .table .now) / 4) (2 * a .conditional + a .k) (a .conditional) (s .pre .conditional-is) (size-is s) (s .pre .enough) refl (s .pre .ballot-length) (wires-length s) (s .pre .published-length) _ (copied .copy-pieces .ensures) _ _ (done .run-gates .ensures .parts) (done .run-gates .ensures .shown);
       target-fits = omega arith;
     }
 
@@ -96,10 +97,11 @@ returns c =
     let done = closed .before .before .before .before .before .before .before in
     let copied = done .before .before .before .before .before in
     let s = copied .before .before .before .before .before .before .before in
-    let a = s .args in (
-      wires-are (a .t) (a .inputs) (gatesOf (a .table .now)) (a .k) (dealing s) (a .wires .now) (a .published .now) (a .inputs + length (a .table .now) / 4) (2 * a .conditional + a .k) (a .conditional) (s .pre .conditional-is) (size-is s) (s .pre .enough) refl (s .pre .ballot-length) (wires-length s) (s .pre .published-length) _ (copied .copy-pieces .ensures) _ _ (done .run-gates .ensures .0) (done .run-gates .ensures .1),
-      all-published (a .t) (a .inputs) (gatesOf (a .table .now)) (a .k) (dealing s) (a .wires .now) (a .published .now) (a .inputs + length (a .table .now) / 4) (2 * a .conditional + a .k) (a .conditional) (s .pre .conditional-is) (size-is s) (s .pre .enough) refl (s .pre .ballot-length) (wires-length s) (s .pre .published-length) _ (copied .copy-pieces .ensures) _ _ (done .run-gates .ensures .0) (done .run-gates .ensures .1) _ (closed .copy-pieces2 .ensures),
-    )
+    let a = s .args in
+    record {
+      parts = wires-are (a .t) (a .inputs) (gatesOf (a .table .now)) (a .k) (dealing s) (a .wires .now) (a .published .now) (a .inputs + length (a .table .now) / 4) (2 * a .conditional + a .k) (a .conditional) (s .pre .conditional-is) (size-is s) (s .pre .enough) refl (s .pre .ballot-length) (wires-length s) (s .pre .published-length) _ (copied .copy-pieces .ensures) _ _ (done .run-gates .ensures .parts) (done .run-gates .ensures .shown);
+      shown = all-published (a .t) (a .inputs) (gatesOf (a .table .now)) (a .k) (dealing s) (a .wires .now) (a .published .now) (a .inputs + length (a .table .now) / 4) (2 * a .conditional + a .k) (a .conditional) (s .pre .conditional-is) (size-is s) (s .pre .enough) refl (s .pre .ballot-length) (wires-length s) (s .pre .published-length) _ (copied .copy-pieces .ensures) _ _ (done .run-gates .ensures .parts) (done .run-gates .ensures .shown) _ (closed .copy-pieces2 .ensures);
+    }
 
 pub evaluate-spec : {M : Type 1} → statement M
 evaluate-spec =

@@ -1,4 +1,4 @@
--- `trustee_gates::evaluate::run_gates` meets its contract: what is left is one gate less with each turn.
+-- `trustee_gates::evaluate::run_gates` meets its contract: doing the rest is doing all.
 -- Assumes nothing.
 use mathlib.Core.Path.{_∙_, refl, sym}
 use mathlib.Core.List.{List}
@@ -50,11 +50,12 @@ run-gate-requires c κs =
     let l = turn .before .before .loop in
     let s = turn .before .before .before .before .before .before .before in
     let a = s .args in
-    let r = s .pre in (
-      refl,
-      gate-ready (a .t) (a .inputs) (a .pieces) (a .table .now) (a .dealt .now) _ _ (r .wires-size) (r .few) (r .dealt-size) (r .published-size) (r .some-input) (r .dealt-length) (l .wires) (l .published) (l .i) (l .g) (l .inv)
-          (omega (arith, length-gates (a .table .now), turn .before .loop-test .taken)) (turn .numbers-at .result) (turn .numbers-at .ensures),
-    )
+    let r = s .pre in
+    record {
+      marked = refl;
+      gate = gate-ready (a .t) (a .inputs) (a .pieces) (a .table .now) (a .dealt .now) _ _ (r .wires-size) (r .few) (r .dealt-size) (r .published-size) (r .some-input) (r .dealt-length) (l .wires) (l .published) (l .i) (l .g) (l .inv)
+          (omega (arith, length-gates (a .table .now), turn .before .loop-test .taken)) (turn .numbers-at .result) (turn .numbers-at .ensures);
+    }
 
 add-g : tie.Need-add-g Inv-loop μ-loop
 add-g c = omega (arith, c .before .before .before .before .before .before .before .before .before .loop-test .taken)
@@ -71,7 +72,7 @@ loop-again c =
     let a = s .args in
     let r = s .pre in
     turn-by (a .t) (a .inputs) (a .pieces) (a .table .now) (a .dealt .now) _ _ (r .wires-size) (r .few) (r .dealt-size) (r .published-size) (r .some-input) (r .dealt-length) (l .wires) (l .published) (l .i) (l .g) (l .inv)
-    (omega (arith, length-gates (a .table .now), turn .before .loop-test .taken)) (turn .numbers-at .result) (turn .numbers-at .ensures) _ _ _ _ (runResult .run-gate .ensures .0) (runResult .run-gate .ensures .1 .0) (runResult .run-gate .ensures .1 .1) (add-one (l .g))
+    (omega (arith, length-gates (a .table .now), turn .before .loop-test .taken)) (turn .numbers-at .result) (turn .numbers-at .ensures) _ _ _ _ (runResult .run-gate .ensures .next) (runResult .run-gate .ensures .parts) (runResult .run-gate .ensures .shown) (add-one (l .g))
 
 same-length : tie.Need-same-length Inv-loop μ-loop
 same-length c =
@@ -89,7 +90,7 @@ returns c =
     let a = s .args in
     let l = c .before .loop in
     let e = left-end (a .t) (a .pieces .wires) (a .pieces .published) (a .inputs) (piece (a .pieces .dealt) (a .dealt .now)) (a .table .now) _ _ (s .pre .wires-size) (l .wires) (l .published) (l .i) (l .g) (l .inv) (omega (arith, length-gates (a .table .now), c .loop-test .left)) in
-    (e .0, e .1)
+    record { parts = e .0; shown = e .1 }
 
 pub run-gates-spec : {M : Type 1} → statement M
 run-gates-spec =

@@ -1,4 +1,4 @@
--- `trustee_gates::gate::publish` meets its contract: the first p trustees have published their bits, and these are added.
+-- `trustee_gates::gate::publish` meets its contract: the first p trustees have published their bits, which are added.
 -- Assumes nothing.
 use borrow.Author.Needs.{needs}
 use mathlib.Core.Path.{_≡_, _∙_, refl, sym, ap}
@@ -12,7 +12,7 @@ use Rattle.trustee_shares.specs.Views.{piece}
 use Rattle.trustee_gates.specs.declared.gate.Numbers.{Numbers}
 use Rattle.trustee_gates.specs.Tables.{eachPuts}
 use Rattle.trustee_gates.specs.declared.gate.Pieces.{Pieces}
-use Rattle.trustee_gates.specs.Gate.{gateOf, InWires, InDealt}
+use Rattle.trustee_gates.specs.Gate.{gateOf, FactorReady}
 use Rattle.trustee_gates.proofs.Puts.{reaches, puts-two}
 use Rattle.trustee_gates.proofs.Parity.{opened-more, opened-none}
 use Rattle.trustee_gates.proofs.gate.publish.Statement.{statement}
@@ -38,15 +38,16 @@ unfolding eachPuts
 loop-holds c = (omega arith, refl, refl, opened-none _, opened-none _)
 
 -- what both factors ask of the tables
-asked : (c : tie.In-loop Inv-loop μ-loop) → let a = c .before .before .before .before .before .args in let l = c .before .loop in InWires (a .pieces .wires) (a .gate) (l .p) (a .wires .now) × InDealt (a .pieces .dealt) (a .i) (l .p) (a .dealt .now)
+asked : (c : tie.In-loop Inv-loop μ-loop) → let a = c .before .before .before .before .before .args in let l = c .before .loop in FactorReady (a .pieces) (a .gate) (a .i) (l .p) (a .dealt .now) (a .wires .now)
 asked c =
     let s = c .before .before .before .before .before in
     let a = s .args in
     let l = c .before .loop in
-    let r = s .pre in (
-      record { a-in = r .a-in; b-in = r .b-in; c-in = r .c-in; wires-reach = reaches (a .t) (a .pieces .wires) (a .wires .now) (l .p) (r .wires-length) (omega arith) },
-      record { triple-in = r .triple-in; dealt-reach = reaches (a .t) (a .pieces .dealt) (a .dealt .now) (l .p) (r .dealt-length) (omega arith) },
-    )
+    let r = s .pre in
+    record {
+      operands = record { a-in = r .a-in; b-in = r .b-in; c-in = r .c-in; wires-reach = reaches (a .t) (a .pieces .wires) (a .wires .now) (l .p) (r .wires-length) (omega arith) };
+      triple = record { triple-in = r .triple-in; dealt-reach = reaches (a .t) (a .pieces .dealt) (a .dealt .now) (l .p) (r .dealt-length) (omega arith) };
+    }
 
 -- the places of both bits
 place : (c : tie.After-masked-second Inv-loop μ-loop) → let l = c .before .before .before .loop in let a = c .before .before .before .before .before .before .before .args in
@@ -124,10 +125,12 @@ returns c =
     let a = c .before .before .before .before .before .args in
     let f : ℕ → ℕ = firstBit (a .pieces) (a .gate) (a .i) (a .dealt .now) (a .wires .now) in
     let g : ℕ → ℕ = secondBit (a .pieces) (a .gate) (a .i) (a .dealt .now) (a .wires .now) in
-    let e : l .p ≡ a .t = omega arith in (
-      l .inv .3 ∙ ap (λ (n : ℕ). opened n f) e,
-      (l .inv .4 ∙ ap (λ (n : ℕ). opened n g) e, l .inv .2 ∙ ap (λ (n : ℕ). eachPuts n (a .pieces .published) (2 * a .i) (λ q. f q ∷ g q ∷ []) (a .published .now)) e),
-    )
+    let e : l .p ≡ a .t = omega arith in
+    record {
+      first = l .inv .3 ∙ ap (λ (n : ℕ). opened n f) e;
+      second = l .inv .4 ∙ ap (λ (n : ℕ). opened n g) e;
+      shown = l .inv .2 ∙ ap (λ (n : ℕ). eachPuts n (a .pieces .published) (2 * a .i) (λ q. f q ∷ g q ∷ []) (a .published .now)) e;
+    }
 
 pub publish-spec : {M : Type 1} → statement M
 publish-spec =

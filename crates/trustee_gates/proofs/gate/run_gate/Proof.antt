@@ -1,4 +1,5 @@
--- `trustee_gates::gate::run_gate` meets its contract: a conditional gate is published, opened and entered, a free one entered.
+-- `trustee_gates::gate::run_gate` meets its contract: a conditional gate is published, opened and entered, a free one
+-- only entered.
 -- Assumes nothing.
 use borrow.Author.Needs.{needs}
 use mathlib.Core.Path.{_≡_, _∙_, sym, ap}
@@ -30,7 +31,7 @@ publish-requires : tie.Need-publish-requires
 publish-requires c κs =
     let then = c .before .before in
     let s = then .before .before .before .before .before in
-    let r = s .pre .1 in
+    let r = s .pre .gate in
     record {
       a-in = r .free .a-in;
       b-in = r .free .b-in;
@@ -46,7 +47,7 @@ enter-products-requires : tie.Need-enter-products-requires
 enter-products-requires c κs =
     let then = c .before .before .before .before .before .before in
     let s = then .before .before .before .before .before in
-    let r = s .pre .1 in
+    let r = s .pre .gate in
     record { free = r .free; triple-in = r .triple-in (taken then); dealt-length = r .dealt-length }
 
 add-result : tie.Need-add-result
@@ -66,13 +67,12 @@ returns c =
     let s = then .before .before .before .before .before in
     let a = s .args in
     let is = taken then in
-    let X : Bool → List ℕ = λ b. cond b (eachPuts (a .t) (a .pieces .published) (2 * a .i) (λ p. maskedFirst (piece (a .pieces .wires) (a .wires .now) p) (piece (a .pieces .dealt) (a .dealt .now) p) (a .i) (gateOf (a .gate)) ∷ maskedSecond (piece (a .pieces .wires) (a .wires .now) p) (piece (a .pieces .dealt) (a .dealt .now) p) (a .i) (gateOf (a .gate)) ∷ []) (a .published .now)) (a .published .now) in (
-      sym (ap (λ (n : ℕ). a .i + n) (mark-one (gateOf (a .gate)) is)),
-      (
-        products-entered (a .t) (a .pieces .wires) (a .own) (a .i) (gateOf (a .gate)) (piece (a .pieces .dealt) (a .dealt .now)) (a .wires .now) _ _ _ (shown .publish .ensures .0) (shown .publish .ensures .1 .0) (entered .enter-products .ensures),
-        shown .publish .ensures .1 .1 ∙ sym (ap X is),
-      ),
-    )
+    let X : Bool → List ℕ = λ b. cond b (eachPuts (a .t) (a .pieces .published) (2 * a .i) (λ p. maskedFirst (piece (a .pieces .wires) (a .wires .now) p) (piece (a .pieces .dealt) (a .dealt .now) p) (a .i) (gateOf (a .gate)) ∷ maskedSecond (piece (a .pieces .wires) (a .wires .now) p) (piece (a .pieces .dealt) (a .dealt .now) p) (a .i) (gateOf (a .gate)) ∷ []) (a .published .now)) (a .published .now) in
+    record {
+      next = sym (ap (λ (n : ℕ). a .i + n) (mark-one (gateOf (a .gate)) is));
+      parts = products-entered (a .t) (a .pieces .wires) (a .own) (a .i) (gateOf (a .gate)) (piece (a .pieces .dealt) (a .dealt .now)) (a .wires .now) _ _ _ (shown .publish .ensures .first) (shown .publish .ensures .second) (entered .enter-products .ensures);
+      shown = shown .publish .ensures .shown ∙ sym (ap X is);
+    }
 
 enter-free-requires : tie.Need-enter-free-requires
 enter-free-requires c κs = search needs
@@ -87,10 +87,12 @@ returns-2 c =
     let s = else .before .before .before .before .before in
     let a = s .args in
     let is = left else in
-    let X : Bool → List ℕ = λ b. cond b (eachPuts (a .t) (a .pieces .published) (2 * a .i) (λ p. maskedFirst (piece (a .pieces .wires) (a .wires .now) p) (piece (a .pieces .dealt) (a .dealt .now) p) (a .i) (gateOf (a .gate)) ∷ maskedSecond (piece (a .pieces .wires) (a .wires .now) p) (piece (a .pieces .dealt) (a .dealt .now) p) (a .i) (gateOf (a .gate)) ∷ []) (a .published .now)) (a .published .now) in (
-      omega (arith, mark-none (gateOf (a .gate)) is),
-      (free-entered (a .t) (a .pieces .wires) (a .own) (a .i) (gateOf (a .gate)) (piece (a .pieces .dealt) (a .dealt .now)) (a .wires .now) _ (s .pre .1 .known) is (entered .enter-free .ensures), sym (ap X is)),
-    )
+    let X : Bool → List ℕ = λ b. cond b (eachPuts (a .t) (a .pieces .published) (2 * a .i) (λ p. maskedFirst (piece (a .pieces .wires) (a .wires .now) p) (piece (a .pieces .dealt) (a .dealt .now) p) (a .i) (gateOf (a .gate)) ∷ maskedSecond (piece (a .pieces .wires) (a .wires .now) p) (piece (a .pieces .dealt) (a .dealt .now) p) (a .i) (gateOf (a .gate)) ∷ []) (a .published .now)) (a .published .now) in
+    record {
+      next = omega (arith, mark-none (gateOf (a .gate)) is);
+      parts = free-entered (a .t) (a .pieces .wires) (a .own) (a .i) (gateOf (a .gate)) (piece (a .pieces .dealt) (a .dealt .now)) (a .wires .now) _ (s .pre .gate .known) is (entered .enter-free .ensures);
+      shown = sym (ap X is);
+    }
 
 pub run-gate-spec : {M : Type 1} → statement M
 run-gate-spec =

@@ -1,4 +1,4 @@
--- `trustee_gates::table::copy_part` meets its contract: what is left to copy gives what all of it gives.
+-- `trustee_gates::table::copy_part` meets its contract: copying the rest is copying all.
 -- Assumes nothing.
 use mathlib.Core.Path.{_≡_, _∙_, refl, sym}
 use mathlib.Core.List.{List}

@@ -16,7 +16,7 @@ shared-slice-read-result : tie.Need-shared-slice-read-result
 shared-slice-read-result c = search needs
 
 returns : tie.Need-returns
-returns c = let a = c .before .args in sym (part-piece (a .size) (a .table .now) (a .p) (a .index) (c .before .pre .0))
+returns c = let a = c .before .args in sym (part-piece (a .size) (a .table .now) (a .p) (a .index) (c .before .pre .inside))
 
 pub entry-spec : {M : Type 1} → statement M
 entry-spec = tie.close (tie.spec mul-result add-result shared-slice-read-result returns)

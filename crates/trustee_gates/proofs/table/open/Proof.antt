@@ -25,7 +25,10 @@ entry-requires : tie.Need-entry-requires Inv-loop μ-loop
 entry-requires c κs =
     let s = c .before .before .before in
     let a = s .args in
-    (s .pre .0, reaches (a .t) (a .size) (a .table .now) (c .before .loop .p) (s .pre .1) (omega arith))
+    record {
+      inside = s .pre .inside;
+      reach = reaches (a .t) (a .size) (a .table .now) (c .before .loop .p) (s .pre .long) (omega arith);
+    }
 
 plus-requires : tie.Need-plus-requires Inv-loop μ-loop
 plus-requires c κs = search needs

@@ -1,4 +1,5 @@
--- `trustee_rounds::part::gate_part` meets its contract: a conditional gate takes its bit of the product, and a free one ignores it.
+-- `trustee_rounds::part::gate_part` meets its contract: a conditional gate takes its bit of the product, a free one
+-- ignores it.
 -- Assumes nothing.
 use borrow.Author.Needs.{needs}
 use mathlib.Core.Path.{_∙_, sym, ap}
@@ -15,7 +16,7 @@ product-requires : tie.Need-product-requires
 product-requires c κs =
     let s = c .before .before .before .before .before in
     let is = sym (c .before .conditional .ensures) ∙ c .if1 .taken in
-    (s .pre .1 .triple-in is, s .pre .1 .sums-in is)
+    (s .pre .gate .triple-in is, s .pre .gate .sums-in is)
 
 own-part-requires : tie.Need-own-part-requires
 own-part-requires c κs = search needs
@@ -32,7 +33,7 @@ returns-2 : tie.Need-returns-2
 returns-2 c =
     let s = c .before .before .before .before .before .before in
     let a = s .args in
-    c .own-part2 .ensures ∙ ignores (a .p) (a .gate .kind) (part (a .wires .now) (a .gate .a)) (part (a .wires .now) (a .gate .b)) (part (a .wires .now) (a .gate .c)) _ _ (s .pre .1 .known) (sym (c .before .before .conditional .ensures) ∙ c .before .if1 .left)
+    c .own-part2 .ensures ∙ ignores (a .p) (a .gate .kind) (part (a .wires .now) (a .gate .a)) (part (a .wires .now) (a .gate .b)) (part (a .wires .now) (a .gate .c)) _ _ (s .pre .gate .known) (sym (c .before .before .conditional .ensures) ∙ c .before .if1 .left)
 
 pub gate-part-spec : {M : Type 1} → statement M
 gate-part-spec =

@@ -28,7 +28,7 @@ returns c =
     let is = sym (c .before .conditional .ensures) ∙ not-true (c .before .conditional .result) (c .if1 .taken) in
     sym (ap (λ (b : Bool). cond (b && eqb (a .level) (a .next)) (sets (a .published .now) (2 * a .i) (maskedFirst (a .wires .now) (a .dealt .now) (a .i) (gateOf (a .numbers)) ∷ maskedSecond (a .wires .now) (a .dealt .now) (a .i) (gateOf (a .numbers)) ∷ [])) (a .published .now)) is)
 
--- past the first test
+-- after the first test
 conditional-here : (c : tie.Else1) → conditionalOf (c .before .before .before .before .before .args .numbers .kind) ≡ true
 conditional-here c = sym (c .before .conditional .ensures) ∙ not-false (c .before .conditional .result) (c .if1 .left)
 
@@ -40,34 +40,40 @@ returns-2 c =
 mul-at : tie.Need-mul-at
 mul-at c =
     let s = c .before .before .before .before .before .before in
-    omega (arith, s .pre .1 .places-in (conditional-here (c .before)))
+    omega (arith, s .pre .gate .places-in (conditional-here (c .before)))
 
 masked-first-requires : tie.Need-masked-first-requires
 masked-first-requires c κs =
     let s = c .before .before .before .before .before .before in
-    let o = s .pre .1 .operands in
-    (record { a-in = o .a-in; b-in = o .b-in; c-in = o .c-in; wires-reach = omega arith }, record { triple-in = s .pre .1 .triple-in (conditional-here (c .before)); dealt-reach = omega arith })
+    let o = s .pre .gate .operands in
+    record {
+      operands = record { a-in = o .a-in; b-in = o .b-in; c-in = o .c-in; wires-reach = omega arith };
+      triple = record { triple-in = s .pre .gate .triple-in (conditional-here (c .before)); dealt-reach = omega arith };
+    }
 
 slice-write-published : tie.Need-slice-write-published
 slice-write-published c =
     let s = c .before .before .before .before .before .before .before in
-    omega (arith, s .pre .1 .places-in (conditional-here (c .before .before)))
+    omega (arith, s .pre .gate .places-in (conditional-here (c .before .before)))
 
 masked-second-requires : tie.Need-masked-second-requires
 masked-second-requires c κs =
     let s = c .before .before .before .before .before .before .before in
-    let o = s .pre .1 .operands in
-    (record { a-in = o .a-in; b-in = o .b-in; c-in = o .c-in; wires-reach = omega arith }, record { triple-in = s .pre .1 .triple-in (conditional-here (c .before .before)); dealt-reach = omega arith })
+    let o = s .pre .gate .operands in
+    record {
+      operands = record { a-in = o .a-in; b-in = o .b-in; c-in = o .c-in; wires-reach = omega arith };
+      triple = record { triple-in = s .pre .gate .triple-in (conditional-here (c .before .before)); dealt-reach = omega arith };
+    }
 
 add-published : tie.Need-add-published
 add-published c =
     let s = c .before .before .before .before .before .before .before .before in
-    omega (arith, s .pre .1 .places-in (conditional-here (c .before .before .before)))
+    omega (arith, s .pre .gate .places-in (conditional-here (c .before .before .before)))
 
 slice-write-published-2 : tie.Need-slice-write-published-2
 slice-write-published-2 c =
     let s = c .before .before .before .before .before .before .before .before in
-    omega (arith, s .pre .1 .places-in (conditional-here (c .before .before .before)), length-set (s .args .published .now) (2 * s .args .i) (c .before .masked-first .result))
+    omega (arith, s .pre .gate .places-in (conditional-here (c .before .before .before)), length-set (s .args .published .now) (2 * s .args .i) (c .before .masked-first .result))
 
 same-length : tie.Need-same-length
 same-length c = search needs

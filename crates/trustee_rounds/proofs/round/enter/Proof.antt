@@ -1,4 +1,4 @@
--- `trustee_rounds::round::enter` meets its contract: what is left is one gate less with each turn.
+-- `trustee_rounds::round::enter` meets its contract: doing the rest is doing all.
 -- Assumes nothing.
 use borrow.Author.Needs.{needs}
 use mathlib.Core.Path.{_∙_, refl, sym}
@@ -62,7 +62,10 @@ enter-gate-requires c κs =
     let n = c .before .before .before .before .numbers-at in
     let h = c .before .before .before .before .before .loop-test .taken in
     let inside : l .g < length (gatesOf (a .table .now)) = omega (arith, r .levels-length) in
-    (refl, record { ready = part-ready (a .seat .inputs) (a .table .now) (l .g) (l .i) (l .inv .ahead) (r .some-input) inside (n .result) (n .ensures) (a .dealt .now) (a .heard .now) (l .wires) (l .inv .long) (r .dealt-length) (s .pre .heard-length); own-in = omega (arith, l .inv .long) })
+    record {
+      marked = refl;
+      gate = record { ready = part-ready (a .seat .inputs) (a .table .now) (l .g) (l .i) (l .inv .ahead) (r .some-input) inside (n .result) (n .ensures) (a .dealt .now) (a .heard .now) (l .wires) (l .inv .long) (r .dealt-length) (s .pre .heard-length); own-in = omega (arith, l .inv .long) };
+    }
 
 mark-requires : tie.Need-mark-requires Inv-loop μ-loop
 mark-requires c κs = refl

@@ -1,4 +1,4 @@
--- `trustee_rounds::round::publish` meets its contract: what is left is one gate less with each turn.
+-- `trustee_rounds::round::publish` meets its contract: doing the rest is doing all.
 -- Assumes nothing.
 use borrow.Author.Needs.{needs}
 use mathlib.Core.Path.{refl}
@@ -59,7 +59,10 @@ publish-gate-requires c κs =
     let h = c .before .before .before .before .before .loop-test .taken in
     let inside : l .g < length (gatesOf (a .table .now)) = omega (arith, r .levels-length) in
     let inv = l .inv 0 [] in
-    (refl, publish-ready (a .inputs) (a .table .now) (l .g) (l .i) (inv .ahead) (r .some-input) inside (n .result) (n .ensures) (a .dealt .now) (a .wires .now) (l .published) (r .wires-length) (r .dealt-length) (omega (arith, inv .long, s .pre .published-length)))
+    record {
+      marked = refl;
+      gate = publish-ready (a .inputs) (a .table .now) (l .g) (l .i) (inv .ahead) (r .some-input) inside (n .result) (n .ensures) (a .dealt .now) (a .wires .now) (l .published) (r .wires-length) (r .dealt-length) (omega (arith, inv .long, s .pre .published-length));
+    }
 
 mark-requires : tie.Need-mark-requires Inv-loop μ-loop
 mark-requires c κs = refl

@@ -51,11 +51,12 @@ returns c =
     let u : Turn = (record { trustee = a .seat .trustee; round = a .seat .round; inputs = a .seat .inputs; levels = a .levels .now; dealt = a .dealt .now; heard = a .heard .now }) in
     let gs = gatesOf (a .table .now) in
     let E = enters u gs 0 0 (a .wires .now) in
-    let entered = c .before .before .before .before .before .before .before .before .enter .ensures in (
-      entered,
-      c .before .before .before .publish .ensures (a .seat .trustee) (a .heard .now) ∙ ap (λ (w : List ℕ). publishes u w gs 0 0 (a .published .now)) entered
-          ∙ not-closing (a .seat .round) (a .rounds) (a .conditional) (a .k) E (publishes u E gs 0 0 (a .published .now)) (c .if1 .taken),
-    )
+    let entered = c .before .before .before .before .before .before .before .before .enter .ensures in
+    record {
+      parts = entered;
+      shown = c .before .before .before .publish .ensures (a .seat .trustee) (a .heard .now) ∙ ap (λ (w : List ℕ). publishes u w gs 0 0 (a .published .now)) entered
+          ∙ not-closing (a .seat .round) (a .rounds) (a .conditional) (a .k) E (publishes u E gs 0 0 (a .published .now)) (c .if1 .taken);
+    }
 
 mul-close : tie.Need-mul-close
 mul-close c = search needs
@@ -78,12 +79,13 @@ returns-2 c =
     let E = enters u gs 0 0 (a .wires .now) in
     let entered = c .before .before .before .before .before .before .before .before .before .before .before .before .before .enter .ensures in
     let P = publishes u E gs 0 0 (a .published .now) in
-    let published = c .before .before .before .before .before .before .before .before .publish .ensures (a .seat .trustee) (a .heard .now) ∙ ap (λ (w : List ℕ). publishes u w gs 0 0 (a .published .now)) entered in (
-      entered,
-      closing (a .seat .round) (a .rounds) (a .conditional) (a .k) E P (c .before .before .before .before .before .if1 .left) (omega (arith, length-enters u gs 0 0 (a .wires .now), s .pre .pass .wires-length, s .pre .enough))
+    let published = c .before .before .before .before .before .before .before .before .publish .ensures (a .seat .trustee) (a .heard .now) ∙ ap (λ (w : List ℕ). publishes u w gs 0 0 (a .published .now)) entered in
+    record {
+      parts = entered;
+      shown = closing (a .seat .round) (a .rounds) (a .conditional) (a .k) E P (c .before .before .before .before .before .if1 .left) (omega (arith, length-enters u gs 0 0 (a .wires .now), s .pre .pass .wires-length, s .pre .enough))
           (length-publishes u E gs 0 0 (a .published .now) ∙ s .pre .published-length) _
-          (c .before .before .close .ensures ∙ ap (λ (l : List ℕ). take (2 * a .conditional) l ++ outputsOf (a .k) (c .before .before .before .before .before .before .before .before .before .before .before .before .before .enter .last .1 .1 .1 .1 .1 .0)) published ∙ ap (λ (w : List ℕ). take (2 * a .conditional) P ++ outputsOf (a .k) w) entered),
-    )
+          (c .before .before .close .ensures ∙ ap (λ (l : List ℕ). take (2 * a .conditional) l ++ outputsOf (a .k) (c .before .before .before .before .before .before .before .before .before .before .before .before .before .enter .last .1 .1 .1 .1 .1 .0)) published ∙ ap (λ (w : List ℕ). take (2 * a .conditional) P ++ outputsOf (a .k) w) entered);
+    }
 
 pub round-spec : {M : Type 1} → statement M
 round-spec =

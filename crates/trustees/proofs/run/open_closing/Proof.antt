@@ -32,7 +32,12 @@ add-open : tie.Need-add-open Inv-loop μ-loop
 add-open c = omega (arith, c .before .before .before .pre)
 
 open-requires : tie.Need-open-requires Inv-loop μ-loop
-open-requires c κs = let s = c .before .before .before in (omega (arith, s .pre .closing-in), s .pre .published-length)
+open-requires c κs =
+    let s = c .before .before .before in
+    record {
+      inside = omega (arith, s .pre .closing-in);
+      long = s .pre .published-length;
+    }
 
 array-write-closing : tie.Need-array-write-closing Inv-loop μ-loop
 array-write-closing c = omega (arith, c .before .before .before .before .pre)

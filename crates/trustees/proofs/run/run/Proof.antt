@@ -1,5 +1,5 @@
--- `trustees::run::run` meets its contract: where the tests pass, the evaluation fills both tables, the closing bits are
--- opened and the wire parts emptied, and else nothing is touched.
+-- `trustees::run::run` meets its contract: if the tests pass, the evaluation fills both tables, the closing bits are
+-- opened and the wire parts emptied; otherwise nothing is touched.
 -- Assumes nothing.
 use borrow.Author.Needs.{needs}
 use mathlib.Core.Path.{_≡_, _∙_, sym, ap}
@@ -20,7 +20,7 @@ use Rattle.trustees.proofs.Sums.{Ready, call-ready, opened-closing}
 use Rattle.trustees.proofs.run.run.Statement.{statement}
 use Rattle.trustees.proofs.run.run.Tie as tie
 
--- The call that this is, from where the function starts.
+-- This call, by its arguments at the start.
 abbrev call : tie.Start → Call
 call s =
     let a = s .args in
@@ -50,7 +50,7 @@ passed c = c .before .before .before
 abbrev size : tie.After-known-told → Size
 size c = let g = c .before .answer .given in record { gates = g .0 .0; conditional = g .0 .1 .0 }
 
--- where the tests pass, no reason applies
+-- if the tests pass, no reason applies
 no-reason : (c : tie.After-known-told) → firstOf (trusteesReasons (call (started c))) ≡ none
 unfolding outcomeOf
 no-reason c =
@@ -140,11 +140,11 @@ returns-2 c =
     (sym (ap outcomeOf (told .before .answer .given .1)) ∙ told .before .before .before .test .ensures
     ∙ ap (λ (o : Option Reason). outcome o (sizeOf (gatesOf (of .table)))) (no-reason told)
     ∙ sym (ap (λ (q : TrusteesResult). q .answer) e))
-    (opened .open-closing .ensures ∙ opened-closing of (size told) (ready told) _ (done .evaluate .ensures .1)
+    (opened .open-closing .ensures ∙ opened-closing of (size told) (ready told) _ (done .evaluate .ensures .shown)
     ∙ sym (ap (λ (q : TrusteesResult). q .closing) e))
     (emptied .empty .ensures ∙ ap (λ (n : ℕ). replicate n 0) (done .evaluate .kept .1 .1 .1 .1 .1 .1 .1 .0)
     ∙ sym (ap (λ (q : TrusteesResult). q .wireParts) e))
-    (done .evaluate .ensures .1 ∙ sym (ap (λ (q : TrusteesResult). q .published) e))
+    (done .evaluate .ensures .shown ∙ sym (ap (λ (q : TrusteesResult). q .published) e))
 
 pub run-spec : {M : Type 1} → statement M
 run-spec =

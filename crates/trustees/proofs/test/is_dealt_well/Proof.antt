@@ -1,4 +1,4 @@
--- `trustees::test::is_dealt_well` meets its contract: one test after the other.
+-- `trustees::test::is_dealt_well` meets its contract, one test after another.
 -- Assumes nothing.
 use borrow.Author.Needs.{needs}
 use mathlib.Core.Path.{_≡_, _∙_, sym}
@@ -44,7 +44,7 @@ products-add-up-requires : tie.Need-products-add-up-requires
 products-add-up-requires c κs =
     let lending = c .before .before .before .before in
     let s = lending .before .before .before .before .before in
-    (omega (arith, s .pre .conditional-most), s .pre .dealer-length)
+    record { few = omega (arith, s .pre .conditional-most); long = s .pre .dealer-length }
 
 returns-4 : tie.Need-returns-4
 unfolding dealtWell

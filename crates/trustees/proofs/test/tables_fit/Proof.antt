@@ -1,4 +1,4 @@
--- `trustees::test::tables_fit` meets its contract: one length after the other is compared.
+-- `trustees::test::tables_fit` meets its contract, one length after another.
 -- Assumes nothing.
 use Prim.Native.Nat.{ℕ, _+_, _*_, _≤_}
 use native.Mathlib.Nat.{mul-le-mul-right}

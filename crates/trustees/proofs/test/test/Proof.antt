@@ -1,4 +1,4 @@
--- `trustees::test::test` meets its contract: the list is tested first, then the ballots, then the parts.
+-- `trustees::test::test` meets its contract: it tests the list, then the ballots, then the parts.
 -- Assumes nothing.
 use borrow.Author.Needs.{needs}
 use mathlib.Core.Path.{_≡_, _∙_, sym, ap}
@@ -17,7 +17,7 @@ use Rattle.trustees.proofs.Reasons.{by-test, by-ballots, by-parts, smal
 use Rattle.trustees.proofs.test.test.Statement.{statement}
 use Rattle.trustees.proofs.test.test.Tie as tie
 
--- The call that this is, from where the function starts.
+-- This call, by its arguments at the start.
 abbrev call : tie.Start → Call
 call s =
     let a = s .args in
@@ -40,13 +40,13 @@ started c = let lending = c .before .before .before .before in lending .before .
 abbrev list-passed : tie.After-enum-told2 → tie.After-known-told
 list-passed c = c .before .before .before
 
--- the first reason decides of the answer
+-- the first reason decides the answer
 refuses : (s : tie.Start) (r : Reason) → firstOf (trusteesReasons (call s)) ≡ some r
     → refused r ≡ outcome (firstOf (trusteesReasons (call s))) (sizeOf (gatesOf (call s .table)))
 unfolding outcome
 refuses s r e = sym (ap (λ (o : Option Reason). outcome o (sizeOf (gatesOf (call s .table)))) e)
 
--- past the test of the list
+-- after the test of the list
 size : tie.After-known-told → Size
 size c = let g = c .before .answer .given in record { gates = g .0 .0; conditional = g .0 .1 .0 }
 
@@ -57,7 +57,7 @@ passed c =
     test-passed (of .shape) (of .table) (size c)
     (sym (c .before .before .before .test .ensures) ∙ ap outcomeOf (c .before .answer .given .1))
 
--- past the test of the ballots
+-- after the test of the ballots
 no-reason : (c : tie.After-enum-told2) → let of = call (started (list-passed c)) in firstOf (ballotReasons (of .shape) (of .ballots)) ≡ none
 unfolding refusedFor
 no-reason c = sym (c .before .before .test2 .ensures) ∙ ap refusedFor (c .enum-told2 .given .1)

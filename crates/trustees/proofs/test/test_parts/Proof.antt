@@ -1,5 +1,5 @@
--- `trustees::test::test_parts` meets its contract: each answer is the definition's at the outcomes of the tests that led
--- there.
+-- `trustees::test::test_parts` meets its contract: each answer is the definition's for the outcomes of the tests that
+-- led there.
 -- Assumes nothing.
 use borrow.Author.Needs.{needs}
 use mathlib.Core.Path.{_≡_, _∙_, refl, sym}
@@ -28,7 +28,7 @@ lent s =
       published = a .published .now;
     }
 
--- The stages: t is in its limits; the tables fit; the dealing was tested.
+-- The stages: t is within its limits; the tables fit; the dealing was tested.
 abbrev started : tie.Else1 → tie.Start
 started c = c .before .before .before .before .before .before .before
 

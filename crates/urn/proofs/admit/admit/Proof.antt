@@ -15,7 +15,7 @@ use borrow.Author.Needs.{needs}
 use Rattle.urn.proofs.admit.admit.Statement.{statement}
 use Rattle.urn.proofs.admit.admit.Tie as tie
 
--- an accepted answer has no reason against it
+-- no reason applies to an accepted call
 no-reason : (c : tie.After-enum-told) →
     let a = c .before .before .before .before .before .before .args in
     firstOf (admitReasons (a .k) (a .d) (factsOf (a .k) (a .d) (a .urn .now) (a .juror)) (a .juror) (a .ballot .now)) ≡ none

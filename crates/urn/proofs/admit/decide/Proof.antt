@@ -1,4 +1,5 @@
--- `urn::admit::decide` meets its contract: each answer is the definition's at the outcomes of the tests that led there.
+-- `urn::admit::decide` meets its contract: each answer is the definition's for the outcomes of the tests that led
+-- there.
 -- Assumes nothing.
 use mathlib.Core.Path.{_∙_, sym, ap}
 use mathlib.Core.Bool.{not}

@@ -1,4 +1,4 @@
--- `urn::admit::put_ballot` meets its contract: the stores leave the slots that are written from the new chains.
+-- `urn::admit::put_ballot` meets its contract: the stores leave the layout of the new chains.
 -- Assumes nothing.
 use mathlib.Core.Path.{_≡_, _∙_, ap}
 use Prim.Native.Nat.{ℕ, _+_, _*_, _≤_, _<_}
@@ -15,7 +15,7 @@ use borrow.Author.Needs.{needs}
 use Rattle.urn.proofs.admit.put_ballot.Statement.{statement}
 use Rattle.urn.proofs.admit.put_ballot.Tie as tie
 
--- the urn is not short
+-- the urn has at least two slots
 long : (s : tie.Start) → 4 ≤ length (s .args .urn .now)
 long s =
     let a = s .args in
@@ -30,7 +30,7 @@ inside s =
 small : (s : tie.Start) → s .args .k * s .args .d ≤ 56
 small s = few-bytes (s .args .k) (s .args .d) ((s .pre .graded))
 
--- The start of the call, from behind the reading of the slot's number.
+-- The start of the call, seen from after the reading of the slot's number.
 abbrev from-wide : tie.After-wide → tie.Start
 from-wide c = c .before .before .before .before .before
 

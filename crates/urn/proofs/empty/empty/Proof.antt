@@ -23,7 +23,7 @@ use borrow.Author.Needs.{needs}
 use Rattle.urn.proofs.empty.empty.Statement.{statement}
 use Rattle.urn.proofs.empty.empty.Tie as tie
 
--- the shape is that of a jury that grades
+-- the shape is that of a graded jury
 graded : (c : tie.Else1) → gradedShape (c .before .before .before .args .k) (c .before .before .before .args .d) ≡ true
 graded c = sym (c .before .is-graded .ensures) ∙ not-false _ (c .if1 .left)
 

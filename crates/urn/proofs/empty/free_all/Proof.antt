@@ -1,4 +1,4 @@
--- `urn::empty::free_all` meets its contract: the slots behind the present one are free, in order.
+-- `urn::empty::free_all` meets its contract: the slots after the present one are free, in order.
 -- Assumes nothing.
 use mathlib.Core.Path.{_≡_, _∙_, refl, sym, ap, subst}
 use Prim.Native.Nat.{ℕ, suc, _+_, _-_, _*_, _≤_, _<_}
@@ -17,7 +17,7 @@ Inv-loop urn₀ bytes slots size left₀ at₀ first₀ urn left at first = Free
 abbrev μ-loop : tie.MeasureT-loop
 μ-loop urn₀ bytes slots size left₀ at₀ first₀ urn left at first = left
 
--- the slot of a turn lies within the urn
+-- a turn's slot lies within the urn
 inside : (c : tie.In-loop Inv-loop μ-loop) → let s = c .before .before .before .before .before .before .before in
     c .before .loop .at + slotBytes (s .args .bytes) ≤ s .args .slots * slotBytes (s .args .bytes)
 inside c =

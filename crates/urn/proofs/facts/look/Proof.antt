@@ -1,4 +1,5 @@
--- `urn::facts::look` meets its contract: the facts are those of the definition, by the outcomes of test and search, and the search finds the ballot.
+-- `urn::facts::look` meets its contract: the facts are the definition's for the outcomes of test and search, and the
+-- search finds the ballot.
 -- Assumes nothing.
 use mathlib.Core.Path.{_≡_, _∙_, sym, ap}
 use mathlib.Core.Bool.{true}

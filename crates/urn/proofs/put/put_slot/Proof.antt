@@ -1,9 +1,10 @@
--- `urn::put::put_slot` meets its contract: two stores and a copy behind them.
+-- `urn::put::put_slot` meets its contract: two stores and a copy after them.
 -- Assumes nothing.
 use mathlib.Core.Path.{_∙_}
 use borrow.Rule.Slice.PartMut.{same-len-mid}
 use Prim.Native.Nat.{_+_, _-_}
 use lib.ListN.{length, length-set, set, drop, length-take, length-drop}
+use Rattle.basics.proofs.Tables.{copied}
 use Rattle.urn.proofs.SlotBytes.{put-done, stored-length}
 use native.Mathlib.Omega.{arith}
 use borrow.Author.Needs.{needs}
@@ -58,7 +59,7 @@ returns : tie.Need-returns
 returns c =
     let s = c .before .before .before .before .before .before in
     let a = s .args in
-    put-done (a .urn .now) (a .ballot .now) (c .before .before .copy .last .1 .0) (a .at) (a .next) (a .juror) (s .pre) (c .before .before .copy .ensures .1)
+    put-done (a .urn .now) (a .ballot .now) (c .before .before .copy .last .1 .0) (a .at) (a .next) (a .juror) (s .pre) (copied (c .before .before .copy .ensures))
 
 pub put-slot-spec : {M : Type 1} → statement M
 put-slot-spec =

@@ -1,4 +1,4 @@
--- `urn::withdraw::take_ballot` meets its contract: the stores leave the slots that are written from the new chains.
+-- `urn::withdraw::take_ballot` meets its contract: the stores leave the layout of the new chains.
 -- Assumes nothing.
 use mathlib.Core.Path.{_≡_, _∙_, ap}
 use Prim.Native.Nat.{ℕ, _+_, _-_, _*_, _≤_, _<_}
@@ -24,7 +24,7 @@ use Rattle.urn.proofs.withdraw.take_ballot.Tie as tie
 limits : (s : tie.Start) → T (gradedLimits (juryOfOne (s .args .k) (s .args .d)))
 limits s = s .pre .graded
 
--- the urn is not short
+-- the urn has at least two slots
 long : (s : tie.Start) → 4 ≤ length (s .args .urn .now)
 long s =
     let a = s .args in

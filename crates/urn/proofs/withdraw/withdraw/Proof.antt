@@ -27,11 +27,11 @@ use borrow.Author.Needs.{needs}
 use Rattle.urn.proofs.withdraw.withdraw.Statement.{statement}
 use Rattle.urn.proofs.withdraw.withdraw.Tie as tie
 
--- the shape is that of a jury that grades
+-- the shape is that of a graded jury
 graded : (c : tie.Else1) → T (gradedShape (c .before .before .before .args .k) (c .before .before .before .args .d))
 graded c = true-T _ (sym (c .before .is-graded .ensures) ∙ not-false _ (c .if1 .left))
 
--- The start of the call, from behind an accepted answer.
+-- The start of the call, seen from after an accepted answer.
 abbrev start : tie.After-enum-told → tie.Start
 start e = e .before .before .before .before .before .before .before .before
 
@@ -43,7 +43,7 @@ answered D =
     let a = D .before .before .before .before .before .before .args in
     D .decide .ensures ∙ ap (λ (x : Facts). withdrawAnswer (a .k) (a .d) x (a .juror)) (D .before .look .ensures .told)
 
--- an accepted answer has no reason against it
+-- no reason applies to an accepted call
 no-reason : (e : tie.After-enum-told) →
     let a = start e .args in
     firstOf (withdrawReasons (a .k) (a .d) (factsOf (a .k) (a .d) (a .urn .now) (a .juror)) (a .juror)) ≡ none

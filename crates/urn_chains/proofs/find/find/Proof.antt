@@ -1,4 +1,4 @@
--- `urn_chains::find::find` meets its contract: finding the ballot in the rest of the chain is finding it at all.
+-- `urn_chains::find::find` meets its contract: searching the rest of the chain is searching all of it.
 -- Assumes nothing.
 use mathlib.Core.Path.{_∙_, sym}
 use Prim.Native.Nat.{_+_, _-_, _*_, _≤_, _<_}
@@ -18,7 +18,7 @@ abbrev μ-loop : tie.MeasureT-loop
 μ-loop urn bytes slots juror size before₀ count₀ slot₀ before count slot =
     slots - count
 
--- the slot of a turn lies within the urn
+-- a turn's slot lies within the urn
 below-end : (c : tie.Else1 Inv-loop μ-loop) → c .before .before .loop .slot < c .before .before .before .before .before .before .args .slots
 below-end c =
     let at = c .before .before in

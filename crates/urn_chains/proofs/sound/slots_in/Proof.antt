@@ -1,4 +1,5 @@
--- `urn_chains::sound::slots_in` meets its contract: each answer is the definition's at the outcomes of the tests that led there.
+-- `urn_chains::sound::slots_in` meets its contract: each answer is the definition's for the outcomes of the tests
+-- that led there.
 -- Assumes nothing.
 use mathlib.Core.Path.{sym, ap}
 use mathlib.Core.Bool.{Bool, cond}

@@ -1,4 +1,4 @@
--- `urn_chains::sound::test_slots` meets its contract: the tests of the code hold together exactly where the slots are sound.
+-- `urn_chains::sound::test_slots` meets its contract: the code's tests all pass exactly if the slots are sound.
 -- Assumes nothing.
 use mathlib.Core.Path.{_≡_, _∙_, sym, ap}
 use Prim.Native.Nat.{ℕ, _+_, _*_, _-_}
@@ -17,7 +17,7 @@ use borrow.Author.Needs.{needs}
 use Rattle.urn_chains.proofs.sound.test_slots.Statement.{statement}
 use Rattle.urn_chains.proofs.sound.test_slots.Tie as tie
 
--- The start of the call, from behind the test of slot 0, the walk along the ballot chain and the one along the free chain.
+-- The start of the call, seen from after the test of slot 0, and from after each walk.
 abbrev from-head : tie.Else1 → tie.Start
 from-head c = c .before .before .before .before
 
@@ -27,7 +27,7 @@ from-ballots c = from-head (c .before .before .before)
 abbrev from-free : tie.Else3 → tie.Start
 from-free c = from-ballots (c .before .before .before .before)
 
--- what the bytes of slot 0 told
+-- what the bytes of slot 0 say
 head-told : (c : tie.After-is-zero) →
     let a = c .before .before .before .args in
     allZero (take (a .k * a .d) (drop 2 (a .urn .now))) ≡ c .is-zero .result
@@ -35,7 +35,7 @@ head-told c =
     let a = c .before .before .before .args in
     ap (λ (n : ℕ). allZero (take n (drop 2 (a .urn .now)))) {x = a .k * a .d} {y = 2 + a .k * a .d - 2} (omega arith) ∙ sym (c .is-zero .ensures)
 
--- what the walks told: each found its chain, and the one along the free chain began with the marks of the other
+-- what the walks found: each its chain; the one along the free chain began with the other's marks
 ballots-counted : (c : tie.Else2) →
     let a = from-ballots c .args in
     c .before .before .walk-ballots .result .count ≡ length (chain (a .slots) (getD (a .urn .now) 0 0) (slotsOf (a .k * a .d) (a .slots) (a .urn .now)))

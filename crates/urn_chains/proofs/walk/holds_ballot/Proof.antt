@@ -1,4 +1,4 @@
--- `urn_chains::walk::holds_ballot` meets its contract: the juror's number is not 0, and the tests of ballots find no reason.
+-- `urn_chains::walk::holds_ballot` meets its contract: the juror's number is not 0, and the ballot passes its tests.
 -- Assumes nothing.
 use mathlib.Core.Path.{_∙_, sym, ap}
 use mathlib.Core.Bool.{Bool, _&&_}

@@ -1,4 +1,4 @@
--- `urn_chains::walk::is_zero` meets its contract: all bytes are 0 where those looked at are, and those not looked at yet are.
+-- `urn_chains::walk::is_zero` meets its contract: the flag is whether all bytes so far are 0.
 -- Assumes nothing.
 use mathlib.Core.Path.{_≡_, _∙_, refl, sym, ap}
 use mathlib.Core.Logic.{⊎-elim}

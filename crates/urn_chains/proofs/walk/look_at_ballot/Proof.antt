@@ -22,7 +22,7 @@ inside c =
     let a = c .before .before .args in
     omega (arith, slot-within (a .slot) (a .slots) (a .k * a .d) (c .if1 .left), c .before .before .pre .bytes .table .size)
 
--- what the tests of the slot tell
+-- what the tests of the slot say
 held : (c : tie.After-holds-ballot) → ballotAt (c .before .before .before .before .before .args .k) (c .before .before .before .before .before .args .d) (slotsOf (c .before .before .before .before .before .args .k * c .before .before .before .before .before .args .d) (c .before .before .before .before .before .args .slots) (c .before .before .before .before .before .args .urn .now)) (c .before .before .before .before .before .args .slot) ≡ c .holds-ballot .result
 unfolding slotBytes
 held c =

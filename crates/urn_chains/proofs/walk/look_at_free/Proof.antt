@@ -22,7 +22,7 @@ inside c =
     let a = c .before .before .args in
     omega (arith, slot-within (a .slot) (a .slots) (a .bytes) (c .if1 .left), c .before .before .pre .table .size)
 
--- what the tests of the slot tell
+-- what the tests of the slot say
 held : (c : tie.After-is-zero) → freeAt (slotsOf (c .before .before .before .before .before .before .args .bytes) (c .before .before .before .before .before .before .args .slots) (c .before .before .before .before .before .before .args .urn .now)) (c .before .before .before .before .before .before .args .slot) ≡ c .is-zero .result
 unfolding slotBytes
 held c =

@@ -1,4 +1,4 @@
--- `urn_chains::walk::walk_ballots` meets its contract: what is left to find along the chain is all that there is to find.
+-- `urn_chains::walk::walk_ballots` meets its contract: walking the rest of the chain is walking all of it.
 -- Assumes nothing.
 use mathlib.Core.Path.{_≡_, _∙_, sym, subst}
 use mathlib.Core.Bool.{true, false}
@@ -22,7 +22,7 @@ abbrev μ-loop : tie.MeasureT-loop
 μ-loop urn k d slots marks₀ jurors₀ count₀ slot₀ marks jurors count slot =
     slots - count
 
--- what the look at a turn's slot told
+-- what the look at a turn's slot found
 well : (c : tie.After-known-told Inv-loop μ-loop) →
     let at = c .before .before .before .before .before .before in
     let a = at .before .before .before .before .args in
@@ -31,7 +31,7 @@ well : (c : tie.After-known-told Inv-loop μ-loop) →
 well c =
     looked-well _ _ _ _ (sym (c .before .before .before .look-at-ballot .ensures) ∙ c .before .look .given .1)
 
--- and so the slot and the juror have marks
+-- so the slot and the juror have marks
 slot-marked : (c : tie.After-known-told Inv-loop μ-loop) → c .before .before .before .before .before .before .loop .slot < 256
 slot-marked c =
     let at = c .before .before .before .before .before .before in

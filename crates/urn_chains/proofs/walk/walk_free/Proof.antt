@@ -1,4 +1,4 @@
--- `urn_chains::walk::walk_free` meets its contract: what is left to find along the chain is all that there is to find.
+-- `urn_chains::walk::walk_free` meets its contract: walking the rest of the chain is walking all of it.
 -- Assumes nothing.
 use mathlib.Core.Path.{_≡_, _∙_, sym}
 use mathlib.Core.Bool.{true}
@@ -26,7 +26,7 @@ abbrev μ-loop : tie.MeasureT-loop
 met-size : (s : tie.Start Inv-loop μ-loop) → length (s .args .met) ≡ 256
 met-size s = s .good .1 .1 .1 .0 .1 .0 .1
 
--- what the look at a turn's slot told
+-- what the look at a turn's slot found
 well : (c : tie.After-known-told Inv-loop μ-loop) →
     let at = c .before .before .before .before .before .before in
     let a = at .before .before .before .before .args in
@@ -35,7 +35,7 @@ well : (c : tie.After-known-told Inv-loop μ-loop) →
 well c =
     looked-well _ _ _ _ (sym (c .before .before .before .look-at-free .ensures) ∙ c .before .look .given .1)
 
--- and so the slot has a mark
+-- so the slot has a mark
 slot-marked : (c : tie.After-known-told Inv-loop μ-loop) → c .before .before .before .before .before .before .loop .slot < 256
 slot-marked c =
     let at = c .before .before .before .before .before .before in

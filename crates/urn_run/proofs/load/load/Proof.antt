@@ -1,10 +1,12 @@
--- `urn_run::load::load` meets its contract: after each turn, writing the rest of the chain's ballots behind those that are written is writing all of them.
+-- `urn_run::load::load` meets its contract: after each turn, writing the rest of the ballots after those written is
+-- writing all of them.
 -- Assumes nothing.
 use Prim.Native.Nat.{_+_, _-_, _*_, _≤_, _<_}
 use native.Mathlib.Omega.{arith}
 use lib.ListN.{length, getD}
 use lib.Seq.{sets}
 use borrow.Author.Needs.{needs}
+use Rattle.basics.proofs.Tables.{copied}
 use Rattle.urn_chains.specs.Slots.{slotsOf}
 use Rattle.urn_chains.specs.Chains.{chain}
 use Rattle.urn_chains.specs.Sound.{slotCount}
@@ -47,7 +49,7 @@ loop-holds c =
     let a = s .args in
     load-begin (a .k) (a .d) (a .urn .now) (s .pre .graded) (s .pre .isSound) (a .wires .now) (c .wide .result) (s .pre .room) (c .wide .ensures)
 
--- The start of the call, from within a turn.
+-- The start of the call, seen from within a turn.
 abbrev from-turn : tie.In-loop Inv-loop μ-loop → tie.Start Inv-loop μ-loop
 from-turn c = c .before .before .before .before .before .before
 
@@ -141,7 +143,7 @@ loop-again c =
     let s = from-turn turn in
     let a = s .args in
     let l = turn .before .loop in
-    turn-on (a .k) (a .d) (a .urn .now) (s .pre .graded) (s .pre .isSound) _ _ (l .wires) (l .count) (l .slot) (l .inv) (goes-on turn) (c .before .before .before .before .copy .last .1 .0) (c .wide2 .result) (c .before .before .before .before .copy .ensures .1) (c .wide2 .ensures)
+    turn-on (a .k) (a .d) (a .urn .now) (s .pre .graded) (s .pre .isSound) _ _ (l .wires) (l .count) (l .slot) (l .inv) (goes-on turn) (c .before .before .before .before .copy .last .1 .0) (c .wide2 .result) (copied (c .before .before .before .before .copy .ensures)) (c .wide2 .ensures)
 
 same-length : tie.Need-same-length Inv-loop μ-loop
 same-length c = c .before .loop .inv .kept

@@ -1,4 +1,5 @@
--- `urn_run::run::run_on_urn` meets its contract: where the tests pass, the ballots go into the wire table, the evaluation fills it and the board, and the wire table is emptied; else nothing is touched.
+-- `urn_run::run::run_on_urn` meets its contract: if the tests pass, the ballots are loaded, the evaluation fills wire
+-- table and board, and the wire table is emptied; otherwise nothing is touched.
 -- Assumes nothing.
 use mathlib.Core.Path.{_≡_, _∙_, sym, ap, subst}
 use mathlib.Core.Option.{Option, none, some}
@@ -21,7 +22,7 @@ use Rattle.urn_run.proofs.Reasons.{one-T, whole-within, UrnRunPassed, u
 use Rattle.urn_run.proofs.run.run_on_urn.Statement.{statement}
 use Rattle.urn_run.proofs.run.run_on_urn.Tie as tie
 
--- answer, wire table and board, as what a call leaves
+-- the result of a call is equal if its three parts are
 whole : {a b : Outcome Size} {v w x y : List ℕ} → a ≡ b → v ≡ w → x ≡ y → _≡_ {A = RunResult} (record { answer = a; wires = v; board = x }) (record { answer = b; wires = w; board = y })
 whole e f g = cc
 
@@ -31,14 +32,14 @@ test-run-requires c κs = search needs
 enum-told : tie.Need-enum-told
 enum-told c = search needs
 
--- The start of the call, from behind the test, and from behind one that accepts.
+-- The start of the call, seen from after the test, and from after one that accepts.
 abbrev from-answer : tie.After-test-run → tie.Start
 from-answer c = c .before .before .before .before .before .before .before .before
 
 abbrev from-test : tie.After-enum-told → tie.Start
 from-test c = from-answer (c .before .before)
 
--- where the tests pass, no reason applies
+-- if the tests pass, no reason applies
 no-reason : (c : tie.After-enum-told) →
     let a = from-test c .args in
     firstOf (urnRunReasons (a .shape) (a .table .now) (a .urn .now) (a .tape .now) (a .wires .now) (a .board .now)) ≡ none
@@ -111,7 +112,7 @@ returns c =
     whole
     (told .before .before .test-run .ensures ∙ ap (λ (o : Option Reason). outcome o (sizeOf gs)) (no-reason told) ∙ sym (ap (λ (r : RunResult). r .answer) e))
     (c .before .before .empty .ensures ∙ ap (λ (n : ℕ). replicate n 0) same ∙ sym (ap (λ (r : RunResult). r .wires) e))
-    (done .ensures .1 ∙ ap (λ (xs : List ℕ). boardOf (wiresOf xs gs) gs (a .shape .candidates) (a .tape .now)) front ∙ sym (ap (λ (r : RunResult). r .board) e))
+    (done .ensures .board ∙ ap (λ (xs : List ℕ). boardOf (wiresOf xs gs) gs (a .shape .candidates) (a .tape .now)) front ∙ sym (ap (λ (r : RunResult). r .board) e))
 
 same-length-3 : tie.Need-same-length-3
 same-length-3 c = search needs

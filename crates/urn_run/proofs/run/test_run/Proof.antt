@@ -1,4 +1,5 @@
--- `urn_run::run::test_run` meets its contract: the shape and the urn are tested first, then the list, the number of ballots, and what else is lent.
+-- `urn_run::run::test_run` meets its contract: it tests shape and urn, then the list, the number of ballots, and the
+-- buffers.
 -- Assumes nothing.
 use mathlib.Core.Path.{_≡_, _∙_, sym, ap}
 use mathlib.Core.Bool.{true}
@@ -21,13 +22,13 @@ use Rattle.urn_run.proofs.Reasons.{one-T, by-1, by-13, by-list, by-4, b
 use Rattle.urn_run.proofs.run.test_run.Statement.{statement}
 use Rattle.urn_run.proofs.run.test_run.Tie as tie
 
--- the first reason decides of the answer
+-- the first reason decides the answer
 refuses : (c : tie.Start) (r : Reason) → let a = c .args in firstOf (urnRunReasons (a .shape) (a .table .now) (a .urn .now) (a .tape .now) (a .wires .now) (a .board .now)) ≡ some r
     → refused r ≡ outcome (firstOf (urnRunReasons (a .shape) (a .table .now) (a .urn .now) (a .tape .now) (a .wires .now) (a .board .now))) (sizeOf (gatesOf (a .table .now)))
 unfolding outcome
 refuses c r e = sym (ap (λ (o : Option Reason). outcome o (sizeOf (gatesOf (c .args .table .now)))) e)
 
--- The start of the call, from behind the test of the shape, of the urn, of the list, of the number and of the rest.
+-- The start of the call, seen from after the test of the shape, the urn, the list, the number and the buffers.
 abbrev from-shape : tie.Else1 → tie.Start
 from-shape c = c .before .before .before .before .before .before .before
 
@@ -43,18 +44,18 @@ from-number c = from-list (c .before .before)
 abbrev from-buffers : tie.After-test-buffers → tie.Start
 from-buffers c = from-number (c .before .before)
 
--- past the test of the shape
+-- after the test of the shape
 graded : (c : tie.Else1) → gradedLimits (from-shape c .args .shape) ≡ true
 graded c = sym (c .before .is-within-graded-limits .ensures) ∙ not-false (c .before .is-within-graded-limits .result) (c .if1 .left)
 
--- past the test of the urn
+-- after the test of the urn
 sound-told : (c : tie.After-known-told) →
     let a = from-urn c .args in
     (sound (a .shape .candidates) (a .shape .grades) (a .urn .now) ≡ true) × (c .before .ballots .given .0 .0 ≡ ballotsIn (a .shape .candidates) (a .shape .grades) (a .urn .now))
 unfolding ballotsIn
 sound-told c = soundness-sound _ _ _ (sym (c .before .before .before .test .ensures) ∙ c .before .ballots .given .1)
 
--- past the test of the list
+-- after the test of the list
 size : tie.After-known-told2 → Size
 size c = let g = c .before .answer .given in record { gates = g .0 .0; conditional = g .0 .1 .0 }
 

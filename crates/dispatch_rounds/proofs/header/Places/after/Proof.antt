@@ -1,4 +1,4 @@
--- `dispatch_rounds::header::Places::after` meets its contract: each place is moved by the length of its piece.
+-- `dispatch_rounds::header::Places::after` meets its contract: each place moves by the length of its piece.
 -- Assumes nothing.
 use mathlib.Core.Path.{ap}
 use Prim.Native.Nat.{ℕ, _+_, _*_}
@@ -8,7 +8,7 @@ use Rattle.dispatch_rounds.specs.declared.header.Places.{Places}
 use Rattle.dispatch_rounds.proofs.header.Places.after.Statement.{statement}
 use Rattle.dispatch_rounds.proofs.header.Places.after.Tie as tie
 
--- the places behind a jury of so many ballot bytes
+-- the places after a jury with this many ballot bytes
 abbrev made : Places → JuryHeader → ℕ → ℕ → Places
 made at s c i =
     record { lists = at .lists + 4 * s .gates; ballots = at .ballots + i; tapes = at .tapes + c; wires = at .wires + (i + s .gates); boards = at .boards + (c + s .candidates) }

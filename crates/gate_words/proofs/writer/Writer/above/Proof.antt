@@ -23,7 +23,7 @@ loop-holds c =
     let a = c .before .args in (
       omega arith,
       goes-as (a .self) (a .table .now) (above (a .self .wire) (a .differ) (a .x) (a .s) (a .digits)) (a .self) (a .table .now) _ _ (sym (ap (λ (n : ℕ). above (a .self .wire) n (a .x + 0) (a .s) (a .digits - 0)) (add-zero (a .differ)) ∙ ap (λ (n : ℕ). above (a .self .wire) (a .differ) n (a .s) (a .digits - 0)) (add-zero (a .x)) ∙ ap (above (a .self .wire) (a .differ) (a .x) (a .s)) (sub-zero (a .digits))))
-          (goes-start (a .self) (a .table .now) (above (a .self .wire) (a .differ) (a .x) (a .s) (a .digits)) (a .digits) (c .before .pre .0)),
+          (goes-start (a .self) (a .table .now) (above (a .self .wire) (a .differ) (a .x) (a .s) (a .digits)) (a .digits) (c .before .pre .room)),
     )
 
 add-emit : tie.Need-add-emit Inv-loop μ-loop
@@ -38,7 +38,7 @@ emit-requires c κs =
     let a = s .args in
     let l = c .before .before .loop in
     goes-room (a .self) (a .table .now) (above (a .self .wire) (a .differ) (a .x) (a .s) (a .digits)) (l .w) (l .table) (above (l .w .wire) (a .differ + l .i) (a .x + l .i) (l .last) (a .digits - l .i)) 1 (a .digits) (l .inv .1)
-    (omega (arith, length-above (l .w .wire) (a .differ + l .i) (a .x + l .i) (l .last) (a .digits - l .i))) (omega (arith, length-above (a .self .wire) (a .differ) (a .x) (a .s) (a .digits))) (s .pre .0)
+    (omega (arith, length-above (l .w .wire) (a .differ + l .i) (a .x + l .i) (l .last) (a .digits - l .i))) (omega (arith, length-above (a .self .wire) (a .differ) (a .x) (a .s) (a .digits))) (s .pre .room)
 
 add-i : tie.Need-add-i Inv-loop μ-loop
 add-i c = omega arith

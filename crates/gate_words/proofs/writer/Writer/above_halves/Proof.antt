@@ -15,16 +15,20 @@ use Rattle.gate_words.proofs.writer.Writer.above_halves.Tie as tie
 
 add-above : tie.Need-add-above
 add-above c =
-    omega (arith, (c .before .before) .pre .0 .small, (c .before .before) .pre .1)
+    omega (arith, (c .before .before) .pre)
 
 add-above-2 : tie.Need-add-above-2
 add-above-2 c =
-    omega (arith, (c .before .before) .pre .0 .small, (c .before .before) .pre .1)
+    omega (arith, (c .before .before) .pre)
 
 above-requires : tie.Need-above-requires
 above-requires c κs =
     let s = (c .before .before) in
-    (room-less (s .args .self) _ _ (omega arith) (s .pre .0), (omega (arith, s .pre .1), omega (arith, s .pre .1)))
+    record {
+      room = room-less (s .args .self) _ _ (omega arith) (s .pre .room);
+      firstBelow = omega (arith, s .pre);
+      secondBelow = omega (arith, s .pre);
+    }
 
 -- behind the low half
 
@@ -33,7 +37,7 @@ lower c =
     let s = (c .before .before .before) in
     let a = s .args in
     stands-after (a .self) (a .table .now) _ (c .above .last .1 .0) (c .above .result) _ _ _ (c .above .ensures) (length-above (a .self .wire) (a .f + 1) (a .x + 1) (a .x) (a .low))
-    (stands (a .self) (a .self .wire) _ _ refl (omega arith) (s .pre .0))
+    (stands (a .self) (a .self .wire) _ _ refl (omega arith) (s .pre .room))
 
 same-length : tie.Need-same-length
 same-length c =
@@ -45,49 +49,53 @@ returns c =
 
 add-start : tie.Need-add-start
 add-start c =
-    omega (arith, (c .before .before .before .before .before .before) .pre .0 .small, (c .before .before .before .before .before .before) .pre .1, (c .if1) .left)
+    omega (arith, (c .before .before .before .before .before .before) .pre, (c .if1) .left)
 
 add-start-2 : tie.Need-add-start-2
 add-start-2 c =
-    omega (arith, (c .before .before .before .before .before .before) .pre .0 .small, (c .before .before .before .before .before .before) .pre .1, (c .if1) .left)
+    omega (arith, (c .before .before .before .before .before .before) .pre, (c .if1) .left)
 
 add-chain-end : tie.Need-add-chain-end
 add-chain-end c =
-    omega (arith, (c .before .before .before .before .before .before) .pre .0 .small, (c .before .before .before .before .before .before) .pre .1, (c .if1) .left)
+    omega (arith, (c .before .before .before .before .before .before) .pre, (c .if1) .left)
 
 sub-chain-end : tie.Need-sub-chain-end
 sub-chain-end c =
-    omega (arith, (c .before .before .before .before .before .before) .pre .0 .small, (c .before .before .before .before .before .before) .pre .1, (c .if1) .left)
+    omega (arith, (c .before .before .before .before .before .before) .pre, (c .if1) .left)
 
 chain-end-requires : tie.Need-chain-end-requires
 chain-end-requires c κs =
-    omega (arith, (c .before .before .before .before .before .before) .pre .0 .small, (c .before .before .before .before .before .before) .pre .1, (c .if1) .left)
+    omega (arith, (c .before .before .before .before .before .before) .pre, (c .if1) .left)
 
 add-above-3 : tie.Need-add-above-3
 add-above-3 c =
-    omega (arith, (c .before .before .before .before .before .before .before .before) .pre .0 .small, (c .before .before .before .before .before .before .before .before) .pre .1, (c .before .before .if1) .left)
+    omega (arith, (c .before .before .before .before .before .before .before .before) .pre, (c .before .before .if1) .left)
 
 add-above-4 : tie.Need-add-above-4
 add-above-4 c =
-    omega (arith, (c .before .before .before .before .before .before .before .before) .pre .0 .small, (c .before .before .before .before .before .before .before .before) .pre .1, (c .before .before .if1) .left)
+    omega (arith, (c .before .before .before .before .before .before .before .before) .pre, (c .before .before .if1) .left)
 
 add-above-5 : tie.Need-add-above-5
 add-above-5 c =
-    omega (arith, (c .before .before .before .before .before .before .before .before) .pre .0 .small, (c .before .before .before .before .before .before .before .before) .pre .1, (c .before .before .if1) .left)
+    omega (arith, (c .before .before .before .before .before .before .before .before) .pre, (c .before .before .if1) .left)
 
 add-above-6 : tie.Need-add-above-6
 add-above-6 c =
-    omega (arith, (c .before .before .before .before .before .before .before .before) .pre .0 .small, (c .before .before .before .before .before .before .before .before) .pre .1, (c .before .before .if1) .left)
+    omega (arith, (c .before .before .before .before .before .before .before .before) .pre, (c .before .before .if1) .left)
 
 sub-above : tie.Need-sub-above
 sub-above c =
-    omega (arith, (c .before .before .before .before .before .before .before .before) .pre .0 .small, (c .before .before .before .before .before .before .before .before) .pre .1, (c .before .before .if1) .left)
+    omega (arith, (c .before .before .before .before .before .before .before .before) .pre, (c .before .before .if1) .left)
 
 above-requires-2 : tie.Need-above-requires-2
 above-requires-2 c κs =
     let more = (c .before .before .if1) .left in
     let l = lower (c .before .before .before .before .before) in
-    (room-of ((c .before .before .before .before .before .above) .result) _ _ _ l (omega arith), (omega (arith, l .place, (c .before .before .before .before .before .before .before .before) .pre .1), omega (arith, l .place, (c .before .before .before .before .before .before .before .before) .pre .1)))
+    record {
+      room = room-of ((c .before .before .before .before .before .above) .result) _ _ _ l (omega arith);
+      firstBelow = omega (arith, l .place, (c .before .before .before .before .before .before .before .before) .pre);
+      secondBelow = omega (arith, l .place, (c .before .before .before .before .before .before .before .before) .pre);
+    }
 
 -- behind the high half
 
@@ -101,7 +109,7 @@ upper c =
 
 chain-end-requires-2 : tie.Need-chain-end-requires-2
 chain-end-requires-2 c κs =
-    omega (arith, (c .before .before .before .before .before .before .before .before .before .before .before .before) .pre .0 .small, (c .before .before .before .before .before .before .before .before .before .before .before .before) .pre .1)
+    omega (arith, (c .before .before .before .before .before .before .before .before .before .before .before .before) .pre)
 
 emit-requires : tie.Need-emit-requires
 emit-requires c κs =

@@ -17,7 +17,11 @@ any-of-requires : tie.Need-any-of-requires
 any-of-requires c κs =
     let s = (c .before .before) in
     let a = s .args in
-    (room-less (a .self) _ _ (omega arith) (s .pre .0), (beside (a .self .wire) (a .first) (a .low) (omega (arith, s .pre .1)), omega arith))
+    record {
+      room = room-less (a .self) _ _ (omega arith) (s .pre .room);
+      below = beside (a .self .wire) (a .first) (a .low) (omega (arith, s .pre .below));
+      near = omega arith;
+    }
 
 -- behind the low half
 
@@ -26,7 +30,7 @@ lower c =
     let s = (c .before .before .before) in
     let a = s .args in
     stands-after (a .self) (a .table .now) _ (c .any-of .last .1 .0) (c .any-of .result) _ _ _ (c .any-of .ensures) (length-chain 5 (a .self .wire) (a .s) (a .first) 1 (a .low))
-    (stands (a .self) (a .self .wire) _ _ refl (omega arith) (s .pre .0))
+    (stands (a .self) (a .self .wire) _ _ refl (omega arith) (s .pre .room))
 
 same-length : tie.Need-same-length
 same-length c =
@@ -38,34 +42,38 @@ returns c =
 
 add-start : tie.Need-add-start
 add-start c =
-    omega (arith, (c .before .before .before .before .before .before) .pre .0 .small, (c .before .before .before .before .before .before) .pre .1, (c .if1) .left)
+    omega (arith, (c .before .before .before .before .before .before) .pre .room .small, (c .before .before .before .before .before .before) .pre .below, (c .if1) .left)
 
 add-chain-end : tie.Need-add-chain-end
 add-chain-end c =
-    omega (arith, (c .before .before .before .before .before .before) .pre .0 .small, (c .before .before .before .before .before .before) .pre .1, (c .if1) .left)
+    omega (arith, (c .before .before .before .before .before .before) .pre .room .small, (c .before .before .before .before .before .before) .pre .below, (c .if1) .left)
 
 sub-chain-end : tie.Need-sub-chain-end
 sub-chain-end c =
-    omega (arith, (c .before .before .before .before .before .before) .pre .0 .small, (c .before .before .before .before .before .before) .pre .1, (c .if1) .left)
+    omega (arith, (c .before .before .before .before .before .before) .pre .room .small, (c .before .before .before .before .before .before) .pre .below, (c .if1) .left)
 
 chain-end-requires : tie.Need-chain-end-requires
 chain-end-requires c κs =
-    omega (arith, (c .before .before .before .before .before .before) .pre .0 .small, (c .before .before .before .before .before .before) .pre .1, (c .if1) .left)
+    omega (arith, (c .before .before .before .before .before .before) .pre .room .small, (c .before .before .before .before .before .before) .pre .below, (c .if1) .left)
 
 add-any-of : tie.Need-add-any-of
 add-any-of c =
-    omega (arith, (c .before .before .before .before .before .before .before .before) .pre .0 .small, (c .before .before .before .before .before .before .before .before) .pre .1, (c .before .before .if1) .left)
+    omega (arith, (c .before .before .before .before .before .before .before .before) .pre .room .small, (c .before .before .before .before .before .before .before .before) .pre .below, (c .before .before .if1) .left)
 
 sub-any-of : tie.Need-sub-any-of
 sub-any-of c =
-    omega (arith, (c .before .before .before .before .before .before .before .before) .pre .0 .small, (c .before .before .before .before .before .before .before .before) .pre .1, (c .before .before .if1) .left)
+    omega (arith, (c .before .before .before .before .before .before .before .before) .pre .room .small, (c .before .before .before .before .before .before .before .before) .pre .below, (c .before .before .if1) .left)
 
 any-of-requires-2 : tie.Need-any-of-requires-2
 any-of-requires-2 c κs =
     let a = (c .before .before .before .before .before .before .before .before) .args in
     let more = (c .before .before .if1) .left in
     let l = lower (c .before .before .before .before .before) in
-    (room-of ((c .before .before .before .before .before .any-of) .result) _ _ _ l (omega arith), (beside ((c .before .before .before .before .before .any-of) .result .wire) (a .first + a .low + 1) (a .high - 1) (omega (arith, l .place, (c .before .before .before .before .before .before .before .before) .pre .1)), omega arith))
+    record {
+      room = room-of ((c .before .before .before .before .before .any-of) .result) _ _ _ l (omega arith);
+      below = beside ((c .before .before .before .before .before .any-of) .result .wire) (a .first + a .low + 1) (a .high - 1) (omega (arith, l .place, (c .before .before .before .before .before .before .before .before) .pre .below));
+      near = omega arith;
+    }
 
 -- behind the high half
 
@@ -79,7 +87,7 @@ upper c =
 
 chain-end-requires-2 : tie.Need-chain-end-requires-2
 chain-end-requires-2 c κs =
-    omega (arith, (c .before .before .before .before .before .before .before .before .before .before .before .before) .pre .0 .small, (c .before .before .before .before .before .before .before .before .before .before .before .before) .pre .1)
+    omega (arith, (c .before .before .before .before .before .before .before .before .before .before .before .before) .pre .room .small, (c .before .before .before .before .before .before .before .before .before .before .before .before) .pre .below)
 
 emit-requires : tie.Need-emit-requires
 emit-requires c κs =

@@ -22,7 +22,7 @@ abbrev μ-loop : tie.MeasureT-loop
 loop-holds : tie.Need-loop-holds Inv-loop μ-loop
 loop-holds c =
     let a = c .before .args in
-    (goes-start (a .self) (a .table .now) (chain (a .kind) (a .self .wire) (a .s) (a .first) (a .stride) (a .count)) (a .count) (c .before .pre .0), c .before .pre .1 .0)
+    (goes-start (a .self) (a .table .now) (chain (a .kind) (a .self .wire) (a .s) (a .first) (a .stride) (a .count)) (a .count) (c .before .pre .room), c .before .pre .below)
 
 emit-requires : tie.Need-emit-requires Inv-loop μ-loop
 emit-requires c κs =
@@ -30,13 +30,13 @@ emit-requires c κs =
     let a = s .args in
     let l = c .before .before .loop in
     goes-room (a .self) (a .table .now) (chain (a .kind) (a .self .wire) (a .s) (a .first) (a .stride) (a .count)) (l .w) (l .table) (chain (a .kind) (l .w .wire) (l .last) (l .at) (a .stride) (l .left)) 1 (a .count) (l .inv .0)
-    (omega (arith, length-chain (a .kind) (l .w .wire) (l .last) (l .at) (a .stride) (l .left))) (omega (arith, length-chain (a .kind) (a .self .wire) (a .s) (a .first) (a .stride) (a .count))) (s .pre .0)
+    (omega (arith, length-chain (a .kind) (l .w .wire) (l .last) (l .at) (a .stride) (l .left))) (omega (arith, length-chain (a .kind) (a .self .wire) (a .s) (a .first) (a .stride) (a .count))) (s .pre .room)
 
 add-at : tie.Need-add-at Inv-loop μ-loop
 add-at c =
     let s = c .before .before .before .before .before .before .before in
     let l = c .before .before .before .before .before .loop in
-    omega (arith, s .pre .0 .small, s .pre .1 .1 .0, below-first (s .args .self .wire) (l .at) (s .args .stride) (l .left) (c .before .before .before .before .loop-test .taken) (l .inv .1))
+    omega (arith, s .pre .room .small, s .pre .near, below-first (s .args .self .wire) (l .at) (s .args .stride) (l .left) (c .before .before .before .before .loop-test .taken) (l .inv .1))
 
 sub-left : tie.Need-sub-left Inv-loop μ-loop
 sub-left c = omega arith
@@ -51,7 +51,7 @@ loop-again c =
     let l = c .before .before .before .before .before .loop in
     let e = c .before .before .emit in
     let t = c .before .before .before .before .loop-test .taken in
-    let wrote = two-wrote (l .w) (l .table) (e .last .1 .0) (e .result) (l .last) (l .at) 0 (a .kind) (s .pre .1 .1 .1) (e .ensures) in (
+    let wrote = two-wrote (l .w) (l .table) (e .last .1 .0) (e .result) (l .last) (l .at) 0 (a .kind) (s .pre .two) (e .ensures) in (
       goes-as (a .self) (a .table .now) (chain (a .kind) (a .self .wire) (a .s) (a .first) (a .stride) (a .count)) (e .result) (e .last .1 .0) _ _
           (ap (λ (n : ℕ). chain (a .kind) n (l .w .wire) (l .at + a .stride) (a .stride) (l .left - 1)) (sym (wrote .wires)))
           (goes-on (a .self) (a .table .now) (chain (a .kind) (a .self .wire) (a .s) (a .first) (a .stride) (a .count)) (l .w) (l .table) _ _ (e .last .1 .0) (e .result)

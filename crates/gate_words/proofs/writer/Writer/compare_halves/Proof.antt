@@ -13,12 +13,16 @@ use Rattle.gate_words.proofs.writer.Writer.compare_halves.Tie as tie
 
 high-unequal-at-requires : tie.Need-high-unequal-at-requires
 high-unequal-at-requires c κs =
-    omega (arith, (c .before) .pre .0 .small)
+    omega (arith, (c .before) .pre .room .small)
 
 unequal-halves-requires : tie.Need-unequal-halves-requires
 unequal-halves-requires c κs =
     let s = (c .before .before .before) in
-    (room-less (s .args .self) _ _ (omega arith) (s .pre .0), s .pre .1)
+    record {
+      room = room-less (s .args .self) _ _ (omega arith) (s .pre .room);
+      firstBelow = s .pre .firstBelow;
+      secondBelow = s .pre .secondBelow;
+    }
 
 -- behind the first part
 
@@ -27,12 +31,16 @@ differ c =
     let s = (c .before .before .before .before) in
     let a = s .args in
     stands-after (a .self) (a .table .now) _ (c .unequal-halves .last .1 .0) (c .unequal-halves .result) _ _ _ (c .unequal-halves .ensures) (length-unequal-halves (a .self .wire) (a .x) (a .y) (a .low) (a .high))
-    (stands (a .self) (a .self .wire) _ _ refl (omega arith) (s .pre .0))
+    (stands (a .self) (a .self .wire) _ _ refl (omega arith) (s .pre .room))
 
 above-halves-requires : tie.Need-above-halves-requires
 above-halves-requires c κs =
     let d = differ (c .before .before .before) in
-    (d .left, (omega (arith, d .place), omega (arith, d .place, (c .before .before .before .before .before .before .before) .pre .1)))
+    record {
+      room = d .left;
+      firstBelow = omega (arith, d .place);
+      secondBelow = omega (arith, d .place, (c .before .before .before .before .before .before .before) .pre);
+    }
 
 same-length : tie.Need-same-length
 same-length c =

@@ -23,7 +23,7 @@ loop-holds c =
     let a = c .before .args in (
       omega arith,
       goes-as (a .self) (a .table .now) (compareWords (a .self .wire) (a .x) (a .y) (a .up) (a .down) (a .digits)) (a .self) (a .table .now) _ _ (sym (ap (λ (n : ℕ). compareWords (a .self .wire) n (a .y + 0) (a .up) (a .down) (a .digits - 0)) (add-zero (a .x)) ∙ ap (λ (n : ℕ). compareWords (a .self .wire) (a .x) n (a .up) (a .down) (a .digits - 0)) (add-zero (a .y)) ∙ ap (compareWords (a .self .wire) (a .x) (a .y) (a .up) (a .down)) (sub-zero (a .digits))))
-          (goes-start (a .self) (a .table .now) (compareWords (a .self .wire) (a .x) (a .y) (a .up) (a .down) (a .digits)) (length (compareWords (a .self .wire) (a .x) (a .y) (a .up) (a .down) (a .digits))) (c .before .pre .0)),
+          (goes-start (a .self) (a .table .now) (compareWords (a .self .wire) (a .x) (a .y) (a .up) (a .down) (a .digits)) (length (compareWords (a .self .wire) (a .x) (a .y) (a .up) (a .down) (a .digits))) (c .before .pre .room)),
     )
 
 add-compare-next : tie.Need-add-compare-next Inv-loop μ-loop
@@ -38,13 +38,13 @@ compare-next-requires c κs =
     let a = s .args in
     let l = c .before .before .loop in
     goes-room (a .self) (a .table .now) (compareWords (a .self .wire) (a .x) (a .y) (a .up) (a .down) (a .digits)) (l .w) (l .table) (compareWords (l .w .wire) (a .x + l .i) (a .y + l .i) (l .above) (l .below) (a .digits - l .i)) 3 (length (compareWords (a .self .wire) (a .x) (a .y) (a .up) (a .down) (a .digits))) (l .inv .1)
-    (omega (arith, length-compare (l .w .wire) (a .x + l .i) (a .y + l .i) (l .above) (l .below) (a .digits - l .i))) (omega (arith, length-compare (a .self .wire) (a .x) (a .y) (a .up) (a .down) (a .digits))) (s .pre .0)
+    (omega (arith, length-compare (l .w .wire) (a .x + l .i) (a .y + l .i) (l .above) (l .below) (a .digits - l .i))) (omega (arith, length-compare (a .self .wire) (a .x) (a .y) (a .up) (a .down) (a .digits))) (s .pre .room)
 
 add-above : tie.Need-add-above Inv-loop μ-loop
-add-above c = let l = c .before .before .before .before .before .loop in omega (arith, l .inv .1 .wireLeft, c .before .before .before .before .before .before .before .pre .0 .small, length-compare (l .w .wire) (c .before .before .before .before .before .before .before .args .x + l .i) (c .before .before .before .before .before .before .before .args .y + l .i) (l .above) (l .below) (c .before .before .before .before .before .before .before .args .digits - l .i))
+add-above c = let l = c .before .before .before .before .before .loop in omega (arith, l .inv .1 .wireLeft, c .before .before .before .before .before .before .before .pre .room .small, length-compare (l .w .wire) (c .before .before .before .before .before .before .before .args .x + l .i) (c .before .before .before .before .before .before .before .args .y + l .i) (l .above) (l .below) (c .before .before .before .before .before .before .before .args .digits - l .i))
 
 add-below : tie.Need-add-below Inv-loop μ-loop
-add-below c = let l = c .before .before .before .before .before .loop in omega (arith, l .inv .1 .wireLeft, c .before .before .before .before .before .before .before .pre .0 .small, length-compare (l .w .wire) (c .before .before .before .before .before .before .before .args .x + l .i) (c .before .before .before .before .before .before .before .args .y + l .i) (l .above) (l .below) (c .before .before .before .before .before .before .before .args .digits - l .i))
+add-below c = let l = c .before .before .before .before .before .loop in omega (arith, l .inv .1 .wireLeft, c .before .before .before .before .before .before .before .pre .room .small, length-compare (l .w .wire) (c .before .before .before .before .before .before .before .args .x + l .i) (c .before .before .before .before .before .before .before .args .y + l .i) (l .above) (l .below) (c .before .before .before .before .before .before .before .args .digits - l .i))
 
 add-i : tie.Need-add-i Inv-loop μ-loop
 add-i c = omega arith

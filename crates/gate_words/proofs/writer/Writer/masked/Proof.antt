@@ -24,7 +24,7 @@ loop-holds c =
       omega arith,
       goes-as (a .self) (a .table .now) (masked (a .f) (a .x) (a .digits)) (a .self) (a .table .now) _ _
           (sym (ap (λ (n : ℕ). masked (a .f) n (a .digits - 0)) (add-zero (a .x)) ∙ ap (masked (a .f) (a .x)) (sub-zero (a .digits))))
-          (goes-start (a .self) (a .table .now) (masked (a .f) (a .x) (a .digits)) (a .digits) (s .pre .0)),
+          (goes-start (a .self) (a .table .now) (masked (a .f) (a .x) (a .digits)) (a .digits) (s .pre .room)),
     )
 
 add-emit : tie.Need-add-emit Inv-loop μ-loop
@@ -36,7 +36,7 @@ emit-requires c κs =
     let a = s .args in
     let l = c .before .before .loop in
     goes-room (a .self) (a .table .now) (masked (a .f) (a .x) (a .digits)) (l .w) (l .table) (masked (a .f) (a .x + l .i) (a .digits - l .i)) 1 (a .digits) (l .inv .1)
-    (omega (arith, length-masked (a .f) (a .x + l .i) (a .digits - l .i))) (omega (arith, length-masked (a .f) (a .x) (a .digits))) (s .pre .0)
+    (omega (arith, length-masked (a .f) (a .x + l .i) (a .digits - l .i))) (omega (arith, length-masked (a .f) (a .x) (a .digits))) (s .pre .room)
 
 add-i : tie.Need-add-i Inv-loop μ-loop
 add-i c = omega arith

@@ -7,7 +7,14 @@ use Rattle.gate_words.proofs.writer.Writer.parity.Statement.{statement}
 use Rattle.gate_words.proofs.writer.Writer.parity.Tie as tie
 
 chain-requires : tie.Need-chain-requires
-chain-requires c κs = let p = c .before .before .pre in (p .0, (p .1 .0, (p .1 .1, omega (arith, operand-counts))))
+chain-requires c κs =
+    let p = c .before .before .pre in
+    record {
+      room = p .room;
+      below = p .below;
+      near = p .near;
+      two = omega (arith, operand-counts);
+    }
 
 same-length : tie.Need-same-length
 same-length c = omega arith

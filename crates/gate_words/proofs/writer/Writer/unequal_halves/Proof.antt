@@ -15,16 +15,20 @@ use Rattle.gate_words.proofs.writer.Writer.unequal_halves.Tie as tie
 
 add-differences : tie.Need-add-differences
 add-differences c =
-    omega (arith, (c .before .before) .pre .0 .small)
+    omega (arith, (c .before .before) .pre .room .small)
 
 add-differences-2 : tie.Need-add-differences-2
 add-differences-2 c =
-    omega (arith, (c .before .before) .pre .0 .small)
+    omega (arith, (c .before .before) .pre .room .small)
 
 differences-requires : tie.Need-differences-requires
 differences-requires c κs =
     let s = (c .before .before) in
-    (room-less (s .args .self) _ _ (omega arith) (s .pre .0), (omega (arith, s .pre .1), omega (arith, s .pre .1)))
+    record {
+      room = room-less (s .args .self) _ _ (omega arith) (s .pre .room);
+      firstBelow = omega (arith, s .pre);
+      secondBelow = omega (arith, s .pre);
+    }
 
 -- behind the differences
 
@@ -33,16 +37,16 @@ differ c =
     let s = (c .before .before .before) in
     let a = s .args in
     stands-after (a .self) (a .table .now) _ (c .differences .last .1 .0) (c .differences .result) _ _ _ (c .differences .ensures) (length-differences (a .x) (a .y) (a .low + a .high + 1))
-    (stands (a .self) (a .self .wire) _ _ refl (omega arith) (s .pre .0))
+    (stands (a .self) (a .self .wire) _ _ refl (omega arith) (s .pre .room))
 
 add-any-of-halves : tie.Need-add-any-of-halves
 add-any-of-halves c =
-    omega (arith, (c .before .before .before .before .before .before) .pre .0 .small)
+    omega (arith, (c .before .before .before .before .before .before) .pre .room .small)
 
 any-of-halves-requires : tie.Need-any-of-halves-requires
 any-of-halves-requires c κs =
     let d = differ (c .before .before .before) in
-    (d .left, omega (arith, d .place))
+    record { room = d .left; below = omega (arith, d .place) }
 
 same-length : tie.Need-same-length
 same-length c =

@@ -1,4 +1,4 @@
--- `jury::shape::Shape::ballot_bytes` meets its contract: it is the definition's product, whose factors are at most 255.
+-- `jury::shape::Shape::ballot_bytes` meets its contract: it is the definition's product, with factors of at most 255.
 -- Assumes nothing.
 use mathlib.Core.Path.{ap}
 use Prim.Native.Nat.{ℕ, _*_}

@@ -1,4 +1,4 @@
--- `jury::shape::Shape::is_within_graded_limits` meets its contract: where two ways meet, the flag is the conjunction of the tests so far.
+-- `jury::shape::Shape::is_within_graded_limits` meets its contract: the flag is the conjunction of the tests so far.
 -- Assumes nothing.
 use mathlib.Core.Path.{_≡_, _∙_, refl, sym}
 use mathlib.Core.Bool.{Bool, _&&_}

@@ -1,4 +1,4 @@
--- `jury::shape::Shape::is_within_limits` meets its contract: it is one of the two tests or the other.
+-- `jury::shape::Shape::is_within_limits` meets its contract: it is the disjunction of the two tests.
 -- Assumes nothing.
 use mathlib.Core.Path.{_∙_, sym}
 use borrow.Author.Needs.{needs}

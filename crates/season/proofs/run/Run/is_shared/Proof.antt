@@ -1,4 +1,4 @@
--- `season::run::Run::is_shared` meets its contract: the bits of the mask are compared with one.
+-- `season::run::Run::is_shared` meets its contract: the number of ones in the mask is compared with 1.
 -- Assumes nothing.
 use mathlib.Core.Path.{ap}
 use lib.Dec.{ltb}

@@ -36,7 +36,11 @@ number-requires-2 : tie.Need-number-requires-2
 number-requires-2 c κs = search needs
 
 returns : tie.Need-returns
-returns c = (run-is _ _ _ _ _ _ _ (search needs) (search needs) (search needs) (search needs) (search needs) (search needs), search needs)
+returns c =
+    record {
+      is = run-is _ _ _ _ _ _ _ (search needs) (search needs) (search needs) (search needs) (search needs) (search needs);
+      small = search needs;
+    }
 
 pub read-spec : {M : Type 1} → statement M
 read-spec =

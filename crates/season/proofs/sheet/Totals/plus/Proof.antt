@@ -1,4 +1,4 @@
--- `season::sheet::Totals::plus` meets its contract: the sums stay far below the limit of their type, and a shared run counts one.
+-- `season::sheet::Totals::plus` meets its contract: no sum wraps, and a shared run counts 1.
 -- Assumes nothing.
 use mathlib.Core.Path.{_≡_, _∙_, refl, sym}
 use mathlib.Core.Logic.{⊎-elim}
@@ -29,7 +29,7 @@ add-t7 c = search needs
 add-t8 : tie.Need-add-t8
 add-t8 c = search needs
 
--- where the two ways meet, the shared runs are as the definition has them
+-- after both branches, the shared runs are the definition's
 shared-is : (c : tie.Joined1) → c .if1 .shared ≡ c .before .before .args .self .shared + sharedOf (c .before .before .args .run)
 shared-is c =
     let r = c .before .before .args .run in

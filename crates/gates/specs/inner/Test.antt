@@ -1,0 +1,11 @@
+-- The test of one gate.
+use mathlib.Core.Path.{_≡_}
+use mathlib.Core.List.{List}
+use Prim.Native.Nat.{ℕ, _<_}
+use Rattle.gates.specs.Kind.{operandCounts}
+use Rattle.gates.specs.Limits.{tableGateLimit}
+
+-- What it asks for: a table may have a gate g, and the counts are those of the kinds.
+pub record TestReady (g : ℕ) (counts : List ℕ) : Type 0 where
+  pub few : g < tableGateLimit
+  pub counted : counts ≡ operandCounts

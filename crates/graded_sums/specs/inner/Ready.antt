@@ -1,0 +1,53 @@
+-- What the parts of a candidate's circuit ask for.
+use Prim.Native.Nat.{ℕ, suc, _+_, _-_, _*_, _≤_, _<_}
+use Rattle.gate_words.specs.declared.writer.Writer.{Writer}
+use Rattle.gate_words.specs.Limits.{writerLimit}
+use Rattle.gate_words.specs.Writing.{Room}
+use Rattle.graded_circuit.specs.declared.plan.Plan.{Plan}
+use Rattle.graded_circuit.specs.Plan.{Planned}
+use Rattle.graded_circuit.specs.RunningSums.{wordSpan, sumSize, worstSize, levelsFrom}
+
+-- A grade of a candidate.
+pub record GradeOf (p : Plan) (c g : ℕ) : Type 0 where
+  pub planned : Planned p
+  pub candidate : c < p .candidates
+  pub grade : g < p .grades
+
+-- What the sum of a grade counts, where the rows stand from wire n on.
+pub record RowOf (p : Plan) (n c g : ℕ) : Type 0 where
+  pub of : GradeOf p c g
+  pub small : n < writerLimit
+
+-- A part of the circuit of candidate c: there is room for its gates, and the inputs stand before wire n.
+pub record PartReady (w : Writer) (p : Plan) (n c gates : ℕ) : Type 0 where
+  pub planned : Planned p
+  pub candidate : c < p .candidates
+  pub inputs : p .inputs ≤ n
+  pub room : Room w gates
+
+-- Of one grade: what its sum counts stands before wire m.
+pub record GradeReady (w : Writer) (p : Plan) (n m c g gates : ℕ) : Type 0 where
+  pub part : PartReady w p n c gates
+  pub grade : suc g < p .grades
+  pub row : n + g * p .ballots ≤ m
+  pub there : m ≤ w .wire
+
+-- Of all grades but the two worst.
+pub record GradesReady (w : Writer) (p : Plan) (n m c gates : ℕ) : Type 0 where
+  pub part : PartReady w p n c gates
+  pub rows : n + (p .grades - 3) * p .ballots ≤ m
+  pub there : m ≤ w .wire
+
+-- The word of one grade, whose levels start at wire base, and those of all grades but the two worst.
+pub record WordReady (w : Writer) (p : Plan) (n base c g : ℕ) : Type 0 where
+  pub of : GradeReady w p n base c g (wordSpan p)
+  pub levels : base + sumSize p ≤ w .wire
+
+pub record WordsReady (w : Writer) (p : Plan) (n m c : ℕ) : Type 0 where
+  pub of : GradesReady w p n m c ((p .grades - 2) * wordSpan p)
+  pub levels : levelsFrom p m (p .grades - 2) ≤ w .wire
+
+-- The word of the worst grade but one: the levels of the worst grade's count start at wire base.
+pub record WorstReady (w : Writer) (p : Plan) (base c : ℕ) : Type 0 where
+  pub part : PartReady w p base c (wordSpan p)
+  pub levels : base + worstSize p ≤ w .wire

@@ -1,0 +1,52 @@
+-- What the writers of the contests ask and do.
+use mathlib.Core.Path.{_≡_}
+use mathlib.Core.Bool.{Bool, cond}
+use mathlib.Core.List.{List, _++_}
+use Prim.Native.Nat.{ℕ, max, _+_, _*_, _≤_}
+use lib.ListN.{length}
+use Rattle.gates.specs.Gate.{Gate}
+use Rattle.gate_words.specs.Writing.{Room, Wrote}
+use Rattle.gate_words.specs.declared.writer.Writer.{Writer}
+use Rattle.ranked_circuit.specs.Table.{table}
+use Rattle.ranked_circuit.specs.Stages.{linkAt}
+use Rattle.ranked_circuit.specs.Paths.{pathsTo}
+use Rattle.ranked_circuit.specs.Contests.{duelsFrom, duels, meetings, beatsAt}
+use Rattle.ranked_circuit.specs.RankedList.{rankedList}
+use Rattle.ranked_blocks.specs.Ranked.{Ranked, keptOf}
+use Rattle.ranked_blocks.specs.inner.Entries.{Kept}
+use Rattle.ranked_blocks.specs.declared.entries.Ranks.{Ranks}
+use Rattle.ranked_writer.specs.Tables.{Keeps}
+
+-- Room for a table of blocks, one for each two candidates.
+pub record TableReady (w : Writer) (words wires : List ℕ) (p : Ranks) (block : ℕ → ℕ → ℕ → List Gate) : Type 0 where
+  pub kept : Kept w words wires p
+  pub room : Room w (length (table (w .wire) (p .candidates) block))
+
+-- It was written, and the wires that tell of two candidates are kept where the later one's row has blocks.
+pub record TableDone (w : Writer) (table₀ table₁ : List ℕ) (next : Writer) (k : ℕ) (block : ℕ → ℕ → ℕ → List Gate)
+    (rows : ℕ → Bool) (wires wires′ : List ℕ) : Type 0 where
+  pub wrote : Wrote w table₀ (table (w .wire) k block) table₁ next
+  pub kept : Keeps k wires′ (λ i j. cond (rows (max i j)) (linkAt (w .wire) k block i j) (keptOf wires k i j))
+
+-- Room for the contests, behind the paths.
+pub record ContestsReady (w : Writer) (words wires : List ℕ) (p : Ranks) : Type 0 where
+  pub ranked : Ranked p
+  pub room : Room w (length (duels (p .candidates) (p .ballots) (p .digits))
+      + length (meetings (p .candidates) (p .ballots) (p .digits)))
+  pub place : w .wire ≡ duelsFrom (p .candidates) (p .ballots) (p .digits)
+  pub paths : Keeps (p .candidates) words (pathsTo (p .candidates) (p .ballots) (p .digits) (p .candidates) .words)
+  pub long : length wires ≡ 64
+
+-- They were written, and the wires that tell who beats whom are kept.
+pub record ContestsDone (w : Writer) (table₀ table₁ : List ℕ) (next : Writer) (p : Ranks) (wires : List ℕ)
+    : Type 0 where
+  pub wrote : Wrote w table₀
+      (duels (p .candidates) (p .ballots) (p .digits) ++ meetings (p .candidates) (p .ballots) (p .digits)) table₁ next
+  pub kept : Keeps (p .candidates) wires (beatsAt (p .candidates) (p .ballots) (p .digits))
+
+-- Room for the list of three or more candidates, whose inputs are the ballots.
+pub record CircuitReady (w : Writer) (p : Ranks) : Type 0 where
+  pub ranked : Ranked p
+  pub room : Room w (length (rankedList (p .candidates) (p .ballots) (p .digits)))
+  pub many : 3 ≤ p .candidates
+  pub place : w .wire ≡ p .ballots * p .candidates * p .candidates
