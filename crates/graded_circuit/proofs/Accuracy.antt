@@ -173,7 +173,8 @@ closing-from s xs gs enough h =
     (omega (arith, judgment-length (countsOf s xs), counts-length s xs))
     (λ i l. output-is k (wiresOf xs gs) i ∙ ap (λ (n : ℕ). wire (wiresOf xs gs) (n - k + i)) (length-wires xs gs) ∙ h i (omega arith))
 
--- Demand 2, over the definitions: for every shape within its limits and all accepted ballots, the last k wires of the own list are the closing bytes of full majority judgment.
+-- Demand 2, about the definitions: for every shape within its limits and all accepted ballots, the last k wires of the
+-- own list are the closing bytes of full majority judgment.
 pub own-list-is-accurate : (s : Shape) (xs : List ℕ) → GradedBallots s xs
     → outputsOf (s .candidates) (wiresOf xs (ownList s)) ≡ judgmentOf (countsOf s xs)
 unfolding planOf

@@ -221,7 +221,8 @@ module _ (W : ℕ → ℕ) (b : Binary W) where
       let first-x = ap (spelled r) (first-place x (stride r)) in
       let first-y = ap (spelled r) (first-place y (stride r)) in
       ⊎-elim
-      (λ (a : Absent (flagAt (f + sideSpan r) r) t (spelled r n) (spelled r (n + suc r)) (spelled r (leftEnd n′ n r t)) (spelled r (rightEnd n′ (n + suc r) r t))).
+      (λ (a : Absent (flagAt (f + sideSpan r) r) t (spelled r n) (spelled r (n + suc r))
+      (spelled r (leftEnd n′ n r t)) (spelled r (rightEnd n′ (n + suc r) r t))).
       ⊎-elim
       (λ (z : W f ≡ 0). let k = either-zero n f x y u v r (c .0) z in
       inl (record {
@@ -240,7 +241,8 @@ module _ (W : ℕ → ℕ) (b : Binary W) where
         is-right = sym right ∙ a .stays-right ∙ k .1 ∙ sym first-y;
       }))
       (bit-cases (W f) (b f)))
-      (λ (a : LastAt (flagAt (f + sideSpan r) r) (wordOf (x + stride r) r) (wordOf (y + stride r) r) t (spelled r (leftEnd n′ n r t)) (spelled r (rightEnd n′ (n + suc r) r t))).
+      (λ (a : LastAt (flagAt (f + sideSpan r) r) (wordOf (x + stride r) r) (wordOf (y + stride r) r) t
+      (spelled r (leftEnd n′ n r t)) (spelled r (rightEnd n′ (n + suc r) r t))).
       inr (record {
         place = suc (a .place);
         inside = omega (arith, a .inside);
@@ -288,7 +290,12 @@ module _ (W : ℕ → ℕ) (b : Binary W) where
       (λ (a : Absent (flagAt f r) t (spelled r n) (spelled r (n + suc r)) (spelled r (leftEnd n′ n r t)) (spelled r (rightEnd n′ (n + suc r) r t))).
       ⊎-elim
       (λ (z : W g ≡ 0). let k = either-zero n g xt yt u v r (c .0) z in
-      inl (record { none = λ i l. ⊎-elim (λ (m : i < t). a .none i m) (λ (m : t ≤ i). let q : i ≡ t = omega arith in ap (flagAt f r) q ∙ z) (below-or-not i t); stays-left = sym left ∙ a .stays-left ∙ k .0; stays-right = sym right ∙ a .stays-right ∙ k .1 }))
+      inl (record {
+        none = λ i l. ⊎-elim (λ (m : i < t). a .none i m) (λ (m : t ≤ i). let q : i ≡ t = omega arith in ap (flagAt f r) q ∙ z)
+            (below-or-not i t);
+        stays-left = sym left ∙ a .stays-left ∙ k .0;
+        stays-right = sym right ∙ a .stays-right ∙ k .1;
+      }))
       (λ (z : W g ≡ 1). let k = either-one n g xt yt u v r (c .0) z in
       inr (record {
         place = t;

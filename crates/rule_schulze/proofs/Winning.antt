@@ -191,7 +191,12 @@ champion s k (suc m) h = go (champion s k m (omega arith))
 
         keeps : strongest s k new old ≤ strongest s k old new → Champion s k (suc (suc m))
         keeps b =
-            record { who = old; low = omega (arith, c .low); unbeaten = λ j l n. ⊎-elim (λ (e : j < suc m). c .unbeaten j e n) (λ e. let z : j ≡ new = omega arith in rw z b) (below-or-not j (suc m)) }
+            record {
+              who = old;
+              low = omega (arith, c .low);
+              unbeaten = λ j l n. ⊎-elim (λ (e : j < suc m). c .unbeaten j e n) (λ e. let z : j ≡ new = omega arith in rw z b)
+                  (below-or-not j (suc m));
+            }
 
 pub somebody-wins : (v : ℕ → ℕ → ℕ) (k : ℕ) → 1 ≤ k → (i : ℕ) × (i < k) × (wins v k i ≡ true)
 somebody-wins v zero h = absurd (omega arith)

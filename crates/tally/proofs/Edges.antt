@@ -88,11 +88,20 @@ edges =
     ∷ []
 
 pub edges-reasons : map (λ (e : Edge). countReason (e .shape) (e .ballots)) edges ≡ map (λ (e : Edge). e .reason) edges
-unfolding edges refused countReason isRanking gradedLimits rankedLimits withinLimits columns ballotBytes reasonAt unless foundAt firstOf ones rowsOf firstBadRow gradedReasons rankedReasons ballotReasons rankPlace before orElse firstOver someBelow notAsymmetricAt notAsymmetricInRow notAsymmetricInBallot firstNotAsymmetric neitherAfterNorBefore notWeakOrderAfter notWeakOrder firstNotWeakOrder firstAboveOne
+unfolding edges refused countReason isRanking gradedLimits rankedLimits withinLimits columns ballotBytes reasonAt
+    unless foundAt firstOf ones rowsOf firstBadRow gradedReasons rankedReasons ballotReasons rankPlace before orElse
+    firstOver someBelow notAsymmetricAt notAsymmetricInRow notAsymmetricInBallot firstNotAsymmetric
+    neitherAfterNorBefore notWeakOrderAfter notWeakOrder firstNotWeakOrder firstAboveOne
 edges-reasons = refl
 
 pub edges-closing : map (λ (e : Edge). plainClosing (e .shape) (e .ballots)) edges ≡ map (λ (e : Edge). e .closing) edges
-unfolding edges refused countReason isRanking gradedLimits rankedLimits withinLimits columns ballotBytes reasonAt unless foundAt firstOf ones rowsOf firstBadRow gradedReasons rankedReasons ballotReasons rankPlace before orElse firstOver someBelow notAsymmetricAt notAsymmetricInRow notAsymmetricInBallot firstNotAsymmetric neitherAfterNorBefore notWeakOrderAfter notWeakOrder firstNotWeakOrder firstAboveOne byteOf countUpTo countOf tabulate countsOf sum medianFrom medianOf strike strikes sequenceOf precedes nonePrecedes judgmentOf closingFor link weakest candidates without selections maximum simplePaths strongest every wins closingBytes votes flatMap eightBytes closingAfter plainClosing
+unfolding edges refused countReason isRanking gradedLimits rankedLimits withinLimits columns ballotBytes reasonAt
+    unless foundAt firstOf ones rowsOf firstBadRow gradedReasons rankedReasons ballotReasons rankPlace before orElse
+    firstOver someBelow notAsymmetricAt notAsymmetricInRow notAsymmetricInBallot firstNotAsymmetric
+    neitherAfterNorBefore notWeakOrderAfter notWeakOrder firstNotWeakOrder firstAboveOne byteOf countUpTo countOf
+    tabulate countsOf sum medianFrom medianOf strike strikes sequenceOf precedes nonePrecedes judgmentOf closingFor
+    link weakest candidates without selections maximum simplePaths strongest every wins closingBytes votes flatMap
+    eightBytes closingAfter plainClosing
 edges-closing = refl
 
 -- 1,048,576 gates are not too many.

@@ -172,7 +172,8 @@ module _ (c : Call) (passed : CallPassed c) (p : ℕ) (l : p < c .trustees) wher
       ∙ end
 
   pub calls-of : CallsOf c p
-  unfolding startOutcome startedWires startedPublished roundOutcome roundedWires roundedPublished wiresMade publishedMade ownTurn holdingsAfter wiresAfter publishedAfter turnOf heardBefore
+  unfolding startOutcome startedWires startedPublished roundOutcome roundedWires roundedPublished wiresMade
+      publishedMade ownTurn holdingsAfter wiresAfter publishedAfter turnOf heardBefore
   calls-of =
       record {
         start = λ ws published e f.

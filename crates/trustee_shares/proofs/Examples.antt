@@ -18,15 +18,21 @@ count : conditionalCount andGate ≡ 1
 count = count-one (record { kind = 4; a = 0; b = 1; c = 0 }) ∙ ap (λ (b : Bool). cond b 1 0) is-conditional
 
 first-view : viewOf 2 1 2 andGate 1 firstDealing ≡ oneView
-unfolding viewOf othersOf ballotsOf dealtOf piece joined wirePartsOf publishedOf maskedFactors closingParts partsOf newPart partOfKind openedFirst openedSecond opened sumOf maskedFirst maskedSecond firstFactor secondFactor productPart entered part uOf vOf productOf markOf
+unfolding viewOf othersOf ballotsOf dealtOf piece joined wirePartsOf publishedOf maskedFactors closingParts partsOf
+    newPart partOfKind openedFirst openedSecond opened sumOf maskedFirst maskedSecond firstFactor secondFactor
+    productPart entered part uOf vOf productOf markOf
 first-view = rw (count, is-conditional) refl
 
 second-view : viewOf 2 1 2 andGate 1 secondDealing ≡ oneView
-unfolding viewOf othersOf ballotsOf dealtOf piece joined wirePartsOf publishedOf maskedFactors closingParts partsOf newPart partOfKind openedFirst openedSecond opened sumOf maskedFirst maskedSecond firstFactor secondFactor productPart entered part uOf vOf productOf markOf
+unfolding viewOf othersOf ballotsOf dealtOf piece joined wirePartsOf publishedOf maskedFactors closingParts partsOf
+    newPart partOfKind openedFirst openedSecond opened sumOf maskedFirst maskedSecond firstFactor secondFactor
+    productPart entered part uOf vOf productOf markOf
 second-view = rw (count, is-conditional) refl
 
 other-triple : viewOf 2 1 2 andGate 1 otherTriple .published ≡ 0 ∷ 0 ∷ 0 ∷ 0 ∷ 1 ∷ 0 ∷ []
-unfolding viewOf othersOf ballotsOf dealtOf piece joined wirePartsOf publishedOf maskedFactors closingParts partsOf newPart partOfKind openedFirst openedSecond opened sumOf maskedFirst maskedSecond firstFactor secondFactor productPart entered part uOf vOf productOf markOf
+unfolding viewOf othersOf ballotsOf dealtOf piece joined wirePartsOf publishedOf maskedFactors closingParts partsOf
+    newPart partOfKind openedFirst openedSecond opened sumOf maskedFirst maskedSecond firstFactor secondFactor
+    productPart entered part uOf vOf productOf markOf
 other-triple = rw (count, is-conditional) refl
 
 pub pair-of-dealings : PairOfDealings

@@ -22,19 +22,27 @@ use Rattle.urn_run.specs.Examples.{better, worse, PairOfUrns}
 use Rattle.urn_run.proofs.Reasons.{same-run}
 
 better-sound : sound 1 2 better ≡ true
-unfolding better slotBytes slotOf slotsOf slotAt chain ends entryAt ballotSlots ballotChain freeChain all member distinct juryOfOne noReason goodBallot goodJuror inUrn eachOnce goodChains allZero emptySlot soundSlots slotCount urnLength urnSlots sound isRanking columns ballotBytes unless foundAt firstOf ones rowsOf firstBadRow gradedReasons ballotReasons tabulate firstAboveOne
+unfolding better slotBytes slotOf slotsOf slotAt chain ends entryAt ballotSlots ballotChain freeChain all member
+    distinct juryOfOne noReason goodBallot goodJuror inUrn eachOnce goodChains allZero emptySlot soundSlots
+    slotCount urnLength urnSlots sound isRanking columns ballotBytes unless foundAt firstOf ones rowsOf firstBadRow
+    gradedReasons ballotReasons tabulate firstAboveOne
 better-sound = refl
 
 worse-sound : sound 1 2 worse ≡ true
-unfolding worse slotBytes slotOf slotsOf slotAt chain ends entryAt ballotSlots ballotChain freeChain all member distinct juryOfOne noReason goodBallot goodJuror inUrn eachOnce goodChains allZero emptySlot soundSlots slotCount urnLength urnSlots sound isRanking columns ballotBytes unless foundAt firstOf ones rowsOf firstBadRow gradedReasons ballotReasons tabulate firstAboveOne
+unfolding worse slotBytes slotOf slotsOf slotAt chain ends entryAt ballotSlots ballotChain freeChain all member
+    distinct juryOfOne noReason goodBallot goodJuror inUrn eachOnce goodChains allZero emptySlot soundSlots
+    slotCount urnLength urnSlots sound isRanking columns ballotBytes unless foundAt firstOf ones rowsOf firstBadRow
+    gradedReasons ballotReasons tabulate firstAboveOne
 worse-sound = refl
 
 better-ballots : chainBallots 1 2 better ≡ 1 ∷ 0 ∷ []
-unfolding better joined chainBallots slotBytes slotOf slotsOf slotAt chain entryAt ballotSlots ballotChain slotCount urnSlots
+unfolding better joined chainBallots slotBytes slotOf slotsOf slotAt chain entryAt ballotSlots ballotChain slotCount
+    urnSlots
 better-ballots = refl
 
 worse-ballots : chainBallots 1 2 worse ≡ 0 ∷ 1 ∷ []
-unfolding worse joined chainBallots slotBytes slotOf slotsOf slotAt chain entryAt ballotSlots ballotChain slotCount urnSlots
+unfolding worse joined chainBallots slotBytes slotOf slotsOf slotAt chain entryAt ballotSlots ballotChain slotCount
+    urnSlots
 worse-ballots = refl
 
 graded : gradedLimits oneBallot ≡ true
