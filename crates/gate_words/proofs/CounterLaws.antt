@@ -16,7 +16,7 @@ use Rattle.gate_words.proofs.Numbers.{Binary, ones-none, ones-more, num
 use Rattle.gate_words.proofs.GateValues.{holds-first, holds-rest, copy-is, xor-is}
 use Rattle.gate_words.proofs.ChoiceSteps.{chain-next}
 use Rattle.gate_words.proofs.WordSteps.{length-full}
-use Rattle.gate_words.proofs.CounterSteps.{length-level, length-count}
+use Rattle.gate_words.proofs.CounterSteps.{length-level, length-count, suc-not-zero}
 use Rattle.gate_words.proofs.AdderLaws.{full-law, half-law, increment-law}
 
 -- the wire of a level's sum
@@ -26,10 +26,7 @@ sum-none n s m e p = rw (eq-eqb (adders m e) 0 p)
 
 sum-some : (n s m e t : ℕ) → adders m e ≡ suc t → levelSum n s m e ≡ n + 3 * t + 1
 unfolding levelSum
-sum-some n s m e t p = rw (ne-eqb (adders m e) 0 (λ q. not-both p q), p) (omega arith)
-  where
-    not-both : {k : ℕ} → k ≡ suc t → k ≡ 0 → ⊥
-    not-both p q = omega arith
+sum-some n s m e t p = rw (ne-eqb (adders m e) 0 (λ q. suc-not-zero p q), p) (omega arith)
 
 two-more : (m e : ℕ) → adders (suc (suc m)) e ≡ suc (adders m e)
 unfolding adders

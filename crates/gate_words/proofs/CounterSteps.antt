@@ -3,7 +3,7 @@
 use mathlib.Core.Path.{_≡_, _∙_, refl, sym, ap, subst₂}
 use mathlib.Core.List.{[], _∷_, _++_, append-nil}
 use Prim.Native.Nat.{ℕ, zero, suc, _+_, _-_, _*_, _/_, _%_, _<_, _≤_}
-use native.Mathlib.Nat.{suc-mul}
+use native.Mathlib.Nat.{suc-mul, mul-add, mul-comm, mul-assoc}
 use native.Mathlib.Omega.{arith}
 use lib.ListN.{length, length-append}
 use borrow.Author.Tests.{eq-eqb, ne-eqb}
@@ -138,3 +138,20 @@ unfolding countSize adders
 count-size-most m x zero most h l = omega arith
 count-size-most m x (suc r) most h l =
     omega (arith, count-size-most ((m - 1 + x % 2 + 1) / 2) (x / 2) r most (omega arith) l, suc-mul r (2 * most + 2))
+
+-- the levels' bound by products of two numbers
+pub levels-product : (r n : ℕ) → r * (2 * n + 2) + 2 * n + 2 ≡ 2 * (n * suc r) + 2 * suc r
+levels-product r n =
+    let whole : suc r * (2 * n + 2) ≡ suc r * (2 * n) + suc r * 2 = mul-add (suc r) (2 * n) 2 in
+    let first : suc r * (2 * n) ≡ 2 * (n * suc r) = mul-comm (suc r) (2 * n) ∙ mul-assoc 2 n (suc r) in
+    omega (arith, suc-mul r (2 * n + 2))
+
+-- wires a stride apart, the last of which is below n
+pub below-stride : (n at d m : ℕ) → at + m * d < n + d → Below n at d m
+below-stride n at d zero h = tt
+below-stride n at d (suc m) h =
+    let e = suc-mul m d in
+    (omega arith, below-stride n (at + d) d m (omega arith))
+
+pub suc-not-zero : {k t : ℕ} → k ≡ suc t → k ≡ 0 → ⊥
+suc-not-zero p q = omega arith

@@ -22,7 +22,7 @@ use Rattle.gate_words.specs.Counter.{level, adders, levelSum, countLevel
 use Rattle.gate_words.proofs.Places.{below-more, below-first}
 use Rattle.gate_words.proofs.Emitting.{bit-none-used}
 use Rattle.gate_words.proofs.WordSteps.{length-full}
-use Rattle.gate_words.proofs.CounterSteps.{length-level, length-count, below-carries, count-size-step}
+use Rattle.gate_words.proofs.CounterSteps.{length-level, length-count, below-carries, count-size-step, suc-not-zero}
 
 pub good-constant : (n v : ℕ) → T (goodGate n (constant v))
 good-constant n v = good-none n (v % 2) (omega arith) (bit-none-used (v % 2) (omega arith))
@@ -175,10 +175,7 @@ sum-below n s m e q hs h = go (adders m e) refl
   where
     go : (t : ℕ) → adders m e ≡ t → cond (eqb (adders m e) 0) s (n + 3 * adders m e - 2) < q
     go zero p = rw (eq-eqb (adders m e) 0 p) hs
-    go (suc t) p = rw (ne-eqb (adders m e) 0 (λ z. differ p z)) (omega arith)
-      where
-        differ : {k : ℕ} → k ≡ suc t → k ≡ 0 → ⊥
-        differ p z = omega arith
+    go (suc t) p = rw (ne-eqb (adders m e) 0 (λ z. suc-not-zero p z)) (omega arith)
 
 -- a counter has bits
 pub countable-some : (m x r : ℕ) → Countable m x r → 0 < m

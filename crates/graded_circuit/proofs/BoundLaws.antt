@@ -8,7 +8,7 @@ use native.Mathlib.Omega.{arith}
 use lib.ListN.{length}
 use lib.Pow.{pow-mono}
 use Rattle.basics.proofs.Cases.{below-or-not}
-use Rattle.gate_words.proofs.CounterSteps.{count-size-most}
+use Rattle.gate_words.proofs.CounterSteps.{count-size-most, levels-product}
 use Rattle.graded_circuit.specs.declared.plan.Plan.{Plan}
 use Rattle.graded_circuit.specs.Plan.{Planned}
 use Rattle.graded_circuit.specs.Bound.{boundOf}
@@ -24,13 +24,6 @@ use Rattle.graded_circuit.proofs.MedianLaws.{ones-span}
 use Rattle.graded_circuit.proofs.CandidateBlocks.{candidate-span}
 use Rattle.graded_circuit.proofs.LevelsLaws.{span-one, span-more}
 use Rattle.graded_circuit.proofs.CircuitLaws.{circuit-block}
-
--- the levels' bound by products of two numbers
-levels-product : (r n : ℕ) → r * (2 * n + 2) + 2 * n + 2 ≡ 2 * (n * suc r) + 2 * suc r
-levels-product r n =
-    let whole : suc r * (2 * n + 2) ≡ suc r * (2 * n) + suc r * 2 = mul-add (suc r) (2 * n) 2 in
-    let first : suc r * (2 * n) ≡ 2 * (n * suc r) = mul-comm (suc r) (2 * n) ∙ mul-assoc 2 n (suc r) in
-    omega (arith, suc-mul r (2 * n + 2))
 
 pub later-span-most : (m w : ℕ) → laterSpan m w ≤ 4 * m + 3 * w
 unfolding laterSpan

@@ -12,7 +12,8 @@ use Rattle.graded_circuit.specs.Plan.{Planned, bitsAt, apart}
 use Rattle.graded_circuit.specs.RunningSums.{wordSpan, sumSize, worstSize, rowAt, rowApart, rows, levelsFrom, sumLevels, allLevels, worstLevels}
 use Rattle.graded_circuit.specs.Key.{keyWord, keyWords, worstWord, sumsAt, worstAt, candidate, keyOf, keySpan, candidateSpan}
 use Rattle.graded_circuit.proofs.Blocks.{Block, none-block, both-block, sized, from-wire, rows-block, levels-block, digits-block}
-use Rattle.graded_circuit.proofs.PlanFacts.{all-below, bits-below, first-countable, worst-countable}
+use Rattle.graded_circuit.proofs.PlanFacts.{bits-below, first-countable, worst-countable}
+use Rattle.gate_words.proofs.CounterSteps.{below-stride}
 
 pub candidate-span : (p : Plan) → candidateSpan p ≡ (p .grades - 3) * p .ballots + (p .grades - 2) * sumSize p + worstSize p + keySpan p
 unfolding candidateSpan
@@ -39,7 +40,7 @@ module _ (p : Plan) (f : Planned p) where
   unfolding rowAt rowApart
   counted-below n m c zero h hc hm = bits-below p f m c 0 (omega (arith, zero-mul (p .ballots))) hc some-grades
   counted-below n m c (suc g) h hc hm =
-      all-below m (n + g * p .ballots) 1 (p .ballots) (omega (arith, suc-mul g (p .ballots), mul-one (p .ballots)))
+      below-stride m (n + g * p .ballots) 1 (p .ballots) (omega (arith, suc-mul g (p .ballots), mul-one (p .ballots)))
 
   pub next-rows-block : (n c g t : ℕ) → p .inputs ≤ n → c < p .candidates → g + t < p .grades
       → Block (n + g * p .ballots) (rows p n c g t) (t * p .ballots)

@@ -19,10 +19,10 @@ use Rattle.gate_words.proofs.Ends.{chain-below}
 use Rattle.gate_words.proofs.PointsBack.{good-xor, good-or, good-mux}
 use Rattle.graded_circuit.specs.Median.{Fits, leftDigit, rightDigit, differAt, digitDifference, differenceSpan, nextDigit, laterDigits, laterSpan, compareOnes, onesSpan, differEnd, largerEnd, onesDiffer, onesLarger}
 use Rattle.graded_circuit.proofs.Blocks.{Block, none-block, both-block, gate-block, parity-block}
-use Rattle.graded_circuit.proofs.PlanFacts.{all-below}
 use Rattle.graded_circuit.proofs.Cutting.{cut2, cut3}
 use Rattle.basics.proofs.Arithmetic.{next-place}
 use Rattle.basics.proofs.Cases.{below-or-not}
+use Rattle.gate_words.proofs.CounterSteps.{below-stride}
 
 -- so do every second of them with one digit less
 pub fits-half : (m w : ℕ) → Fits m (suc w) → Fits (m / 2) w
@@ -98,8 +98,8 @@ difference-block n x y d m some hx hy =
     let q = first-of x d m n some hx in
     let k = first-of y d m (n + (m - 1)) some (omega arith) in
     let z = differAt n m in
-    both-block (both-block (parity-block n x (x + d) d (m - 1) (q .0) (all-below n (x + d) d (m - 1) (q .1))) refl
-    (parity-block (n + (m - 1)) y (y + d) d (m - 1) (k .0) (all-below (n + (m - 1)) (y + d) d (m - 1) (k .1)))) (omega arith)
+    both-block (both-block (parity-block n x (x + d) d (m - 1) (q .0) (below-stride n (x + d) d (m - 1) (q .1))) refl
+    (parity-block (n + (m - 1)) y (y + d) d (m - 1) (k .0) (below-stride (n + (m - 1)) (y + d) d (m - 1) (k .1)))) (omega arith)
     (gate-block (good-xor z (leftDigit n x m) (rightDigit n y m) (left-below n x d m some hx)
     (right-below n y d m some hy)) (none-block (suc z)))
 

@@ -1,6 +1,6 @@
 -- What follows for a plan: its bits are inputs, and both counts fit their digits.
 -- Assumes nothing.
-use Prim.Native.Nat.{ℕ, zero, suc, _+_, _-_, _*_, _≤_, _<_}
+use Prim.Native.Nat.{ℕ, suc, _-_, _≤_, _<_}
 use native.Mathlib.Nat.{pow-succ', mul-assoc, suc-mul, mul-le-mul-right}
 use native.Mathlib.Omega.{arith}
 use Rattle.gate_words.specs.Word.{Below}
@@ -8,13 +8,7 @@ use Rattle.gate_words.specs.Counter.{Countable}
 use Rattle.gate_words.proofs.CounterLaws.{countable}
 use Rattle.graded_circuit.specs.declared.plan.Plan.{Plan}
 use Rattle.graded_circuit.specs.Plan.{Planned, bitsAt, apart}
-
--- m wires a stride apart, the last of which is below n
-pub all-below : (n at d m : ℕ) → at + m * d < n + d → Below n at d m
-all-below n at d zero h = tt
-all-below n at d (suc m) h =
-    let e = suc-mul m d in
-    (omega arith, all-below n (at + d) d m (omega arith))
+use Rattle.gate_words.proofs.CounterSteps.{below-stride}
 
 module _ (p : Plan) (f : Planned p) where
   pub row-below : (c g : ℕ) → c < p .candidates → g < p .grades → bitsAt p c g < apart p
@@ -23,7 +17,7 @@ module _ (p : Plan) (f : Planned p) where
   -- a candidate's bits of a grade are inputs
   pub bits-below : (n c g : ℕ) → p .inputs ≤ n → c < p .candidates → g < p .grades → Below n (bitsAt p c g) (apart p) (p .ballots)
   bits-below n c g h hc hg =
-      all-below n (bitsAt p c g) (apart p) (p .ballots)
+      below-stride n (bitsAt p c g) (apart p) (p .ballots)
       (omega (arith, row-below c g hc hg, f .inputs-is, mul-assoc (p .ballots) (p .candidates) (p .grades)))
 
   pub first-countable : Countable (p .ballots) (p .offset) (p .digits)

@@ -5,7 +5,6 @@ use mathlib.Core.Bool.{Bool, true, false, cond}
 use mathlib.Core.Logic.{_≢_}
 use mathlib.Core.List.{List, [], _++_}
 use Prim.Native.Nat.{ℕ, zero, suc, max, _+_, _-_, _*_, _≤_, _<_}
-use native.Mathlib.Nat.{suc-mul}
 use native.Mathlib.Omega.{arith}
 use lib.Dec.{eqb, leb}
 use lib.ListN.{length, length-append}
@@ -26,16 +25,12 @@ use Rattle.ranked_circuit.proofs.LinkLaws.{later-good, later-below}
 use Rattle.ranked_circuit.proofs.StageLaws.{apart-zero, apart-all, stage-moves, stage-stays, cut-most, stage-length, votes-length, comparing, links-are}
 use Rattle.ranked_circuit.proofs.PathLaws.{bool-cases}
 use Rattle.gate_words.proofs.PointsBack.{behind}
+use Rattle.gate_words.proofs.CounterSteps.{below-stride}
 
 -- a choice between no gate and a well-formed list
 either-good : (n : ℕ) (t : Bool) (gs hs : List Gate) → AllGood n gs → (t ≡ false → AllGood n hs) → AllGood n (cond t gs hs)
 either-good n true gs hs p q = p
 either-good n false gs hs p q = q refl
-
--- wires a stride apart, the last of which is below
-pub below-stride : (n at d m : ℕ) → at + m * d < n + d → Below n at d m
-below-stride n at d zero h = tt
-below-stride n at d (suc m) h = let e = suc-mul m d in (omega arith, below-stride n (at + d) d m (omega arith))
 
 pub bytes-below : (k n at i j : ℕ) → i < k → j < k → n * k * k ≤ at → Below at (i * k + j) (k * k) n
 bytes-below k n at i j hi hj h =

@@ -1,12 +1,12 @@
 -- The number of gates of a ranked tasting's own list, and its bound.
 -- Assumes nothing.
-use mathlib.Core.Path.{_≡_, _∙_, refl}
+use mathlib.Core.Path.{_≡_, refl}
 use Prim.Native.Nat.{ℕ, zero, suc, _+_, _-_, _*_, _/_, _≤_, _<_}
-use native.Mathlib.Nat.{suc-mul, mul-add, mul-comm, mul-assoc, mul-le-mul}
+use native.Mathlib.Nat.{mul-le-mul}
 use native.Mathlib.Omega.{arith}
 use lib.ListN.{length, length-append}
 use Rattle.gate_words.specs.Counter.{countSize}
-use Rattle.gate_words.proofs.CounterSteps.{count-size-most}
+use Rattle.gate_words.proofs.CounterSteps.{count-size-most, levels-product}
 use Rattle.gate_words.proofs.Laws.{length-counter, length-masked}
 use Rattle.ranked_circuit.specs.Blocks.{smaller, larger, largerIf}
 use Rattle.ranked_circuit.specs.RankedList.{rankedList}
@@ -14,13 +14,6 @@ use Rattle.ranked_circuit.specs.OwnRanking.{rankingBound}
 use Rattle.ranked_circuit.proofs.BlockLaws.{length-whole, length-smaller, length-larger, length-larger-if}
 use Rattle.ranked_circuit.proofs.ContestLaws.{length-meeting}
 use Rattle.ranked_circuit.proofs.Figures.{Each, moreOf, figure-is, pair-figure-is}
-
--- the levels' bound by products of two numbers
-levels-product : (r n : ℕ) → r * (2 * n + 2) + 2 * n + 2 ≡ 2 * (n * suc r) + 2 * suc r
-levels-product r n =
-    let whole : suc r * (2 * n + 2) ≡ suc r * (2 * n) + suc r * 2 = mul-add (suc r) (2 * n) 2 in
-    let first : suc r * (2 * n) ≡ 2 * (n * suc r) = mul-comm (suc r) (2 * n) ∙ mul-assoc 2 n (suc r) in
-    omega (arith, suc-mul r (2 * n + 2))
 
 counter-most : (n w : ℕ) → 0 < n → countSize n 0 w + suc w ≤ 2 * (n * suc w) + 3 * suc w
 counter-most n w h = omega (arith, count-size-most n 0 w n (omega arith) h, levels-product w n)
