@@ -14,11 +14,11 @@ ghost use Rattle.ranked_circuit.specs.Stages.{votesBlock, linksBlock, stays, pa
 ghost use Rattle.ranked_circuit.specs.Contests.{meetingsBlock};
 ghost use Rattle.ranked_blocks.specs.Ranked.{keptOf};
 ghost use Rattle.ranked_writer.specs.inner.Contests.{TableReady, TableDone};
-ghost use Rattle.ranked_writer.specs.inner.Paths.{VotesReady, StageReady, WordsDone};
+ghost use Rattle.ranked_writer.specs.inner.Paths.{VotesTableReady, StageReady, WordsDone};
 
 // The numbers of ballots.
 pub(crate) fn votes_table(w: Writer, table: &mut [u32], words: &mut [u32], p: Ranks) -> Writer
-    requires { ⌜ VotesReady w (now words) p ⌝ }
+    requires { ⌜ VotesTableReady w (now words) p ⌝ }
     ensures { λ r. ⌜
         WordsDone w (now (table .entry)) (spec.table (w .wire) (p .candidates)
         (votesBlock (p .candidates) (p .ballots) (p .digits))) (now (table .exit)) r (p .candidates)

@@ -11,14 +11,14 @@ use Rattle.ranked_circuit.specs.Stages.{votesBlock, stays, cutAt, newWord, path
 use Rattle.ranked_blocks.specs.Ranked.{Ranked, keptOf, keep, keepLinks, WordsBelow}
 use Rattle.ranked_blocks.specs.declared.entries.Ranks.{Ranks}
 
--- 64 wires about two of at most eight candidates, i and j.
+-- The wire about i and j, of at most eight candidates, among 64.
 pub record KeptReady (wires : List ℕ) (k i j : ℕ) : Type 0 where
   pub few : k ≤ 8
   pub row : i < k
   pub column : j < k
   pub long : length wires ≡ 64
 
--- A last candidate, and words of at most eight digits.
+-- At least one candidate, and words of at most eight digits.
 pub record CutReady (k digits : ℕ) : Type 0 where
   pub some : 1 ≤ k
   pub narrow : digits ≤ 7
@@ -38,7 +38,7 @@ pub record Entry (w : Writer) (words wires : List ℕ) (p : Ranks) (block : ℕ 
   pub number : e < p .candidates * p .candidates
   pub room : Room w (length (block (w .wire) (e / p .candidates) (e % p .candidates)))
 
--- Room for the counter of entry e, after the ballots.
+-- Room for the counter of entry e; the ballots are wires already.
 pub record VotesReady (w : Writer) (words : List ℕ) (p : Ranks) (e : ℕ) : Type 0 where
   pub ranked : Ranked p
   pub room : Room w (length (votesBlock (p .candidates) (p .ballots) (p .digits) (w .wire) (e / p .candidates)

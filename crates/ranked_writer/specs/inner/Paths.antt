@@ -15,8 +15,8 @@ use Rattle.ranked_blocks.specs.declared.entries.Ranks.{Ranks}
 use Rattle.ranked_writer.specs.Tables.{Keeps}
 use Rattle.ranked_writer.specs.inner.Contests.{TableReady}
 
--- Room for the numbers of ballots, after the ballots.
-pub record VotesReady (w : Writer) (words : List ℕ) (p : Ranks) : Type 0 where
+-- Room for the numbers of ballots; the ballots are wires already.
+pub record VotesTableReady (w : Writer) (words : List ℕ) (p : Ranks) : Type 0 where
   pub ranked : Ranked p
   pub room : Room w (length (table (w .wire) (p .candidates) (votesBlock (p .candidates) (p .ballots) (p .digits))))
   pub ballots-below : p .ballots * p .candidates * p .candidates ≤ w .wire
@@ -28,13 +28,13 @@ pub record StageReady (w : Writer) (words links : List ℕ) (p : Ranks) (m : ℕ
       (keptOf words (p .candidates)) (p .digits) m)
   pub stage : m ≤ p .candidates
 
--- Gates were written, and where the word of each two candidates is was kept.
+-- Gates were written, and the place of each two candidates' word is kept.
 pub record WordsDone (w : Writer) (table₀ : List ℕ) (gates : List Gate) (table₁ : List ℕ) (next : Writer) (k : ℕ)
     (words : List ℕ) (f : ℕ → ℕ → ℕ) : Type 0 where
   pub wrote : Wrote w table₀ gates table₁ next
   pub kept : Keeps k words f
 
--- Room for the numbers of ballots and the links, right after the ballots; then they were written and kept.
+-- Room for the numbers of ballots and the links, right after the ballots; and that both were written and kept.
 pub record FirstReady (w : Writer) (links words : List ℕ) (p : Ranks) : Type 0 where
   pub ranked : Ranked p
   pub room : Room w (length (pathsTo (p .candidates) (p .ballots) (p .digits) 0 .gates))
