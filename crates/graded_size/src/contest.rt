@@ -1,16 +1,17 @@
 // The span of a contest.
 use graded_circuit::plan::Plan;
 ghost use mathlib.Core.Path.{_≡_};
-ghost use Prim.Native.Nat.{suc, _-_, _≤_, _<_};
+ghost use Prim.Native.Nat.{_-_, _≤_, _<_};
 ghost use Rattle.gate_words.specs.Reach.{reachSpan};
 ghost use Rattle.graded_circuit.specs.Plan.{Planned};
-ghost use Rattle.graded_circuit.specs.Median.{Fits, onesSpan};
+ghost use Rattle.graded_circuit.specs.Median.{onesSpan};
 ghost use Rattle.graded_circuit.specs.Contest.{tieBreakBelowSpan, contestSpan};
+ghost use Rattle.graded_size.specs.inner.Ready.{MediansReady, BelowReady};
 
 // The number of gates that compare two median grades' numbers in above + 1 digits: of each digit both sums modulo 2 and
 // whether they differ, and, but for the lowest, two gates more.
 fn medians_span(count: u32, above: u32) -> u32
-    requires { ⌜ Fits count (suc above) × (count ≤ 6) × (above ≤ 2) ⌝ }
+    requires { ⌜ MediansReady count above ⌝ }
     ensures { λ r. ⌜ r ≡ onesSpan count above ⌝ }
 {
     let mut gates: u32 = 2 * count - 1;
@@ -41,7 +42,7 @@ fn reach_span(digits: u32) -> u32
 // a digit less two. Else each grade between the first and the last takes two a digit and one for its side, and four a
 // digit for two choices; the chosen words are compared and tested twice to reach n, and fourteen gates follow.
 fn tie_break_below_span(digits: u32, grades: u32) -> u32
-    requires { ⌜ (digits ≤ 7) × (2 ≤ grades) × (grades ≤ 7) ⌝ }
+    requires { ⌜ BelowReady digits grades ⌝ }
     ensures { λ r. ⌜ r ≡ tieBreakBelowSpan digits (grades - 2) ⌝ }
 {
     if digits == 0 {

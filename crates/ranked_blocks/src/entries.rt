@@ -8,16 +8,15 @@ use ranked_words::blocks::compare;
 use ranked_words::blocks::link_or_way;
 use ranked_words::blocks::path_or_way;
 use ranked_words::meeting::meeting;
-ghost use mathlib.Core.Path.{_≡_};
-ghost use Prim.Native.Nat.{suc, _+_, _-_, _*_, _/_, _%_, _≤_, _<_};
+ghost use Prim.Native.Nat.{_-_, _/_, _%_};
 ghost use lib.Dec.{eqb, leb, ltb};
-ghost use lib.ListN.{length};
-ghost use Rattle.gate_words.specs.Writing.{Room, Wrote};
+ghost use Rattle.gate_words.specs.Writing.{Wrote};
 ghost use Rattle.ranked_circuit.specs.Stages as spec;
 ghost use Rattle.ranked_circuit.specs.Stages.{votesBlock, linksBlock, newWord, pathBlock};
 ghost use Rattle.ranked_circuit.specs.Contests.{meetingOf, meetingsBlock};
-ghost use Rattle.ranked_blocks.specs.Ranked.{Ranked, keptOf, keep, WordsBelow};
-ghost use Rattle.ranked_blocks.specs.inner.Entries.{Entry, Entered, Meets, WordReady};
+ghost use Rattle.ranked_blocks.specs.Ranked.{keptOf};
+ghost use Rattle.ranked_blocks.specs.inner.Entries.{Entry, VotesReady, PathReady, Meets, WordReady};
+ghost use Rattle.ranked_blocks.specs.inner.Entries.{Entered, WordEntered};
 
 // The public numbers that the list is written with: k, n, and the digits of a word besides the lowest.
 pub struct Ranks {
@@ -28,22 +27,11 @@ pub struct Ranks {
 
 // The number of ballots that put one candidate before another: its word is kept.
 pub fn votes_entry(w: Writer, table: &mut [u32], words: &mut [u32], p: Ranks, e: u32) -> Writer
-    requires { ⌜ Ranked p ⌝ }
-    requires { ⌜
-        Room w (length (votesBlock (p .candidates) (p .ballots) (p .digits) (w .wire) (e / p .candidates)
-        (e % p .candidates)))
-        ⌝ }
-    requires { ⌜
-        (e < p .candidates * p .candidates) × (p .ballots * p .candidates * p .candidates ≤ w .wire) ×
-        (length (now words) ≡ 64)
-        ⌝ }
+    requires { ⌜ VotesReady w (now words) p e ⌝ }
     ensures { λ r. ⌜
-        Wrote w (now (table .entry)) (votesBlock (p .candidates) (p .ballots) (p .digits) (w .wire)
-        (e / p .candidates) (e % p .candidates)) (now (table .exit)) r
-        ⌝ }
-    ensures { λ r. ⌜
-        now (words .exit) ≡ keep (eqb (e / p .candidates) (e % p .candidates)) (now (words .entry)) e
-        (r .wire - suc (p .digits))
+        WordEntered w (now (table .entry)) (votesBlock (p .candidates) (p .ballots) (p .digits) (w .wire)
+        (e / p .candidates) (e % p .candidates)) (now (table .exit)) r (eqb (e / p .candidates) (e % p .candidates))
+        (now (words .entry)) e (p .digits) (now (words .exit))
         ⌝ }
 {
     let k = p.candidates;
@@ -205,24 +193,12 @@ pub fn path_entry(
     m: u32,
     e: u32,
 ) -> Writer
-    requires { ⌜ Ranked p ⌝ }
-    requires { ⌜
-        Room w (length (pathBlock (p .candidates) (keptOf (now links) (p .candidates)) (keptOf (now words)
-        (p .candidates)) (p .digits) m (w .wire) (e / p .candidates) (e % p .candidates)))
-        ⌝ }
-    requires { ⌜
-        (m ≤ p .candidates) × (e < p .candidates * p .candidates) × (length (now links) ≡ 64) ×
-        (length (now words) ≡ 64)
-        ⌝ }
-    requires { ⌜ WordsBelow (now words) (p .candidates) (p .digits) (w .wire) ⌝ }
+    requires { ⌜ PathReady w (now words) (now links) p m e ⌝ }
     ensures { λ r. ⌜
-        Wrote w (now (table .entry)) (pathBlock (p .candidates) (keptOf (now (links .entry)) (p .candidates))
+        WordEntered w (now (table .entry)) (pathBlock (p .candidates) (keptOf (now (links .entry)) (p .candidates))
         (keptOf (now (words .entry)) (p .candidates)) (p .digits) m (w .wire) (e / p .candidates) (e % p .candidates))
-        (now (table .exit)) r
-        ⌝ }
-    ensures { λ r. ⌜
-        now (words .exit) ≡ keep (spec.stays m (e / p .candidates) (e % p .candidates)) (now (words .entry)) e
-        (r .wire - suc (p .digits))
+        (now (table .exit)) r (spec.stays m (e / p .candidates) (e % p .candidates)) (now (words .entry)) e
+        (p .digits) (now (words .exit))
         ⌝ }
 {
     let i = e / p.candidates;

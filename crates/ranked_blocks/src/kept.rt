@@ -1,14 +1,13 @@
 // What is kept for each two of k candidates: where their word is, or a wire about them. That of i and j has number i k
 // + j.
 ghost use mathlib.Core.Path.{_≡_};
-ghost use Prim.Native.Nat.{_≤_, _<_};
-ghost use lib.ListN.{length};
 ghost use Rattle.ranked_circuit.specs.Stages as spec;
 ghost use Rattle.ranked_blocks.specs.Ranked.{keptOf};
+ghost use Rattle.ranked_blocks.specs.inner.Entries.{KeptReady, CutReady};
 
 // The wire kept for i and j.
 pub fn kept(wires: &[u32], k: u32, i: u32, j: u32) -> u32
-    requires { ⌜ (k ≤ 8) × (i < k) × (j < k) × (length (now wires) ≡ 64) ⌝ }
+    requires { ⌜ KeptReady (now wires) k i j ⌝ }
     ensures { λ r. ⌜ r ≡ keptOf (now (wires .entry)) k i j ⌝ }
 {
     wires[(i * k + j) as usize]
@@ -39,7 +38,7 @@ pub(crate) fn stays(m: u32, i: u32, j: u32) -> bool
 // How many of the highest of so many digits stage m compares apart: half of them where the next stage waits for the
 // word of i and j.
 pub(crate) fn cut_at(k: u32, digits: u32, m: u32, i: u32, j: u32) -> u32
-    requires { ⌜ (1 ≤ k) × (digits ≤ 7) ⌝ }
+    requires { ⌜ CutReady k digits ⌝ }
     ensures { λ r. ⌜ r ≡ spec.cutAt k digits m i j ⌝ }
 {
     if k - 1 <= m {

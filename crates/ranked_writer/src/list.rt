@@ -9,16 +9,14 @@ use gate_words::writer::Writer;
 use gates::kind;
 use jury::width::width;
 use ranked_blocks::entries::Ranks;
-ghost use mathlib.Core.Path.{_≡_};
-ghost use Prim.Native.Nat.{_+_, _-_, _*_, _≤_, _<_};
-ghost use lib.ListN.{length};
-ghost use Rattle.gate_words.specs.Writing.{Room, Wrote};
-ghost use Rattle.ranked_circuit.specs.Paths.{pathsTo, linkWire};
+ghost use Prim.Native.Nat.{_*_};
+ghost use Rattle.gate_words.specs.Writing.{Wrote};
+ghost use Rattle.ranked_circuit.specs.Paths.{pathsTo};
 ghost use Rattle.ranked_circuit.specs.RankedList.{rankedList};
 ghost use Rattle.ranked_circuit.specs.OwnRanking.{ownRanking};
-ghost use Rattle.ranked_blocks.specs.Ranked.{Ranked};
-ghost use Rattle.ranked_writer.specs.Tables.{Keeps};
 ghost use Rattle.ranked_writer.specs.inner.Contests.{ContestsReady, ContestsDone, CircuitReady};
+ghost use Rattle.ranked_writer.specs.inner.Paths.{FirstReady, FirstDone, PathsReady, WordsDone};
+ghost use Rattle.ranked_writer.specs.inner.Paths.{PairReady, ListReady};
 
 // The numbers of ballots, and the links.
 fn first_tables(
@@ -28,18 +26,10 @@ fn first_tables(
     words: &mut [u32],
     p: Ranks,
 ) -> Writer
-    requires { ⌜ Ranked p ⌝ }
-    requires { ⌜ Room w (length (pathsTo (p .candidates) (p .ballots) (p .digits) 0 .gates)) ⌝ }
-    requires { ⌜
-        (w .wire ≡ p .ballots * p .candidates * p .candidates) × (length (now links) ≡ 64) × (length (now words) ≡ 64)
-        ⌝ }
+    requires { ⌜ FirstReady w (now links) (now words) p ⌝ }
     ensures { λ r. ⌜
-        Wrote w (now (table .entry)) (pathsTo (p .candidates) (p .ballots) (p .digits) 0 .gates) (now (table .exit)) r
+        FirstDone w (now (table .entry)) (now (table .exit)) r p (now (links .exit)) (now (words .exit))
         ⌝ }
-    ensures { λ r. ⌜
-        Keeps (p .candidates) (now (words .exit)) (pathsTo (p .candidates) (p .ballots) (p .digits) 0 .words)
-        ⌝ }
-    ensures { λ r. ⌜ Keeps (p .candidates) (now (links .exit)) (linkWire (p .candidates) (p .ballots) (p .digits)) ⌝ }
 {
     let counted = votes_table(w, table, words, p);
     links_table(counted, table, words, links, p, 0)
@@ -47,15 +37,10 @@ fn first_tables(
 
 // The stages of the paths but the last: no path passes the last candidate.
 fn path_tables(w: Writer, table: &mut [u32], words: &mut [u32], p: Ranks) -> Writer
-    requires { ⌜ Ranked p ⌝ }
-    requires { ⌜ Room w (length (pathsTo (p .candidates) (p .ballots) (p .digits) (p .candidates) .gates)) ⌝ }
-    requires { ⌜ (w .wire ≡ p .ballots * p .candidates * p .candidates) × (length (now words) ≡ 64) ⌝ }
+    requires { ⌜ PathsReady w (now words) p ⌝ }
     ensures { λ r. ⌜
-        Wrote w (now (table .entry)) (pathsTo (p .candidates) (p .ballots) (p .digits) (p .candidates) .gates)
-        (now (table .exit)) r
-        ⌝ }
-    ensures { λ r. ⌜
-        Keeps (p .candidates) (now (words .exit))
+        WordsDone w (now (table .entry)) (pathsTo (p .candidates) (p .ballots) (p .digits) (p .candidates) .gates)
+        (now (table .exit)) r (p .candidates) (now (words .exit))
         (pathsTo (p .candidates) (p .ballots) (p .digits) (p .candidates) .words)
         ⌝ }
 {
@@ -80,9 +65,7 @@ fn contests(w: Writer, table: &mut [u32], words: &[u32], beats: &mut [u32], p: R
 
 // The list for two candidates: their links say who is beaten.
 fn pair_circuit(w: Writer, table: &mut [u32], p: Ranks) -> Writer
-    requires { ⌜ Ranked p ⌝ }
-    requires { ⌜ Room w (length (rankedList (p .candidates) (p .ballots) (p .digits))) ⌝ }
-    requires { ⌜ (p .candidates ≡ 2) × (w .wire ≡ p .ballots * p .candidates * p .candidates) ⌝ }
+    requires { ⌜ PairReady w p ⌝ }
     ensures { λ r. ⌜
         Wrote w (now (table .entry)) (rankedList (p .candidates) (p .ballots) (p .digits)) (now (table .exit)) r
         ⌝ }
@@ -111,7 +94,7 @@ fn circuit(w: Writer, table: &mut [u32], p: Ranks) -> Writer
 // Writes the own list for this number of candidates and ballots from the table's first number on, as far as the table
 // goes. The writer says how many gates the list has, and how many of them are conditional, whatever the table.
 pub fn ranked_list(candidates: u32, ballots: u32, table: &mut [u32]) -> Writer
-    requires { ⌜ (1 ≤ candidates) × (candidates ≤ 8) × (1 ≤ ballots) × (ballots ≤ 255) ⌝ }
+    requires { ⌜ ListReady candidates ballots ⌝ }
     ensures { λ r. ⌜
         Wrote (record { gate = 0; wire = ballots * candidates * candidates; conditional = 0 }) (now (table .entry))
         (ownRanking candidates ballots) (now (table .exit)) r

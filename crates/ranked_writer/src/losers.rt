@@ -3,12 +3,11 @@ use gate_words::writer::Writer;
 use gates::kind;
 use ranked_blocks::kept::kept;
 ghost use mathlib.Core.Path.{_≡_};
-ghost use Prim.Native.Nat.{suc, _+_, _-_, _*_, _≤_, _<_};
-ghost use lib.ListN.{length};
-ghost use Rattle.gate_words.specs.Limits.{writerLimit};
-ghost use Rattle.gate_words.specs.Writing.{Room, Wrote};
+ghost use Prim.Native.Nat.{suc, _-_, _<_};
+ghost use Rattle.gate_words.specs.Writing.{Wrote};
 ghost use Rattle.ranked_circuit.specs.RankedList as spec;
 ghost use Rattle.ranked_blocks.specs.Ranked.{keptOf};
+ghost use Rattle.ranked_writer.specs.inner.Losers.{JoinedReady, RowReady, RowsReady, OutputsReady};
 
 // Number s of the candidates but i.
 fn other(i: u32, s: u32) -> u32
@@ -20,7 +19,7 @@ fn other(i: u32, s: u32) -> u32
 
 // Number s of what candidate i's row of gates from wire `at` on joins.
 fn joined(beats: &[u32], k: u32, at: u32, i: u32, s: u32) -> u32
-    requires { ⌜ (2 ≤ k) × (k ≤ 8) × (i < k) × (s < 16) × (at < writerLimit) × (length (now beats) ≡ 64) ⌝ }
+    requires { ⌜ JoinedReady (now beats) k at i s ⌝ }
     ensures { λ r. ⌜ r ≡ spec.joined (keptOf (now (beats .entry)) k) (suc (k - 2)) at i s ⌝ }
 {
     if s < k - 1 {
@@ -32,8 +31,7 @@ fn joined(beats: &[u32], k: u32, at: u32, i: u32, s: u32) -> u32
 
 // Whether one of the others beats i: gate t joins two that were not joined yet.
 fn loser_row(w: Writer, table: &mut [u32], beats: &[u32], k: u32, i: u32) -> Writer
-    requires { ⌜ Room w (k - 2) ⌝ }
-    requires { ⌜ (2 ≤ k) × (k ≤ 8) × (i < k) × (length (now beats) ≡ 64) ⌝ }
+    requires { ⌜ RowReady w (now beats) k i ⌝ }
     ensures { λ r. ⌜
         Wrote w (now (table .entry)) (spec.loserRow (keptOf (now (beats .entry)) k) (k - 2) (w .wire) i)
         (now (table .exit)) r
@@ -53,8 +51,7 @@ fn loser_row(w: Writer, table: &mut [u32], beats: &[u32], k: u32, i: u32) -> Wri
 
 // A row for each candidate.
 pub(crate) fn loser_rows(w: Writer, table: &mut [u32], beats: &[u32], k: u32) -> Writer
-    requires { ⌜ Room w (k * (k - 2)) ⌝ }
-    requires { ⌜ (2 ≤ k) × (k ≤ 8) × (length (now beats) ≡ 64) ⌝ }
+    requires { ⌜ RowsReady w (now beats) k ⌝ }
     ensures { λ r. ⌜
         Wrote w (now (table .entry)) (spec.loserRows (keptOf (now (beats .entry)) k) (k - 2) (w .wire) k)
         (now (table .exit)) r
@@ -71,8 +68,7 @@ pub(crate) fn loser_rows(w: Writer, table: &mut [u32], beats: &[u32], k: u32) ->
 
 // Who is not beaten; the rows start at `rows`.
 pub(crate) fn output_gates(w: Writer, table: &mut [u32], beats: &[u32], k: u32, rows: u32) -> Writer
-    requires { ⌜ Room w k ⌝ }
-    requires { ⌜ (2 ≤ k) × (k ≤ 8) × (length (now beats) ≡ 64) × (w .wire ≡ rows + k * (k - 2)) ⌝ }
+    requires { ⌜ OutputsReady w (now beats) k rows ⌝ }
     ensures { λ r. ⌜
         Wrote w (now (table .entry)) (spec.outputGates (keptOf (now (beats .entry)) k) (k - 2) rows k)
         (now (table .exit)) r

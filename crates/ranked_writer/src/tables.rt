@@ -5,35 +5,25 @@ use ranked_blocks::entries::links_entry;
 use ranked_blocks::entries::meetings_entry;
 use ranked_blocks::entries::path_entry;
 use ranked_blocks::entries::votes_entry;
-ghost use mathlib.Core.Path.{_≡_};
 ghost use mathlib.Core.Bool.{cond};
-ghost use Prim.Native.Nat.{suc, _+_, _-_, _*_, _≤_, _<_};
+ghost use Prim.Native.Nat.{suc, _-_};
 ghost use lib.Dec.{leb, ltb};
-ghost use lib.ListN.{length};
-ghost use Rattle.gate_words.specs.Writing.{Room, Wrote};
 ghost use Rattle.ranked_circuit.specs.Table as spec;
 ghost use Rattle.ranked_circuit.specs.Table.{entryEnd};
 ghost use Rattle.ranked_circuit.specs.Stages.{votesBlock, linksBlock, stays, pathBlock};
 ghost use Rattle.ranked_circuit.specs.Contests.{meetingsBlock};
-ghost use Rattle.ranked_blocks.specs.Ranked.{Ranked, keptOf, WordsBelow};
-ghost use Rattle.ranked_writer.specs.Tables.{Keeps};
+ghost use Rattle.ranked_blocks.specs.Ranked.{keptOf};
 ghost use Rattle.ranked_writer.specs.inner.Contests.{TableReady, TableDone};
+ghost use Rattle.ranked_writer.specs.inner.Paths.{VotesTableReady, StageReady, WordsDone};
 
 // The numbers of ballots.
 pub(crate) fn votes_table(w: Writer, table: &mut [u32], words: &mut [u32], p: Ranks) -> Writer
-    requires { ⌜ Ranked p ⌝ }
-    requires { ⌜
-        Room w (length (spec.table (w .wire) (p .candidates) (votesBlock (p .candidates) (p .ballots) (p .digits))))
-        ⌝ }
-    requires { ⌜ (p .ballots * p .candidates * p .candidates ≤ w .wire) × (length (now words) ≡ 64) ⌝ }
+    requires { ⌜ VotesTableReady w (now words) p ⌝ }
     ensures { λ r. ⌜
-        Wrote w (now (table .entry)) (spec.table (w .wire) (p .candidates)
-        (votesBlock (p .candidates) (p .ballots) (p .digits))) (now (table .exit)) r
-        ⌝ }
-    ensures { λ r. ⌜
-        Keeps (p .candidates) (now (words .exit))
-        (λ i j. entryEnd (w .wire) (p .candidates) (votesBlock (p .candidates) (p .ballots) (p .digits)) i j - suc
-        (p .digits))
+        WordsDone w (now (table .entry)) (spec.table (w .wire) (p .candidates)
+        (votesBlock (p .candidates) (p .ballots) (p .digits))) (now (table .exit)) r (p .candidates)
+        (now (words .exit)) (λ i j. entryEnd (w .wire) (p .candidates)
+        (votesBlock (p .candidates) (p .ballots) (p .digits)) i j - suc (p .digits))
         ⌝ }
 {
     let k = p.candidates;
@@ -112,22 +102,12 @@ pub(crate) fn path_table(
     p: Ranks,
     m: u32,
 ) -> Writer
-    requires { ⌜ Ranked p ⌝ }
-    requires { ⌜
-        Room w (length (spec.table (w .wire) (p .candidates)
-        (pathBlock (p .candidates) (keptOf (now links) (p .candidates)) (keptOf (now words) (p .candidates))
-        (p .digits) m)))
-        ⌝ }
-    requires { ⌜ (m ≤ p .candidates) × (length (now links) ≡ 64) × (length (now words) ≡ 64) ⌝ }
-    requires { ⌜ WordsBelow (now words) (p .candidates) (p .digits) (w .wire) ⌝ }
+    requires { ⌜ StageReady w (now words) (now links) p m ⌝ }
     ensures { λ r. ⌜
-        Wrote w (now (table .entry)) (spec.table (w .wire) (p .candidates)
+        WordsDone w (now (table .entry)) (spec.table (w .wire) (p .candidates)
         (pathBlock (p .candidates) (keptOf (now (links .entry)) (p .candidates))
-        (keptOf (now (words .entry)) (p .candidates)) (p .digits) m)) (now (table .exit)) r
-        ⌝ }
-    ensures { λ r. ⌜
-        Keeps (p .candidates) (now (words .exit))
-        (λ i j. cond (stays m i j) (keptOf (now (words .entry)) (p .candidates) i j)
+        (keptOf (now (words .entry)) (p .candidates)) (p .digits) m)) (now (table .exit)) r (p .candidates)
+        (now (words .exit)) (λ i j. cond (stays m i j) (keptOf (now (words .entry)) (p .candidates) i j)
         (entryEnd (w .wire) (p .candidates) (pathBlock (p .candidates) (keptOf (now (links .entry)) (p .candidates))
         (keptOf (now (words .entry)) (p .candidates)) (p .digits) m) i j - suc (p .digits)))
         ⌝ }

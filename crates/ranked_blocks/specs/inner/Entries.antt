@@ -1,15 +1,27 @@
--- What the writers of tables with one block for each two candidates ask for.
+-- What the writers of tables with one block for each two candidates ask for and do.
 use mathlib.Core.Path.{_≡_}
 use mathlib.Core.Bool.{Bool, false}
 use mathlib.Core.List.{List}
-use Prim.Native.Nat.{ℕ, suc, _*_, _+_, _/_, _%_, _≤_, _<_}
+use Prim.Native.Nat.{ℕ, suc, _*_, _+_, _-_, _/_, _%_, _≤_, _<_}
 use lib.ListN.{length}
 use Rattle.gates.specs.Gate.{Gate}
 use Rattle.gate_words.specs.Writing.{Room, Wrote}
 use Rattle.gate_words.specs.declared.writer.Writer.{Writer}
-use Rattle.ranked_circuit.specs.Stages.{stays, cutAt, newWord}
-use Rattle.ranked_blocks.specs.Ranked.{Ranked, keptOf, keepLinks, WordsBelow}
+use Rattle.ranked_circuit.specs.Stages.{votesBlock, stays, cutAt, newWord, pathBlock}
+use Rattle.ranked_blocks.specs.Ranked.{Ranked, keptOf, keep, keepLinks, WordsBelow}
 use Rattle.ranked_blocks.specs.declared.entries.Ranks.{Ranks}
+
+-- The wire about i and j, of at most eight candidates, among 64.
+pub record KeptReady (wires : List ℕ) (k i j : ℕ) : Type 0 where
+  pub few : k ≤ 8
+  pub row : i < k
+  pub column : j < k
+  pub long : length wires ≡ 64
+
+-- At least one candidate, and words of at most eight digits.
+pub record CutReady (k digits : ℕ) : Type 0 where
+  pub some : 1 ≤ k
+  pub narrow : digits ≤ 7
 
 -- The words of each two candidates come before the writer's wire; there are 64 of them, and 64 wires about two
 -- candidates.
@@ -26,6 +38,21 @@ pub record Entry (w : Writer) (words wires : List ℕ) (p : Ranks) (block : ℕ 
   pub number : e < p .candidates * p .candidates
   pub room : Room w (length (block (w .wire) (e / p .candidates) (e % p .candidates)))
 
+-- Room for the counter of entry e; the ballots are wires already.
+pub record VotesReady (w : Writer) (words : List ℕ) (p : Ranks) (e : ℕ) : Type 0 where
+  pub ranked : Ranked p
+  pub room : Room w (length (votesBlock (p .candidates) (p .ballots) (p .digits) (w .wire) (e / p .candidates)
+      (e % p .candidates)))
+  pub number : e < p .candidates * p .candidates
+  pub ballots-below : p .ballots * p .candidates * p .candidates ≤ w .wire
+  pub words-long : length words ≡ 64
+
+-- Room for entry e of stage m of the paths.
+pub record PathReady (w : Writer) (words links : List ℕ) (p : Ranks) (m e : ℕ) : Type 0 where
+  pub entry : Entry w words links p (pathBlock (p .candidates) (keptOf links (p .candidates))
+      (keptOf words (p .candidates)) (p .digits) m) e
+  pub stage : m ≤ p .candidates
+
 -- Room for the meeting of i with an earlier j, both before the last candidate.
 pub record Meets (w : Writer) (words wires : List ℕ) (p : Ranks) (i j : ℕ) : Type 0 where
   pub kept : Kept w words wires p
@@ -38,6 +65,12 @@ pub record Entered (w : Writer) (table : List ℕ) (block : List Gate) (table′
     (rows : ℕ → Bool) (wires : List ℕ) (k i j : ℕ) (wires′ : List ℕ) : Type 0 where
   pub wrote : Wrote w table block table′ next
   pub kept : wires′ ≡ keepLinks rows wires k i j (next .wire)
+
+-- The block of number e was written, and its last word is kept, unless it stays as it was.
+pub record WordEntered (w : Writer) (table : List ℕ) (block : List Gate) (table′ : List ℕ) (next : Writer)
+    (stays : Bool) (words : List ℕ) (e digits : ℕ) (words′ : List ℕ) : Type 0 where
+  pub wrote : Wrote w table block table′ next
+  pub kept : words′ ≡ keep stays words e (next .wire - suc digits)
 
 -- Room for the word of i and j after stage m, which does not leave it as it is.
 pub record WordReady (w : Writer) (words links : List ℕ) (p : Ranks) (m i j : ℕ) : Type 0 where

@@ -14,12 +14,24 @@ sub-medians-span : tie.Need-sub-medians-span
 sub-medians-span c = omega (arith, c .before .pre .d-least)
 
 medians-span-requires : tie.Need-medians-span-requires
-medians-span-requires c κs = let p = c .before .args .p in let f = c .before .pre in
-    (grade-fits p f, omega (arith, f .d-most), places-most p f)
+medians-span-requires c κs =
+    let p = c .before .args .p in
+    let f = c .before .pre in
+    record {
+      fits = grade-fits p f;
+      few = omega (arith, f .d-most);
+      narrow = places-most p f;
+    }
 
 tie-break-below-span-requires : tie.Need-tie-break-below-span-requires
-tie-break-below-span-requires c κs = let p = c .before .before .args .p in let f = c .before .before .pre in
-    (digits-most p f, f .d-least, f .d-most)
+tie-break-below-span-requires c κs =
+    let p = c .before .before .args .p in
+    let f = c .before .before .pre in
+    record {
+      narrow = digits-most p f;
+      several = f .d-least;
+      few = f .d-most;
+    }
 
 whole : (c : tie.After-tie-break-below-span) → c .before .medians-span .result + c .tie-break-below-span .result + 2
     ≡ contestSpan (c .before .before .before .args .p)

@@ -20,14 +20,12 @@ mul-gates : tie.Need-mul-gates Inv-loop μ-loop
 mul-gates c = omega (arith, c .pre)
 
 sub-gates : tie.Need-sub-gates Inv-loop μ-loop
-sub-gates c = omega (arith, fits-some (c .args .count) (c .args .above) (c .pre .0))
+sub-gates c = omega (arith, fits-some (c .args .count) (c .args .above) (c .pre .fits))
 
 loop-holds : tie.Need-loop-holds Inv-loop μ-loop
 loop-holds c =
-    let a = c .args in (
-      fits-half (a .count) (a .above) (c .pre .0),
-      omega (arith, ones-span (a .count) (a .above), fits-some (a .count) (a .above) (c .pre .0)),
-    )
+    let a = c .args in
+    (fits-half (a .count) (a .above) (c .pre .fits), omega (arith, ones-span (a .count) (a .above), fits-some (a .count) (a .above) (c .pre .fits)))
 
 -- a turn: the digit's gates, and those left
 in-turn : (c : tie.In-loop Inv-loop μ-loop) → let l = c .before .loop in

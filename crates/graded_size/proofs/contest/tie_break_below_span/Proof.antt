@@ -19,7 +19,7 @@ few r d h k =
 
 between : (c : tie.Else2) → ((c .before .before) .args .grades - 3) * (6 * (c .before .before) .args .digits + 1) ≤ 172
 between c =
-    few ((c .before .before) .args .digits) ((c .before .before) .args .grades) ((c .before .before) .pre .0) ((c .before .before) .pre .2)
+    few ((c .before .before) .args .digits) ((c .before .before) .args .grades) ((c .before .before) .pre .narrow) ((c .before .before) .pre .few)
 
 returns : tie.Need-returns
 returns c =
@@ -68,7 +68,7 @@ add-result-2 c =
 
 reach-span-requires : tie.Need-reach-span-requires
 reach-span-requires c κs =
-    (omega (arith, (c .before .if1) .left), (c .before .before) .pre .0)
+    (omega (arith, (c .before .if1) .left), (c .before .before) .pre .narrow)
 
 returns-3 : tie.Need-returns-3
 returns-3 c =

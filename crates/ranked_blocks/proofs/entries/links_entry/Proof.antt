@@ -77,10 +77,26 @@ returns-2 c =
     }
 
 kept-requires : tie.Need-kept-requires
-kept-requires c κs = let t = facts (c .before) .here in let s = start (c .before) in (s .pre .kept .ranked .k-most, t .row, t .column, s .pre .kept .words-long)
+kept-requires c κs =
+    let t = facts (c .before) .here in
+    let s = start (c .before) in
+    record {
+      few = s .pre .kept .ranked .k-most;
+      row = t .row;
+      column = t .column;
+      long = s .pre .kept .words-long;
+    }
 
 kept-requires-2 : tie.Need-kept-requires-2
-kept-requires-2 c κs = let p = c .before .before in let t = facts p .here in (start p .pre .kept .ranked .k-most, t .column, t .row, start p .pre .kept .words-long)
+kept-requires-2 c κs =
+    let p = c .before .before in
+    let t = facts p .here in
+    record {
+      few = start p .pre .kept .ranked .k-most;
+      row = t .column;
+      column = t .row;
+      long = start p .pre .kept .words-long;
+    }
 
 compare-requires : tie.Need-compare-requires
 compare-requires c κs =

@@ -40,22 +40,64 @@ sub-l : tie.Need-sub-l
 sub-l c = omega (arith, c .before .before .before .pre .other)
 
 kept-requires : tie.Need-kept-requires
-kept-requires c κs = let s = start c in (s .pre .kept .ranked .k-most, who s .last, who s .later, s .pre .kept .words-long)
+kept-requires c κs =
+    let s = start c in
+    record {
+      few = s .pre .kept .ranked .k-most;
+      row = who s .last;
+      column = who s .later;
+      long = s .pre .kept .words-long;
+    }
 
 kept-requires-2 : tie.Need-kept-requires-2
-kept-requires-2 c κs = let s = start (c .before) in (s .pre .kept .ranked .k-most, who s .last, who s .earlier, s .pre .kept .words-long)
+kept-requires-2 c κs =
+    let s = start (c .before) in
+    record {
+      few = s .pre .kept .ranked .k-most;
+      row = who s .last;
+      column = who s .earlier;
+      long = s .pre .kept .words-long;
+    }
 
 kept-requires-3 : tie.Need-kept-requires-3
-kept-requires-3 c κs = let s = start (c .before .before) in (s .pre .kept .ranked .k-most, who s .later, who s .earlier, s .pre .kept .words-long)
+kept-requires-3 c κs =
+    let s = start (c .before .before) in
+    record {
+      few = s .pre .kept .ranked .k-most;
+      row = who s .later;
+      column = who s .earlier;
+      long = s .pre .kept .words-long;
+    }
 
 kept-requires-4 : tie.Need-kept-requires-4
-kept-requires-4 c κs = let s = start (asked c) in (s .pre .kept .ranked .k-most, who s .earlier, who s .later, s .pre .kept .words-long)
+kept-requires-4 c κs =
+    let s = start (asked c) in
+    record {
+      few = s .pre .kept .ranked .k-most;
+      row = who s .earlier;
+      column = who s .later;
+      long = s .pre .kept .words-long;
+    }
 
 kept-requires-5 : tie.Need-kept-requires-5
-kept-requires-5 c κs = let s = start (asked (c .before)) in (s .pre .kept .ranked .k-most, who s .later, who s .last, s .pre .kept .wires-long)
+kept-requires-5 c κs =
+    let s = start (asked (c .before)) in
+    record {
+      few = s .pre .kept .ranked .k-most;
+      row = who s .later;
+      column = who s .last;
+      long = s .pre .kept .wires-long;
+    }
 
 kept-requires-6 : tie.Need-kept-requires-6
-kept-requires-6 c κs = let s = start (asked (c .before .before)) in (s .pre .kept .ranked .k-most, who s .earlier, who s .last, s .pre .kept .wires-long)
+kept-requires-6 c κs =
+    let s = start (asked (c .before .before)) in
+    record {
+      few = s .pre .kept .ranked .k-most;
+      row = who s .earlier;
+      column = who s .last;
+      long = s .pre .kept .wires-long;
+    }
 
 meeting-requires : tie.Need-meeting-requires
 meeting-requires c κs =

@@ -30,10 +30,24 @@ within : (s : tie.Start) → cutOf s ≤ s .args .p .digits
 within s = cut-most (s .args .p .candidates) (s .args .p .digits) (s .args .m) (s .args .i) (s .args .j)
 
 kept-requires : tie.Need-kept-requires
-kept-requires c κs = let s = c .before .before .before in (s .pre .kept .ranked .k-most, s .pre .row, s .pre .column, s .pre .kept .wires-long)
+kept-requires c κs =
+    let s = c .before .before .before in
+    record {
+      few = s .pre .kept .ranked .k-most;
+      row = s .pre .row;
+      column = s .pre .column;
+      long = s .pre .kept .wires-long;
+    }
 
 kept-requires-2 : tie.Need-kept-requires-2
-kept-requires-2 c κs = let s = c .before .before .before .before in (s .pre .kept .ranked .k-most, s .pre .row, s .pre .column, s .pre .kept .words-long)
+kept-requires-2 c κs =
+    let s = c .before .before .before .before in
+    record {
+      few = s .pre .kept .ranked .k-most;
+      row = s .pre .row;
+      column = s .pre .column;
+      long = s .pre .kept .words-long;
+    }
 
 -- the same blocks under the names of what was read
 zero-same : (f v w f′ v′ : ℕ) → f ≡ f′ → v ≡ v′ → masked f v (w + 1) ≡ masked f′ v′ (w + 1)
@@ -78,13 +92,32 @@ over : (s : tie.Start) → s .args .m - 1 < s .args .p .candidates
 over s = let m = s .pre .stage in omega (arith, s .pre .kept .ranked .k-least)
 
 kept-requires-3 : tie.Need-kept-requires-3
-kept-requires-3 c κs = let s = start (c .before) in (s .pre .kept .ranked .k-most, s .pre .row, over s, s .pre .kept .words-long)
+kept-requires-3 c κs =
+    let s = start (c .before) in
+    record {
+      few = s .pre .kept .ranked .k-most;
+      row = s .pre .row;
+      column = over s;
+      long = s .pre .kept .words-long;
+    }
 
 kept-requires-4 : tie.Need-kept-requires-4
-kept-requires-4 c κs = let s = start (c .before .before) in (s .pre .kept .ranked .k-most, over s, s .pre .column, s .pre .kept .words-long)
+kept-requires-4 c κs =
+    let s = start (c .before .before) in
+    record {
+      few = s .pre .kept .ranked .k-most;
+      row = over s;
+      column = s .pre .column;
+      long = s .pre .kept .words-long;
+    }
 
 cut-at-requires : tie.Need-cut-at-requires
-cut-at-requires c κs = let s = start (c .before .before .before) in (omega (arith, s .pre .kept .ranked .k-least), s .pre .kept .ranked .w-most)
+cut-at-requires c κs =
+    let s = start (c .before .before .before) in
+    record {
+      some = omega (arith, s .pre .kept .ranked .k-least);
+      narrow = s .pre .kept .ranked .w-most;
+    }
 
 -- the words that are read end before the writer's wire
 pub record Read (w : ℕ) (digits v x y cut : ℕ) : Type 0 where

@@ -17,19 +17,20 @@ use Rattle.ranked_blocks.proofs.entries.path_entry.Statement.{statement
 use Rattle.ranked_blocks.proofs.entries.path_entry.Tie as tie
 
 div-i : tie.Need-div-i
-div-i c = omega (arith, (c .before .before .before .before .pre) .0 .k-least)
+div-i c = omega (arith, (c .before .before .before .before .pre) .entry .kept .ranked .k-least)
 
 rem-j : tie.Need-rem-j
-rem-j c = omega (arith, (c .before .before .before .before .before .pre) .0 .k-least)
+rem-j c = omega (arith, (c .before .before .before .before .before .pre) .entry .kept .ranked .k-least)
 
 returns : tie.Need-returns
 returns c =
     let a = (c .before .before .before .before .before .before .before .args) in
     let k = a .p .candidates in
-    let q : stays (a .m) (a .e / k) (a .e % k) ≡ true = sym ((c .before .stays) .ensures) ∙ (c .if1) .taken in (
-      wrote-as (a .w) (a .table .now) [] _ (a .table .now) (a .w) (path-kept k (keptOf (a .links .now) k) (keptOf (a .words .now) k) (a .p .digits) (a .w .wire) (a .e / k) (a .e % k) (a .m) q) (wrote-nothing (a .w) (a .table .now)),
-      keeps (stays (a .m) (a .e / k) (a .e % k)) (a .words .now) _ q,
-    )
+    let q : stays (a .m) (a .e / k) (a .e % k) ≡ true = sym ((c .before .stays) .ensures) ∙ (c .if1) .taken in
+    record {
+      wrote = wrote-as (a .w) (a .table .now) [] _ (a .table .now) (a .w) (path-kept k (keptOf (a .links .now) k) (keptOf (a .words .now) k) (a .p .digits) (a .w .wire) (a .e / k) (a .e % k) (a .m) q) (wrote-nothing (a .w) (a .table .now));
+      kept = keeps (stays (a .m) (a .e / k) (a .e % k)) (a .words .now) _ q;
+    }
 
 moves : (c : tie.Else1) → stays ((c .before .before .before .before .before .before .before .args) .m) ((c .before .before .before .before .before .before .before .args) .e / (c .before .before .before .before .before .before .before .args) .p .candidates) ((c .before .before .before .before .before .before .before .args) .e % (c .before .before .before .before .before .before .before .args) .p .candidates) ≡ false
 moves c = sym ((c .before .stays) .ensures) ∙ (c .if1) .left
@@ -38,13 +39,13 @@ new-word-requires : tie.Need-new-word-requires
 new-word-requires c κs =
     let a = (c .before .before .before .before .before .before .before .before .before .args) in
     let k = a .p .candidates in
-    let t = place k (a .e) ((c .before .before .before .before .before .before .before .before .before .pre) .0 .k-most) ((c .before .before .before .before .before .before .before .before .before .pre) .1 .1 .0 .1) in
+    let t = place k (a .e) ((c .before .before .before .before .before .before .before .before .before .pre) .entry .kept .ranked .k-most) ((c .before .before .before .before .before .before .before .before .before .pre) .entry .number) in
     let q = moves (c .before .before) in
     let g = (c .before .before .before .before .before .before .before .before .before .pre) in
     record {
-      kept = record { ranked = g .0; words-long = g .1 .1 .0 .3; wires-long = g .1 .1 .0 .2; below = g .1 .1 .1 };
-      room = room-less (a .w) _ _ (omega (arith, ap length (path-moved k (keptOf (a .links .now) k) (keptOf (a .words .now) k) (a .p .digits) (a .w .wire) (a .e / k) (a .e % k) (a .m) q))) (g .1 .0);
-      stage = g .1 .1 .0 .0;
+      kept = g .entry .kept;
+      room = room-less (a .w) _ _ (omega (arith, ap length (path-moved k (keptOf (a .links .now) k) (keptOf (a .words .now) k) (a .p .digits) (a .w .wire) (a .e / k) (a .e % k) (a .m) q))) (g .entry .room);
+      stage = g .stage;
       row = t .row;
       column = t .column;
       moves = q;
@@ -63,7 +64,7 @@ sub-words-2 : tie.Need-sub-words-2
 sub-words-2 c = omega (arith, ended (c .before .before .before .before))
 
 slice-write-words : tie.Need-slice-write-words
-slice-write-words c = omega (arith, place ((c .before .before .before .before .before .before .before .before .before .before .before .before .before .before .args) .p .candidates) ((c .before .before .before .before .before .before .before .before .before .before .before .before .before .before .args) .e) ((c .before .before .before .before .before .before .before .before .before .before .before .before .before .before .pre) .0 .k-most) ((c .before .before .before .before .before .before .before .before .before .before .before .before .before .before .pre) .1 .1 .0 .1) .small, (c .before .before .before .before .before .before .before .before .before .before .before .before .before .before .pre) .1 .1 .0 .3)
+slice-write-words c = omega (arith, place ((c .before .before .before .before .before .before .before .before .before .before .before .before .before .before .args) .p .candidates) ((c .before .before .before .before .before .before .before .before .before .before .before .before .before .before .args) .e) ((c .before .before .before .before .before .before .before .before .before .before .before .before .before .before .pre) .entry .kept .ranked .k-most) ((c .before .before .before .before .before .before .before .before .before .before .before .before .before .before .pre) .entry .number) .small, (c .before .before .before .before .before .before .before .before .before .before .before .before .before .before .pre) .entry .kept .words-long)
 
 returns-2 : tie.Need-returns-2
 returns-2 c =
@@ -71,10 +72,11 @@ returns-2 c =
     let k = a .p .candidates in
     let next = (c .before .before .before .before .new-word) .result in
     let q = moves (c .before .before .before .before .before .before .before) in
-    let back : next .wire - a .p .digits - 1 ≡ next .wire - suc (a .p .digits) = omega arith in (
-      wrote-as (a .w) (a .table .now) _ _ ((c .before .before .before .before .new-word) .last .1 .0) next (path-moved k (keptOf (a .links .now) k) (keptOf (a .words .now) k) (a .p .digits) (a .w .wire) (a .e / k) (a .e % k) (a .m) q) ((c .before .before .before .before .new-word) .ensures),
-      stores (stays (a .m) (a .e / k) (a .e % k)) (a .words .now) _ _ q (ap (set (a .words .now) (a .e)) back),
-    )
+    let back : next .wire - a .p .digits - 1 ≡ next .wire - suc (a .p .digits) = omega arith in
+    record {
+      wrote = wrote-as (a .w) (a .table .now) _ _ ((c .before .before .before .before .new-word) .last .1 .0) next (path-moved k (keptOf (a .links .now) k) (keptOf (a .words .now) k) (a .p .digits) (a .w .wire) (a .e / k) (a .e % k) (a .m) q) ((c .before .before .before .before .new-word) .ensures);
+      kept = stores (stays (a .m) (a .e / k) (a .e % k)) (a .words .now) _ _ q (ap (set (a .words .now) (a .e)) back);
+    }
 
 stays-requires : tie.Need-stays-requires
 stays-requires c κs = search needs

@@ -21,40 +21,41 @@ use Rattle.ranked_blocks.proofs.entries.votes_entry.Tie as tie
 returns : tie.Need-returns
 returns c =
     let a = (c .before .before .before .args) in
-    let k = a .p .candidates in (
-      wrote-as (a .w) (a .table .now) [] _ (a .table .now) (a .w) (votes-kept k (a .p .ballots) (a .p .digits) (a .w .wire) (a .e / k) (a .e % k) ((c .if1) .taken)) (wrote-nothing (a .w) (a .table .now)),
-      keeps (eqb (a .e / k) (a .e % k)) (a .words .now) _ (eq-eqb (a .e / k) (a .e % k) ((c .if1) .taken)),
-    )
+    let k = a .p .candidates in
+    record {
+      wrote = wrote-as (a .w) (a .table .now) [] _ (a .table .now) (a .w) (votes-kept k (a .p .ballots) (a .p .digits) (a .w .wire) (a .e / k) (a .e % k) ((c .if1) .taken)) (wrote-nothing (a .w) (a .table .now));
+      kept = keeps (eqb (a .e / k) (a .e % k)) (a .words .now) _ (eq-eqb (a .e / k) (a .e % k) ((c .if1) .taken));
+    }
 
 mul-counter : tie.Need-mul-counter
-mul-counter c = omega (arith, square-small ((c .before .before .before .before .args) .p .candidates) ((c .before .before .before .before .pre) .0 .k-most))
+mul-counter c = omega (arith, square-small ((c .before .before .before .before .args) .p .candidates) ((c .before .before .before .before .pre) .ranked .k-most))
 
 div-if1 : tie.Need-div-if1
-div-if1 c = omega (arith, (c .before .before .pre) .0 .k-least)
+div-if1 c = omega (arith, (c .before .before .pre) .ranked .k-least)
 
 rem-if1 : tie.Need-rem-if1
-rem-if1 c = omega (arith, (c .before .before .pre) .0 .k-least)
+rem-if1 c = omega (arith, (c .before .before .pre) .ranked .k-least)
 
 bytes : (c : tie.Else1) → Below ((c .before .before .before .args) .w .wire) ((c .before .before .before .args) .e) ((c .before .before .before .args) .p .candidates * (c .before .before .before .args) .p .candidates) ((c .before .before .before .args) .p .ballots)
 bytes c =
     let a = (c .before .before .before .args) in
     let k = a .p .candidates in
-    let t = place k (a .e) ((c .before .before .before .pre) .0 .k-most) ((c .before .before .before .pre) .1 .1 .0) in
-    rw (← t .number) (bytes-below k (a .p .ballots) (a .w .wire) (a .e / k) (a .e % k) (t .row) (t .column) ((c .before .before .before .pre) .1 .1 .1))
+    let t = place k (a .e) ((c .before .before .before .pre) .ranked .k-most) ((c .before .before .before .pre) .number) in
+    rw (← t .number) (bytes-below k (a .p .ballots) (a .w .wire) (a .e / k) (a .e % k) (t .row) (t .column) ((c .before .before .before .pre) .ballots-below))
 
 size : (c : tie.Else1) → length (votesBlock ((c .before .before .before .args) .p .candidates) ((c .before .before .before .args) .p .ballots) ((c .before .before .before .args) .p .digits) ((c .before .before .before .args) .w .wire) ((c .before .before .before .args) .e / (c .before .before .before .args) .p .candidates) ((c .before .before .before .args) .e % (c .before .before .before .args) .p .candidates)) ≡ countSize ((c .before .before .before .args) .p .ballots) 0 ((c .before .before .before .args) .p .digits) + suc ((c .before .before .before .args) .p .digits)
 size c =
     let a = (c .before .before .before .args) in
     let k = a .p .candidates in
-    let t = place k (a .e) ((c .before .before .before .pre) .0 .k-most) ((c .before .before .before .pre) .1 .1 .0) in
+    let t = place k (a .e) ((c .before .before .before .pre) .ranked .k-most) ((c .before .before .before .pre) .number) in
     sym (ap length (votes-moved k (a .p .ballots) (a .p .digits) (a .w .wire) (a .e / k) (a .e % k) (a .e) (t .number) ((c .if1) .left))) ∙ omega (arith, length-counter (a .w .wire) (a .e) (k * k) (a .p .ballots) 0 (a .p .digits))
 
 counter-requires : tie.Need-counter-requires
 counter-requires c κs =
     let a = (c .before .before .before .before .args) in
-    let f = (c .before .before .before .before .pre) .0 in
+    let f = (c .before .before .before .before .pre) .ranked in
     record {
-      room = room-less (a .w) _ _ (omega (arith, size (c .before))) ((c .before .before .before .before .pre) .1 .0);
+      room = room-less (a .w) _ _ (omega (arith, size (c .before))) ((c .before .before .before .before .pre) .room);
       below = bytes (c .before);
       near = omega (arith, square-small (a .p .candidates) (f .k-most));
       few = omega (arith, f .n-most);
@@ -73,18 +74,19 @@ sub-words-2 : tie.Need-sub-words-2
 sub-words-2 c = omega (arith, ended (c .before .before .before .before))
 
 slice-write-words : tie.Need-slice-write-words
-slice-write-words c = omega (arith, place ((c .before .before .before .before .before .before .before .before .before .args) .p .candidates) ((c .before .before .before .before .before .before .before .before .before .args) .e) ((c .before .before .before .before .before .before .before .before .before .pre) .0 .k-most) ((c .before .before .before .before .before .before .before .before .before .pre) .1 .1 .0) .small, (c .before .before .before .before .before .before .before .before .before .pre) .1 .1 .2)
+slice-write-words c = omega (arith, place ((c .before .before .before .before .before .before .before .before .before .args) .p .candidates) ((c .before .before .before .before .before .before .before .before .before .args) .e) ((c .before .before .before .before .before .before .before .before .before .pre) .ranked .k-most) ((c .before .before .before .before .before .before .before .before .before .pre) .number) .small, (c .before .before .before .before .before .before .before .before .before .pre) .words-long)
 
 returns-2 : tie.Need-returns-2
 returns-2 c =
     let a = (c .before .before .before .before .before .before .before .before .before .args) in
     let k = a .p .candidates in
     let next = (c .before .before .before .before .counter) .result in
-    let t = place k (a .e) ((c .before .before .before .before .before .before .before .before .before .pre) .0 .k-most) ((c .before .before .before .before .before .before .before .before .before .pre) .1 .1 .0) in
-    let back : next .wire - a .p .digits - 1 ≡ next .wire - suc (a .p .digits) = omega arith in (
-      wrote-as (a .w) (a .table .now) _ _ ((c .before .before .before .before .counter) .last .1 .0) next (votes-moved k (a .p .ballots) (a .p .digits) (a .w .wire) (a .e / k) (a .e % k) (a .e) (t .number) ((c .before .before .before .before .before .before .if1) .left)) ((c .before .before .before .before .counter) .ensures),
-      stores (eqb (a .e / k) (a .e % k)) (a .words .now) _ _ (ne-eqb (a .e / k) (a .e % k) ((c .before .before .before .before .before .before .if1) .left)) (ap (set (a .words .now) (a .e)) back),
-    )
+    let t = place k (a .e) ((c .before .before .before .before .before .before .before .before .before .pre) .ranked .k-most) ((c .before .before .before .before .before .before .before .before .before .pre) .number) in
+    let back : next .wire - a .p .digits - 1 ≡ next .wire - suc (a .p .digits) = omega arith in
+    record {
+      wrote = wrote-as (a .w) (a .table .now) _ _ ((c .before .before .before .before .counter) .last .1 .0) next (votes-moved k (a .p .ballots) (a .p .digits) (a .w .wire) (a .e / k) (a .e % k) (a .e) (t .number) ((c .before .before .before .before .before .before .if1) .left)) ((c .before .before .before .before .counter) .ensures);
+      kept = stores (eqb (a .e / k) (a .e % k)) (a .words .now) _ _ (ne-eqb (a .e / k) (a .e % k) ((c .before .before .before .before .before .before .if1) .left)) (ap (set (a .words .now) (a .e)) back);
+    }
 
 mul-words : tie.Need-mul-words
 mul-words c = search needs

@@ -9,7 +9,7 @@ use Rattle.ranked_blocks.proofs.kept.cut_at.Statement.{statement}
 use Rattle.ranked_blocks.proofs.kept.cut_at.Tie as tie
 
 sub-if1 : tie.Need-sub-if1
-sub-if1 c = c .pre .0
+sub-if1 c = c .pre .some
 
 returns : tie.Need-returns
 returns c = let a = c .before .args in sym (cut-last (a .k) (a .digits) (a .m) (a .i) (a .j) (c .if1 .taken))
@@ -22,13 +22,13 @@ next : (c : tie.Else1) → c .before .args .m < c .before .args .k - 1
 next c = omega (arith, c .if1 .left)
 
 add-result : tie.Need-add-result
-add-result c = omega (arith, c .before .before .pre .1)
+add-result c = omega (arith, c .before .before .pre .narrow)
 
 returns-2 : tie.Need-returns-2
 returns-2 c = let a = c .before .before .args in half (a .digits) ∙ sym (cut-row (a .k) (a .digits) (a .m) (a .i) (a .j) (next (c .before)) (c .if2 .taken))
 
 add-result-2 : tie.Need-add-result-2
-add-result-2 c = omega (arith, c .before .before .before .pre .1)
+add-result-2 c = omega (arith, c .before .before .before .pre .narrow)
 
 returns-3 : tie.Need-returns-3
 returns-3 c =

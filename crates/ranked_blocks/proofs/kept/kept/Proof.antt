@@ -7,19 +7,19 @@ use Rattle.ranked_blocks.proofs.kept.kept.Statement.{statement}
 use Rattle.ranked_blocks.proofs.kept.kept.Tie as tie
 
 mul-result : tie.Need-mul-result
-mul-result c = omega (arith, index-small ((c .args) .k) ((c .args) .i) ((c .args) .j) ((c .pre) .0) ((c .pre) .1) ((c .pre) .2))
+mul-result c = omega (arith, index-small ((c .args) .k) ((c .args) .i) ((c .args) .j) ((c .pre) .few) ((c .pre) .row) ((c .pre) .column))
 
 add-result : tie.Need-add-result
-add-result c = omega (arith, index-small ((c .args) .k) ((c .args) .i) ((c .args) .j) ((c .pre) .0) ((c .pre) .1) ((c .pre) .2))
+add-result c = omega (arith, index-small ((c .args) .k) ((c .args) .i) ((c .args) .j) ((c .pre) .few) ((c .pre) .row) ((c .pre) .column))
 
 cast-result : tie.Need-cast-result
-cast-result c = omega (arith, index-small ((c .args) .k) ((c .args) .i) ((c .args) .j) ((c .pre) .0) ((c .pre) .1) ((c .pre) .2))
+cast-result c = omega (arith, index-small ((c .args) .k) ((c .args) .i) ((c .args) .j) ((c .pre) .few) ((c .pre) .row) ((c .pre) .column))
 
 mul-result-2 : tie.Need-mul-result-2
-mul-result-2 c = omega (arith, index-small ((c .args) .k) ((c .args) .i) ((c .args) .j) ((c .pre) .0) ((c .pre) .1) ((c .pre) .2))
+mul-result-2 c = omega (arith, index-small ((c .args) .k) ((c .args) .i) ((c .args) .j) ((c .pre) .few) ((c .pre) .row) ((c .pre) .column))
 
 shared-slice-read-result : tie.Need-shared-slice-read-result
-shared-slice-read-result c = omega (arith, index-small ((c .before .args) .k) ((c .before .args) .i) ((c .before .args) .j) ((c .before .pre) .0) ((c .before .pre) .1) ((c .before .pre) .2), (c .before .pre) .3)
+shared-slice-read-result c = omega (arith, index-small ((c .before .args) .k) ((c .before .args) .i) ((c .before .args) .j) ((c .before .pre) .few) ((c .before .pre) .row) ((c .before .pre) .column), (c .before .pre) .long)
 
 returns : tie.Need-returns
 returns c = search needs

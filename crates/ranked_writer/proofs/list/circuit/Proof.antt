@@ -48,18 +48,23 @@ path-tables-requires : tie.Need-path-tables-requires
 path-tables-requires c κs =
     let s = c .before .before .before in
     let a = s .args in
-    (s .pre .ranked, (room-less (a .w) _ _ (omega (arith, known (a .p) (s .pre .many) .long)) (s .pre .room), (s .pre .place, refl)))
+    record {
+      ranked = s .pre .ranked;
+      room = room-less (a .w) _ _ (omega (arith, known (a .p) (s .pre .many) .long)) (s .pre .room);
+      place = s .pre .place;
+      words-long = refl;
+    }
 
 -- after the paths
 paths-end : (c : tie.After-path-tables) → c .path-tables .result .wire ≡ duelsFrom (start c .args .p .candidates) (start c .args .p .ballots) (start c .args .p .digits)
-paths-end c = let p = start c .args .p in omega (arith, c .path-tables .ensures .0 .wires, start c .pre .place, duels-from (p .candidates) (p .ballots) (p .digits))
+paths-end c = let p = start c .args .p in omega (arith, c .path-tables .ensures .wrote .wires, start c .pre .place, duels-from (p .candidates) (p .ballots) (p .digits))
 
 room-met : (c : tie.After-path-tables) → Room (c .path-tables .result) (length (duels (start c .args .p .candidates) (start c .args .p .ballots) (start c .args .p .digits)) + length (meetings (start c .args .p .candidates) (start c .args .p .ballots) (start c .args .p .digits)) + start c .args .p .candidates * (start c .args .p .candidates - 2) + start c .args .p .candidates)
 room-met c =
     let s = start c in
     let a = s .args in
     let h = c .path-tables in
-    room-after (a .w) (a .table .now) _ (h .last .1 .0) (h .result) _ _ (h .ensures .0) (omega (arith, known (a .p) (s .pre .many) .long)) (s .pre .room)
+    room-after (a .w) (a .table .now) _ (h .last .1 .0) (h .result) _ _ (h .ensures .wrote) (omega (arith, known (a .p) (s .pre .many) .long)) (s .pre .room)
 
 contests-requires : tie.Need-contests-requires
 contests-requires c κs =
@@ -68,7 +73,7 @@ contests-requires c κs =
       ranked = start q .pre .ranked;
       room = room-less (q .path-tables .result) _ _ (omega arith) (room-met q);
       place = paths-end q;
-      paths = q .path-tables .ensures .1;
+      paths = q .path-tables .ensures .kept;
       long = refl;
     }
 
@@ -91,7 +96,12 @@ loser-rows-requires : tie.Need-loser-rows-requires
 loser-rows-requires c κs =
     let q = c .before .before .before .before .before in
     let s = start (pathed q) in
-    (room-less (q .contests .result) _ _ (omega arith) (room-rows q), (s .pre .ranked .k-least, s .pre .ranked .k-most, q .contests .ensures .kept .long))
+    record {
+      room = room-less (q .contests .result) _ _ (omega arith) (room-rows q);
+      k-least = s .pre .ranked .k-least;
+      k-most = s .pre .ranked .k-most;
+      long = q .contests .ensures .kept .long;
+    }
 
 rows-size : (c : tie.After-loser-rows) → length (loserRows (keptOf (met c .contests .last .1 .1 .1 .0) (start (pathed (met c)) .args .p .candidates)) (start (pathed (met c)) .args .p .candidates - 2) (met c .contests .result .wire) (start (pathed (met c)) .args .p .candidates)) ≡ start (pathed (met c)) .args .p .candidates * (start (pathed (met c)) .args .p .candidates - 2)
 rows-size c =
@@ -105,10 +115,14 @@ output-gates-requires c κs =
     let s = start (pathed (met q)) in
     let l = met q .contests in
     let r = q .loser-rows in
-    let e = rows-size q in (
-      room-after (l .result) (l .last .1 .0) _ (r .last .1 .0) (r .result) _ _ (r .ensures) (omega (arith, e)) (room-rows (met q)),
-      (s .pre .ranked .k-least, s .pre .ranked .k-most, l .ensures .kept .long, omega (arith, r .ensures .wires, e)),
-    )
+    let e = rows-size q in
+    record {
+      room = room-after (l .result) (l .last .1 .0) _ (r .last .1 .0) (r .result) _ _ (r .ensures) (omega (arith, e)) (room-rows (met q));
+      k-least = s .pre .ranked .k-least;
+      k-most = s .pre .ranked .k-most;
+      long = l .ensures .kept .long;
+      place = omega (arith, r .ensures .wires, e);
+    }
 
 rows-are : (k n w : ℕ) (bs : List ℕ) (wire : ℕ) → k ≡ suc (suc (k - 2)) → Keeps k bs (beatsAt k n w) → wire ≡ losersFrom k n w → loserRows (keptOf bs k) (k - 2) wire k ≡ loserRows (beatsAt k n w) (k - 2) (losersFrom k n w) k
 rows-are k n w bs wire e t q =
@@ -145,7 +159,7 @@ returns c =
     wrote-as (a .w) (a .table .now) _ _ (o .last .1 .0) (o .result) (grouped k n w (k - 2) (omega (arith, s .pre .many)) two)
     (wrote-both (a .w) (a .table .now) (paths ++ met ++ rows) (r .last .1 .0) (r .result) outputs (o .last .1 .0) (o .result)
     (wrote-both (a .w) (a .table .now) (paths ++ met) (l .last .1 .0) (l .result) rows (r .last .1 .0) (r .result)
-    (wrote-both (a .w) (a .table .now) paths (h .last .1 .0) (h .result) met (l .last .1 .0) (l .result) (h .ensures .0) (l .ensures .wrote))
+    (wrote-both (a .w) (a .table .now) paths (h .last .1 .0) (h .result) met (l .last .1 .0) (l .result) (h .ensures .wrote) (l .ensures .wrote))
     (wrote-as (l .result) (l .last .1 .0) _ rows (r .last .1 .0) (r .result) (rows-are k n w bs (l .result .wire) two (l .ensures .kept) (losers-start x)) (r .ensures)))
     (wrote-as (r .result) (r .last .1 .0) _ outputs (o .last .1 .0) (o .result) (outputs-are k n w bs (l .result .wire) two (l .ensures .kept) (losers-start x)) (o .ensures)))
   where

@@ -26,21 +26,24 @@ votes-table-requires : tie.Need-votes-table-requires
 votes-table-requires c κs =
     let a = (c .before .before .before .before .before .args) in
     let p = a .p in
-    let q = (c .before .before .before .before .before .pre) .1 .1 in (
-      (c .before .before .before .before .before .pre) .0,
-      (room-less (a .w) _ _ (omega (arith, ap length (votes-from (p .candidates) (p .ballots) (p .digits) (a .w .wire) (q .0)), long (p .candidates) (p .ballots) (p .digits))) ((c .before .before .before .before .before .pre) .1 .0), (omega (arith, q .0), q .2)),
-    )
+    let q = (c .before .before .before .before .before .pre) in
+    record {
+      ranked = (c .before .before .before .before .before .pre) .ranked;
+      room = room-less (a .w) _ _ (omega (arith, ap length (votes-from (p .candidates) (p .ballots) (p .digits) (a .w .wire) (q .place)), long (p .candidates) (p .ballots) (p .digits))) ((c .before .before .before .before .before .pre) .room);
+      ballots-below = omega (arith, q .place);
+      words-long = q .words-long;
+    }
 
 kept : (c : tie.After-votes-table) → Keeps ((c .before .before .before .before .before .before .args) .p .candidates) ((c .votes-table) .last .1 .1 .0) (pathsTo ((c .before .before .before .before .before .before .args) .p .candidates) ((c .before .before .before .before .before .before .args) .p .ballots) ((c .before .before .before .before .before .before .args) .p .digits) 0 .words)
 kept c =
     let a = (c .before .before .before .before .before .before .args) in
-    votes-words (a .p .candidates) (a .p .ballots) (a .p .digits) (a .w .wire) ((c .votes-table) .last .1 .1 .0) ((c .before .before .before .before .before .before .pre) .1 .1 .0) ((c .votes-table) .ensures .1)
+    votes-words (a .p .candidates) (a .p .ballots) (a .p .digits) (a .w .wire) ((c .votes-table) .last .1 .1 .0) ((c .before .before .before .before .before .before .pre) .place) ((c .votes-table) .ensures .kept)
 
 stands : (c : tie.After-votes-table) → (c .votes-table) .result .wire ≡ linksFrom ((c .before .before .before .before .before .before .args) .p .candidates) ((c .before .before .before .before .before .before .args) .p .ballots) ((c .before .before .before .before .before .before .args) .p .digits)
 stands c =
     let a = (c .before .before .before .before .before .before .args) in
     let p = a .p in
-    omega (arith, (c .votes-table) .ensures .0 .wires, ap length (votes-from (p .candidates) (p .ballots) (p .digits) (a .w .wire) ((c .before .before .before .before .before .before .pre) .1 .1 .0)), links-from (p .candidates) (p .ballots) (p .digits), (c .before .before .before .before .before .before .pre) .1 .1 .0)
+    omega (arith, (c .votes-table) .ensures .wrote .wires, ap length (votes-from (p .candidates) (p .ballots) (p .digits) (a .w .wire) ((c .before .before .before .before .before .before .pre) .place)), links-from (p .candidates) (p .ballots) (p .digits), (c .before .before .before .before .before .before .pre) .place)
 
 same : (c : tie.After-votes-table) → table ((c .votes-table) .result .wire) ((c .before .before .before .before .before .before .args) .p .candidates) (linksBlock 0 (keptOf ((c .votes-table) .last .1 .1 .0) ((c .before .before .before .before .before .before .args) .p .candidates)) ((c .before .before .before .before .before .before .args) .p .digits)) ≡ table (linksFrom ((c .before .before .before .before .before .before .args) .p .candidates) ((c .before .before .before .before .before .before .args) .p .ballots) ((c .before .before .before .before .before .before .args) .p .digits)) ((c .before .before .before .before .before .before .args) .p .candidates) (linksBlock 0 (votesAt ((c .before .before .before .before .before .before .args) .p .candidates) ((c .before .before .before .before .before .before .args) .p .ballots) ((c .before .before .before .before .before .before .args) .p .digits)) ((c .before .before .before .before .before .before .args) .p .digits))
 same c =
@@ -56,13 +59,13 @@ links-table-requires c κs =
     let k = kept (c .before .before .before .before .before .before .before) in
     record {
       kept = record {
-        ranked = (c .before .before .before .before .before .before .before .before .before .before .before .before .before .pre) .0;
+        ranked = (c .before .before .before .before .before .before .before .before .before .before .before .before .before .pre) .ranked;
         words-long = k .long;
-        wires-long = (c .before .before .before .before .before .before .before .before .before .before .before .before .before .pre) .1 .1 .1;
+        wires-long = (c .before .before .before .before .before .before .before .before .before .before .before .before .before .pre) .links-long;
         below = votes-kept-below (p .candidates) (p .ballots) (p .digits) (v .result .wire) (v .last .1 .1 .0) (stands (c .before .before .before .before .before .before .before)) k;
       };
-      room = room-after (a .w) (a .table .now) _ (v .last .1 .0) (v .result) _ _ (v .ensures .0)
-          (omega (arith, ap length (votes-from (p .candidates) (p .ballots) (p .digits) (a .w .wire) ((c .before .before .before .before .before .before .before .before .before .before .before .before .before .pre) .1 .1 .0)), long (p .candidates) (p .ballots) (p .digits), ap length (same (c .before .before .before .before .before .before .before)))) ((c .before .before .before .before .before .before .before .before .before .before .before .before .before .pre) .1 .0);
+      room = room-after (a .w) (a .table .now) _ (v .last .1 .0) (v .result) _ _ (v .ensures .wrote)
+          (omega (arith, ap length (votes-from (p .candidates) (p .ballots) (p .digits) (a .w .wire) ((c .before .before .before .before .before .before .before .before .before .before .before .before .before .pre) .place)), long (p .candidates) (p .ballots) (p .digits), ap length (same (c .before .before .before .before .before .before .before)))) ((c .before .before .before .before .before .before .before .before .before .before .before .before .before .pre) .room);
     }
 
 returns : tie.Need-returns
@@ -72,17 +75,16 @@ returns c =
     let v = (c .before .before .before .before .before .before .before .before .before .before .before .before .votes-table) in
     let l = (c .before .before .before .before .links-table) in
     let words = pathsTo (p .candidates) (p .ballots) (p .digits) 0 .words in
-    let from = linksFrom (p .candidates) (p .ballots) (p .digits) in (
-      wrote-as (a .w) (a .table .now) _ _ (l .last .1 .0) (l .result) (sym (first-parts (p .candidates) (p .ballots) (p .digits)))
+    let from = linksFrom (p .candidates) (p .ballots) (p .digits) in
+    record {
+      wrote = wrote-as (a .w) (a .table .now) _ _ (l .last .1 .0) (l .result) (sym (first-parts (p .candidates) (p .ballots) (p .digits)))
           (wrote-both (a .w) (a .table .now) (table (p .ballots * p .candidates * p .candidates) (p .candidates) (votesBlock (p .candidates) (p .ballots) (p .digits))) (v .last .1 .0) (v .result) _ (l .last .1 .0) (l .result)
-          (wrote-as (a .w) (a .table .now) _ _ (v .last .1 .0) (v .result) (votes-from (p .candidates) (p .ballots) (p .digits) (a .w .wire) ((c .before .before .before .before .before .before .before .before .before .before .before .before .before .before .before .before .before .before .pre) .1 .1 .0)) (v .ensures .0))
-          (wrote-as (v .result) (v .last .1 .0) _ _ (l .last .1 .0) (l .result) (same (c .before .before .before .before .before .before .before .before .before .before .before .before)) (l .ensures .wrote))),
-      (
-        kept (c .before .before .before .before .before .before .before .before .before .before .before .before),
-        subst (λ (f : ℕ → ℕ → ℕ). Keeps (p .candidates) (l .last .1 .1 .1 .0) f) (link-wire-is (p .candidates) (p .ballots) (p .digits))
-            (links-kept-is (p .candidates) (p .ballots) (p .digits) words (v .last .1 .1 .0) (kept (c .before .before .before .before .before .before .before .before .before .before .before .before)) (v .result .wire) from (l .last .1 .1 .1 .0) (keptOf (a .links .now) (p .candidates)) (stands (c .before .before .before .before .before .before .before .before .before .before .before .before)) (l .ensures .kept)),
-      ),
-    )
+          (wrote-as (a .w) (a .table .now) _ _ (v .last .1 .0) (v .result) (votes-from (p .candidates) (p .ballots) (p .digits) (a .w .wire) ((c .before .before .before .before .before .before .before .before .before .before .before .before .before .before .before .before .before .before .pre) .place)) (v .ensures .wrote))
+          (wrote-as (v .result) (v .last .1 .0) _ _ (l .last .1 .0) (l .result) (same (c .before .before .before .before .before .before .before .before .before .before .before .before)) (l .ensures .wrote)));
+      words-kept = kept (c .before .before .before .before .before .before .before .before .before .before .before .before);
+      links-kept = subst (λ (f : ℕ → ℕ → ℕ). Keeps (p .candidates) (l .last .1 .1 .1 .0) f) (link-wire-is (p .candidates) (p .ballots) (p .digits))
+          (links-kept-is (p .candidates) (p .ballots) (p .digits) words (v .last .1 .1 .0) (kept (c .before .before .before .before .before .before .before .before .before .before .before .before)) (v .result .wire) from (l .last .1 .1 .1 .0) (keptOf (a .links .now) (p .candidates)) (stands (c .before .before .before .before .before .before .before .before .before .before .before .before)) (l .ensures .kept));
+    }
 
 same-length : tie.Need-same-length
 same-length c = search needs

@@ -34,15 +34,25 @@ long p e =
 first-tables-requires : tie.Need-first-tables-requires
 first-tables-requires c κs =
     let a = (c .before .before .before .before .args) in
-    ((c .before .before .before .before .pre) .0, (room-less (a .w) _ _ (omega (arith, long (a .p) ((c .before .before .before .before .pre) .1 .1 .0))) ((c .before .before .before .before .pre) .1 .0), ((c .before .before .before .before .pre) .1 .1 .1, refl, refl)))
+    record {
+      ranked = (c .before .before .before .before .pre) .ranked;
+      room = room-less (a .w) _ _ (omega (arith, long (a .p) ((c .before .before .before .before .pre) .two))) ((c .before .before .before .before .pre) .room);
+      place = (c .before .before .before .before .pre) .place;
+      links-long = refl;
+      words-long = refl;
+    }
 
 output-gates-requires : tie.Need-output-gates-requires
 output-gates-requires c κs =
     let a = (c .before .before .before .before .before .before .before .before .before .before .before .args) in
-    let f = (c .before .before .before .before .before .before .first-tables) in (
-      room-after (a .w) (a .table .now) _ (f .last .1 .0) (f .result) _ _ (f .ensures .0) (omega (arith, long (a .p) ((c .before .before .before .before .before .before .before .before .before .before .before .pre) .1 .1 .0))) ((c .before .before .before .before .before .before .before .before .before .before .before .pre) .1 .0),
-      ((c .before .before .before .before .before .before .before .before .before .before .before .pre) .0 .k-least, (c .before .before .before .before .before .before .before .before .before .before .before .pre) .0 .k-most, f .ensures .1 .1 .long, omega (arith, no-rows ((c .before .before .before .before .before .before .before .before .before .before .before .pre) .1 .1 .0))),
-    )
+    let f = (c .before .before .before .before .before .before .first-tables) in
+    record {
+      room = room-after (a .w) (a .table .now) _ (f .last .1 .0) (f .result) _ _ (f .ensures .wrote) (omega (arith, long (a .p) ((c .before .before .before .before .before .before .before .before .before .before .before .pre) .two))) ((c .before .before .before .before .before .before .before .before .before .before .before .pre) .room);
+      k-least = (c .before .before .before .before .before .before .before .before .before .before .before .pre) .ranked .k-least;
+      k-most = (c .before .before .before .before .before .before .before .before .before .before .before .pre) .ranked .k-most;
+      long = f .ensures .links-kept .long;
+      place = omega (arith, no-rows ((c .before .before .before .before .before .before .before .before .before .before .before .pre) .two));
+    }
 
 outputs-are : (k n w : ℕ) (ls : List ℕ) (wire : ℕ) → k ≡ 2 → Keeps k ls (linkWire k n w) → wire ≡ endOf k n w 0 → outputGates (keptOf ls k) (k - 2) wire k ≡ outputGates (linkWire k n w) (k - 2) (endOf k n w 0) k
 outputs-are k n w ls wire h t q =
@@ -58,9 +68,9 @@ returns c =
     let f = (c .before .before .before .before .before .before .before .before .before .first-tables) in
     let o = (c .before .before .output-gates) in
     let outputs = outputGates (linkWire k (p .ballots) (p .digits)) (k - 2) (endOf k (p .ballots) (p .digits) 0) k in
-    wrote-as (a .w) (a .table .now) _ _ (o .last .1 .0) (o .result) (sym (pair-parts k (p .ballots) (p .digits) ((c .before .before .before .before .before .before .before .before .before .before .before .before .before .before .pre) .1 .1 .0)))
-    (wrote-both (a .w) (a .table .now) (pathsTo k (p .ballots) (p .digits) 0 .gates) (f .last .1 .0) (f .result) outputs (o .last .1 .0) (o .result) (f .ensures .0)
-    (wrote-as (f .result) (f .last .1 .0) _ outputs (o .last .1 .0) (o .result) (outputs-are k (p .ballots) (p .digits) (f .last .1 .1 .0) (f .result .wire) ((c .before .before .before .before .before .before .before .before .before .before .before .before .before .before .pre) .1 .1 .0) (f .ensures .1 .1) (omega (arith, f .ensures .0 .wires, (c .before .before .before .before .before .before .before .before .before .before .before .before .before .before .pre) .1 .1 .1))) (o .ensures)))
+    wrote-as (a .w) (a .table .now) _ _ (o .last .1 .0) (o .result) (sym (pair-parts k (p .ballots) (p .digits) ((c .before .before .before .before .before .before .before .before .before .before .before .before .before .before .pre) .two)))
+    (wrote-both (a .w) (a .table .now) (pathsTo k (p .ballots) (p .digits) 0 .gates) (f .last .1 .0) (f .result) outputs (o .last .1 .0) (o .result) (f .ensures .wrote)
+    (wrote-as (f .result) (f .last .1 .0) _ outputs (o .last .1 .0) (o .result) (outputs-are k (p .ballots) (p .digits) (f .last .1 .1 .0) (f .result .wire) ((c .before .before .before .before .before .before .before .before .before .before .before .before .before .before .pre) .two) (f .ensures .links-kept) (omega (arith, f .ensures .wrote .wires, (c .before .before .before .before .before .before .before .before .before .before .before .before .before .before .pre) .place))) (o .ensures)))
 
 slice-aggregate-first-tables : tie.Need-slice-aggregate-first-tables
 slice-aggregate-first-tables c = search needs

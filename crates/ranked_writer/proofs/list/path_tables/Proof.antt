@@ -39,7 +39,13 @@ first-tables-requires : tie.Need-first-tables-requires Inv-loop μ-loop
 first-tables-requires c κs =
     let a = (c .before .before .before .before .before .args) in
     let p = a .p in
-    ((c .before .before .before .before .before .pre) .0, (room-less (a .w) _ _ (omega (arith, stages-long (p .candidates) (p .ballots) (p .digits) (p .candidates))) ((c .before .before .before .before .before .pre) .1 .0), ((c .before .before .before .before .before .pre) .1 .1 .0, refl, (c .before .before .before .before .before .pre) .1 .1 .1)))
+    record {
+      ranked = (c .before .before .before .before .before .pre) .ranked;
+      room = room-less (a .w) _ _ (omega (arith, stages-long (p .candidates) (p .ballots) (p .digits) (p .candidates))) ((c .before .before .before .before .before .pre) .room);
+      place = (c .before .before .before .before .before .pre) .place;
+      links-long = refl;
+      words-long = (c .before .before .before .before .before .pre) .words-long;
+    }
 
 nothing : (p : Ranks) → stages p 0 ≡ []
 nothing p = unfold stagesTo in refl
@@ -50,10 +56,10 @@ loop-holds c =
     let p = a .p in
     let f = (c .before .before .before .before .before .first-tables) in (
       omega arith,
-      f .ensures .1 .1,
-      omega (arith, f .ensures .0 .wires, (c .before .before .before .before .before .before .before .before .before .before .before .pre) .1 .1 .0),
+      f .ensures .links-kept,
+      omega (arith, f .ensures .wrote .wires, (c .before .before .before .before .before .before .before .before .before .before .before .pre) .place),
       wrote-as (f .result) (f .last .1 .0) _ _ (f .last .1 .0) (f .result) (sym (nothing p)) (wrote-nothing (f .result) (f .last .1 .0)),
-      f .ensures .1 .0,
+      f .ensures .words-kept,
     )
 
 -- the stage under the wires that are kept
@@ -69,18 +75,24 @@ path-table-requires c κs =
     let p = a .p in
     let l = (c .before .before .before .before .before .loop) in
     let f = (c .before .before .before .before .before .before .before .before .before .before .before .first-tables) in
-    let room₀ = room-after (a .w) (a .table .now) _ (f .last .1 .0) (f .result) (length (stages p (p .candidates))) _ (f .ensures .0) (omega (arith, stages-long (p .candidates) (p .ballots) (p .digits) (p .candidates))) ((c .before .before .before .before .before .before .before .before .before .before .before .before .before .before .before .before .before .pre) .1 .0) in
+    let room₀ = room-after (a .w) (a .table .now) _ (f .last .1 .0) (f .result) (length (stages p (p .candidates))) _ (f .ensures .wrote) (omega (arith, stages-long (p .candidates) (p .ballots) (p .digits) (p .candidates))) ((c .before .before .before .before .before .before .before .before .before .before .before .before .before .before .before .before .before .pre) .room) in
     let grow = stages-grow (p .candidates) (p .ballots) (p .digits) (p .candidates) (suc (l .m)) ((c .before .before .before .if1) .taken) in
-    let next = stages-next (p .candidates) (p .ballots) (p .digits) (l .m) in (
-      (c .before .before .before .before .before .before .before .before .before .before .before .before .before .before .before .before .before .pre) .0,
-      (
-        room-after (f .result) (f .last .1 .0) _ (l .table) (l .next) _ _ (l .inv .3) (omega (arith, ap length (same (c .before .before .before)), grow, next)) room₀,
-        ((omega (arith, (c .before .before .before .if1) .taken), l .inv .1 .long, l .inv .4 .long), kept-below (p .candidates) (p .ballots) (p .digits) (l .m) (l .words) (l .next .wire) (l .inv .4) (l .inv .2)),
-      ),
-    )
+    let next = stages-next (p .candidates) (p .ballots) (p .digits) (l .m) in
+    record {
+      ready = record {
+        kept = record {
+          ranked = (c .before .before .before .before .before .before .before .before .before .before .before .before .before .before .before .before .before .pre) .ranked;
+          words-long = l .inv .4 .long;
+          wires-long = l .inv .1 .long;
+          below = kept-below (p .candidates) (p .ballots) (p .digits) (l .m) (l .words) (l .next .wire) (l .inv .4) (l .inv .2);
+        };
+        room = room-after (f .result) (f .last .1 .0) _ (l .table) (l .next) _ _ (l .inv .3) (omega (arith, ap length (same (c .before .before .before)), grow, next)) room₀;
+      };
+      stage = omega (arith, (c .before .before .before .if1) .taken);
+    }
 
 add-m : tie.Need-add-m Inv-loop μ-loop
-add-m c = omega (arith, (c .before .before .before .before .before .before .before .before .if1) .taken, (c .before .before .before .before .before .before .before .before .before .before .before .before .before .before .before .before .before .before .before .before .before .before .pre) .0 .k-most)
+add-m c = omega (arith, (c .before .before .before .before .before .before .before .before .if1) .taken, (c .before .before .before .before .before .before .before .before .before .before .before .before .before .before .before .before .before .before .before .before .before .before .pre) .ranked .k-most)
 
 loop-less : tie.Need-loop-less Inv-loop μ-loop
 loop-less c = omega (arith, (c .before .before .before .before .before .before .before .before .if1) .taken)
@@ -98,18 +110,18 @@ loop-again c =
     let e = add-one (l .m) in (
       omega (arith, (c .before .before .before .before .before .before .before .before .if1) .taken),
       l .inv .1,
-      omega (arith, h .ensures .0 .wires, ap length (same (c .before .before .before .before .before .before .before .before)), stage-end (p .candidates) (p .ballots) (p .digits) (l .m), l .inv .2) ∙ ap (endOf (p .candidates) (p .ballots) (p .digits)) (sym e),
+      omega (arith, h .ensures .wrote .wires, ap length (same (c .before .before .before .before .before .before .before .before)), stage-end (p .candidates) (p .ballots) (p .digits) (l .m), l .inv .2) ∙ ap (endOf (p .candidates) (p .ballots) (p .digits)) (sym e),
       wrote-as (f .result) (f .last .1 .0) _ _ (h .last .1 .0) (h .result) (stages-are p (l .m) ∙ ap (stages p) (sym e))
-          (wrote-both (f .result) (f .last .1 .0) (stages p (l .m)) (l .table) (l .next) _ (h .last .1 .0) (h .result) (l .inv .3) (wrote-as (l .next) (l .table) _ _ (h .last .1 .0) (h .result) (same (c .before .before .before .before .before .before .before .before)) (h .ensures .0))),
+          (wrote-both (f .result) (f .last .1 .0) (stages p (l .m)) (l .table) (l .next) _ (h .last .1 .0) (h .result) (l .inv .3) (wrote-as (l .next) (l .table) _ _ (h .last .1 .0) (h .result) (same (c .before .before .before .before .before .before .before .before)) (h .ensures .wrote))),
       subst (λ (x : ℕ). Keeps (p .candidates) (h .last .1 .1 .1 .0) (wordsAt p x)) (sym e)
-          (stage-words (p .candidates) (p .ballots) (p .digits) (l .m) (omega (arith, (c .before .before .before .before .before .before .before .before .if1) .taken)) (f .last .1 .1 .0) (l .words) (l .inv .1) (l .inv .4) (l .next .wire) (h .last .1 .1 .1 .0) (l .inv .2) (h .ensures .1)),
+          (stage-words (p .candidates) (p .ballots) (p .digits) (l .m) (omega (arith, (c .before .before .before .before .before .before .before .before .if1) .taken)) (f .last .1 .1 .0) (l .words) (l .inv .1) (l .inv .4) (l .next .wire) (h .last .1 .1 .1 .0) (l .inv .2) (h .ensures .kept)),
     )
 
 same-length : tie.Need-same-length Inv-loop μ-loop
-same-length c = (c .before .before .loop) .inv .3 .long ∙ (c .before .before .before .before .before .before .before .before .first-tables) .ensures .0 .long
+same-length c = (c .before .before .loop) .inv .3 .long ∙ (c .before .before .before .before .before .before .before .before .first-tables) .ensures .wrote .long
 
 same-length-2 : tie.Need-same-length-2 Inv-loop μ-loop
-same-length-2 c = (c .before .before .loop) .inv .4 .long ∙ sym ((c .before .before .before .before .before .before .before .before .before .before .before .before .before .before .pre) .1 .1 .1)
+same-length-2 c = (c .before .before .loop) .inv .4 .long ∙ sym ((c .before .before .before .before .before .before .before .before .before .before .before .before .before .before .pre) .words-long)
 
 returns : tie.Need-returns Inv-loop μ-loop
 returns c =
@@ -117,11 +129,12 @@ returns c =
     let p = a .p in
     let l = (c .before .before .loop) in
     let f = (c .before .before .before .before .before .before .before .before .first-tables) in
-    let all : l .m ≡ p .candidates = omega (arith, (c .if1) .left, l .inv .0) in (
-      wrote-as (a .w) (a .table .now) _ _ (l .table) (l .next) (sym (stages-split (p .candidates) (p .ballots) (p .digits) (l .m)) ∙ ap (λ (x : ℕ). pathsTo (p .candidates) (p .ballots) (p .digits) x .gates) all)
-          (wrote-both (a .w) (a .table .now) (pathsTo (p .candidates) (p .ballots) (p .digits) 0 .gates) (f .last .1 .0) (f .result) (stages p (l .m)) (l .table) (l .next) (f .ensures .0) (l .inv .3)),
-      subst (λ (x : ℕ). Keeps (p .candidates) (l .words) (wordsAt p x)) all (l .inv .4),
-    )
+    let all : l .m ≡ p .candidates = omega (arith, (c .if1) .left, l .inv .0) in
+    record {
+      wrote = wrote-as (a .w) (a .table .now) _ _ (l .table) (l .next) (sym (stages-split (p .candidates) (p .ballots) (p .digits) (l .m)) ∙ ap (λ (x : ℕ). pathsTo (p .candidates) (p .ballots) (p .digits) x .gates) all)
+          (wrote-both (a .w) (a .table .now) (pathsTo (p .candidates) (p .ballots) (p .digits) 0 .gates) (f .last .1 .0) (f .result) (stages p (l .m)) (l .table) (l .next) (f .ensures .wrote) (l .inv .3));
+      kept = subst (λ (x : ℕ). Keeps (p .candidates) (l .words) (wordsAt p x)) all (l .inv .4);
+    }
 
 slice-aggregate-first-tables : tie.Need-slice-aggregate-first-tables Inv-loop μ-loop
 slice-aggregate-first-tables c = search needs

@@ -51,13 +51,13 @@ first-room w bytes m e h l =
     }
 
 mul-new : tie.Need-mul-new
-mul-new c = omega (arith, bytes ((c .before .args) .candidates) ((c .before .args) .ballots) ((c .before .pre) .1) ((c .before .pre) .3))
+mul-new c = omega (arith, bytes ((c .before .args) .candidates) ((c .before .args) .ballots) ((c .before .pre) .k-most) ((c .before .pre) .n-most))
 
 mul-new-2 : tie.Need-mul-new-2
-mul-new-2 c = omega (arith, bytes ((c .before .args) .candidates) ((c .before .args) .ballots) ((c .before .pre) .1) ((c .before .pre) .3))
+mul-new-2 c = omega (arith, bytes ((c .before .args) .candidates) ((c .before .args) .ballots) ((c .before .pre) .k-most) ((c .before .pre) .n-most))
 
 emit-requires : tie.Need-emit-requires
-emit-requires c κs = first-room ((c .before .before .new) .result) _ 1 ((c .before .before .new) .ensures) (bytes ((c .before .before .before .before .args) .candidates) ((c .before .before .before .before .args) .ballots) ((c .before .before .before .before .pre) .1) ((c .before .before .before .before .pre) .3) .1) (omega arith)
+emit-requires c κs = first-room ((c .before .before .new) .result) _ 1 ((c .before .before .new) .ensures) (bytes ((c .before .before .before .before .args) .candidates) ((c .before .before .before .before .args) .ballots) ((c .before .before .before .before .pre) .k-most) ((c .before .before .before .before .pre) .n-most) .1) (omega arith)
 
 returns : tie.Need-returns
 returns c =
@@ -67,17 +67,17 @@ returns c =
     (wrote-as ((c .before .before .before .before .before .new) .result) (a .table .now) _ _ (e .last .1 .0) (e .result) (single (a .candidates) (a .ballots) ((c .before .before .before .before .if1) .taken)) (constant-wrote ((c .before .before .before .before .before .new) .result) (a .table .now) (e .last .1 .0) (e .result) 0 0 0 1 (e .ensures)))
 
 cast-digits : tie.Need-cast-digits
-cast-digits c = omega (arith, (c .width) .ensures, widths ((c .before .before .before .before .args) .ballots) ((c .before .before .before .before .pre) .2) ((c .before .before .before .before .pre) .3))
+cast-digits c = omega (arith, (c .width) .ensures, widths ((c .before .before .before .before .args) .ballots) ((c .before .before .before .before .pre) .n-least) ((c .before .before .before .before .pre) .n-most))
 
 sub-digits : tie.Need-sub-digits
-sub-digits c = omega (arith, (c .width) .ensures, widths ((c .before .before .before .before .args) .ballots) ((c .before .before .before .before .pre) .2) ((c .before .before .before .before .pre) .3))
+sub-digits c = omega (arith, (c .width) .ensures, widths ((c .before .before .before .before .args) .ballots) ((c .before .before .before .before .pre) .n-least) ((c .before .before .before .before .pre) .n-most))
 
 -- the digits
 digits-are : (c : tie.After-width) → (c .width) .result - 1 ≡ widthOf ((c .before .before .before .before .args) .ballots) - 1
 digits-are c = ap (λ (x : ℕ). x - 1) ((c .width) .ensures)
 
 can-count : (c : tie.After-width) → Countable ((c .before .before .before .before .args) .ballots) 0 ((c .width) .result - 1)
-can-count c = subst (Countable ((c .before .before .before .before .args) .ballots) 0) (sym (digits-are (c))) (ranking-countable ((c .before .before .before .before .args) .ballots) ((c .before .before .before .before .pre) .2))
+can-count c = subst (Countable ((c .before .before .before .before .args) .ballots) 0) (sym (digits-are (c))) (ranking-countable ((c .before .before .before .before .args) .ballots) ((c .before .before .before .before .pre) .n-least))
 
 same-list : (c : tie.After-width) → rankedList ((c .before .before .before .before .args) .candidates) ((c .before .before .before .before .args) .ballots) ((c .width) .result - 1) ≡ ownRanking ((c .before .before .before .before .args) .candidates) ((c .before .before .before .before .args) .ballots)
 same-list c = list-is ((c .before .before .before .before .args) .candidates) ((c .before .before .before .before .args) .ballots) ((c .width) .result - 1) (digits-are (c))
@@ -85,17 +85,17 @@ same-list c = list-is ((c .before .before .before .before .args) .candidates) ((
 room : (c : tie.After-width) → Room ((c .before .before .new) .result) (length (rankedList ((c .before .before .before .before .args) .candidates) ((c .before .before .before .before .args) .ballots) ((c .width) .result - 1)))
 room c =
     let a = (c .before .before .before .before .args) in
-    let few = short (a .candidates) (a .ballots) ((c .before .before .before .before .pre) .0) ((c .before .before .before .before .pre) .1) ((c .before .before .before .before .pre) .2) ((c .before .before .before .before .pre) .3) in
-    first-room ((c .before .before .new) .result) _ _ ((c .before .before .new) .ensures) (bytes (a .candidates) (a .ballots) ((c .before .before .before .before .pre) .1) ((c .before .before .before .before .pre) .3) .1) (omega (arith, few, ap (λ (gs : List Gate). length gs) (same-list (c))))
+    let few = short (a .candidates) (a .ballots) ((c .before .before .before .before .pre) .k-least) ((c .before .before .before .before .pre) .k-most) ((c .before .before .before .before .pre) .n-least) ((c .before .before .before .before .pre) .n-most) in
+    first-room ((c .before .before .new) .result) _ _ ((c .before .before .new) .ensures) (bytes (a .candidates) (a .ballots) ((c .before .before .before .before .pre) .k-most) ((c .before .before .before .before .pre) .n-most) .1) (omega (arith, few, ap (λ (gs : List Gate). length gs) (same-list (c))))
 
 ranked : (c : tie.After-width) → Ranked (record { candidates = (c .before .before .before .before .args) .candidates; ballots = (c .before .before .before .before .args) .ballots; digits = (c .width) .result - 1 })
 ranked c =
     record {
-      k-least = two ((c .before .before .before .before .args) .candidates) ((c .before .before .before .before .pre) .0) ((c .before .if1) .left);
-      k-most = (c .before .before .before .before .pre) .1;
-      n-least = (c .before .before .before .before .pre) .2;
-      n-most = (c .before .before .before .before .pre) .3;
-      w-most = omega (arith, (c .width) .ensures, widths ((c .before .before .before .before .args) .ballots) ((c .before .before .before .before .pre) .2) ((c .before .before .before .before .pre) .3));
+      k-least = two ((c .before .before .before .before .args) .candidates) ((c .before .before .before .before .pre) .k-least) ((c .before .if1) .left);
+      k-most = (c .before .before .before .before .pre) .k-most;
+      n-least = (c .before .before .before .before .pre) .n-least;
+      n-most = (c .before .before .before .before .pre) .n-most;
+      w-most = omega (arith, (c .width) .ensures, widths ((c .before .before .before .before .args) .ballots) ((c .before .before .before .before .pre) .n-least) ((c .before .before .before .before .pre) .n-most));
       countable = can-count (c);
     }
   where
@@ -103,7 +103,13 @@ ranked c =
     two k l h = omega arith
 
 pair-circuit-requires : tie.Need-pair-circuit-requires
-pair-circuit-requires c κs = (ranked (c .before .before), (room (c .before .before), ((c .before .if2) .taken, ap (λ (v : Writer). v .wire) ((c .before .before .before .before .new) .ensures))))
+pair-circuit-requires c κs =
+    record {
+      ranked = ranked (c .before .before);
+      room = room (c .before .before);
+      two = (c .before .if2) .taken;
+      place = ap (λ (v : Writer). v .wire) ((c .before .before .before .before .new) .ensures);
+    }
 
 circuit-requires : tie.Need-circuit-requires
 circuit-requires c κs =
@@ -112,7 +118,7 @@ circuit-requires c κs =
     record {
       ranked = ranked q;
       room = room q;
-      many = three (s .args .candidates) (s .pre .0) (q .before .if1 .left) (c .before .if2 .left);
+      many = three (s .args .candidates) (s .pre .k-least) (q .before .if1 .left) (c .before .if2 .left);
       place = ap (λ (v : Writer). v .wire) (q .before .before .new .ensures);
     }
   where

@@ -26,28 +26,34 @@ own-is beats k at i s h l =
     ap (λ (z : ℕ). at + (s - z)) e ∙ sym (ap (λ (c : Bool). cond c (beats (other i s) i) (at + (s - suc (k - 2)))) (le-ltb s (suc (k - 2)) (omega arith)))
 
 other-requires : tie.Need-other-requires
-other-requires c κs = omega (arith, (c .if1) .taken, (c .before .before .pre) .1)
+other-requires c κs = omega (arith, (c .if1) .taken, (c .before .before .pre) .k-most)
 
 kept-requires : tie.Need-kept-requires
-kept-requires c κs = ((c .before .before .before .pre) .1, low ((c .before .before .before .args) .k) ((c .before .before .before .args) .i) ((c .before .before .before .args) .s) ((c .other) .result) ((c .before .before .before .pre) .0) ((c .before .if1) .taken) ((c .other) .ensures), (c .before .before .before .pre) .2, (c .before .before .before .pre) .5)
+kept-requires c κs =
+    record {
+      few = (c .before .before .before .pre) .k-most;
+      row = low ((c .before .before .before .args) .k) ((c .before .before .before .args) .i) ((c .before .before .before .args) .s) ((c .other) .result) ((c .before .before .before .pre) .k-least) ((c .before .if1) .taken) ((c .other) .ensures);
+      column = (c .before .before .before .pre) .row;
+      long = (c .before .before .before .pre) .long;
+    }
 
 returns : tie.Need-returns
-returns c = other-is (keptOf ((c .before .before .before .before .args) .beats .now) ((c .before .before .before .before .args) .k)) ((c .before .before .before .before .args) .k) ((c .before .before .before .before .args) .at) ((c .before .before .before .before .args) .i) ((c .before .before .before .before .args) .s) ((c .before .other) .result) ((c .kept) .result) ((c .before .before .before .before .pre) .0) ((c .before .before .if1) .taken) ((c .before .other) .ensures) ((c .kept) .ensures)
+returns c = other-is (keptOf ((c .before .before .before .before .args) .beats .now) ((c .before .before .before .before .args) .k)) ((c .before .before .before .before .args) .k) ((c .before .before .before .before .args) .at) ((c .before .before .before .before .args) .i) ((c .before .before .before .before .args) .s) ((c .before .other) .result) ((c .kept) .result) ((c .before .before .before .before .pre) .k-least) ((c .before .before .if1) .taken) ((c .before .other) .ensures) ((c .kept) .ensures)
 
 sub-if1 : tie.Need-sub-if1
-sub-if1 c = omega (arith, (c .before .pre) .0)
+sub-if1 c = omega (arith, (c .before .pre) .k-least)
 
 sub-result : tie.Need-sub-result
-sub-result c = omega (arith, (c .before .before .pre) .0)
+sub-result c = omega (arith, (c .before .before .pre) .k-least)
 
 sub-result-2 : tie.Need-sub-result-2
-sub-result-2 c = omega (arith, (c .if1) .left, (c .before .before .pre) .0)
+sub-result-2 c = omega (arith, (c .if1) .left, (c .before .before .pre) .k-least)
 
 add-result : tie.Need-add-result
-add-result c = omega (arith, (c .before .before .pre) .3, (c .before .before .pre) .4)
+add-result c = omega (arith, (c .before .before .pre) .few, (c .before .before .pre) .small)
 
 returns-2 : tie.Need-returns-2
-returns-2 c = own-is (keptOf ((c .before .before .args) .beats .now) ((c .before .before .args) .k)) ((c .before .before .args) .k) ((c .before .before .args) .at) ((c .before .before .args) .i) ((c .before .before .args) .s) ((c .before .before .pre) .0) (omega (arith, (c .if1) .left))
+returns-2 c = own-is (keptOf ((c .before .before .args) .beats .now) ((c .before .before .args) .k)) ((c .before .before .args) .k) ((c .before .before .args) .at) ((c .before .before .args) .i) ((c .before .before .args) .s) ((c .before .before .pre) .k-least) (omega (arith, (c .if1) .left))
 
 pub joined-spec : {M : Type 1} → statement M
 joined-spec = tie.close (tie.spec sub-if1 other-requires kept-requires returns sub-result sub-result-2 add-result returns-2)

@@ -32,22 +32,38 @@ loop-holds : tie.Need-loop-holds Inv-loop μ-loop
 loop-holds c = let a = (c .before .before .args) in (refl, omega arith, fill-start (a .w) (a .table .now) (gate (a .beats .now) (a .k) (a .w .wire) (a .i)))
 
 sub-loop : tie.Need-sub-loop Inv-loop μ-loop
-sub-loop c = omega (arith, (c .before .before .before .pre) .1 .0)
+sub-loop c = omega (arith, (c .before .before .before .pre) .k-least)
 
 mul-joined : tie.Need-mul-joined Inv-loop μ-loop
-mul-joined c = omega (arith, (c .loop-test) .taken, (c .before .before .before .before .pre) .1 .1)
+mul-joined c = omega (arith, (c .loop-test) .taken, (c .before .before .before .before .pre) .k-most)
 
 joined-requires : tie.Need-joined-requires Inv-loop μ-loop
-joined-requires c κs = ((c .before .before .before .before .pre) .1 .0, (c .before .before .before .before .pre) .1 .1, (c .before .before .before .before .pre) .1 .2, omega (arith, (c .loop-test) .taken, (c .before .before .before .before .pre) .1 .1), omega (arith, (c .before .loop) .inv .0, (c .before .before .before .before .pre) .0 .small), (c .before .before .before .before .pre) .1 .3)
+joined-requires c κs =
+    record {
+      k-least = (c .before .before .before .before .pre) .k-least;
+      k-most = (c .before .before .before .before .pre) .k-most;
+      row = (c .before .before .before .before .pre) .row;
+      few = omega (arith, (c .loop-test) .taken, (c .before .before .before .before .pre) .k-most);
+      small = omega (arith, (c .before .loop) .inv .0, (c .before .before .before .before .pre) .room .small);
+      long = (c .before .before .before .before .pre) .long;
+    }
 
 mul-joined-2 : tie.Need-mul-joined-2 Inv-loop μ-loop
-mul-joined-2 c = omega (arith, (c .before .loop-test) .taken, (c .before .before .before .before .before .pre) .1 .1)
+mul-joined-2 c = omega (arith, (c .before .loop-test) .taken, (c .before .before .before .before .before .pre) .k-most)
 
 add-joined : tie.Need-add-joined Inv-loop μ-loop
-add-joined c = omega (arith, (c .before .loop-test) .taken, (c .before .before .before .before .before .pre) .1 .1)
+add-joined c = omega (arith, (c .before .loop-test) .taken, (c .before .before .before .before .before .pre) .k-most)
 
 joined-requires-2 : tie.Need-joined-requires-2 Inv-loop μ-loop
-joined-requires-2 c κs = ((c .before .before .before .before .before .pre) .1 .0, (c .before .before .before .before .before .pre) .1 .1, (c .before .before .before .before .before .pre) .1 .2, omega (arith, (c .before .loop-test) .taken, (c .before .before .before .before .before .pre) .1 .1), omega (arith, (c .before .before .loop) .inv .0, (c .before .before .before .before .before .pre) .0 .small), (c .before .before .before .before .before .pre) .1 .3)
+joined-requires-2 c κs =
+    record {
+      k-least = (c .before .before .before .before .before .pre) .k-least;
+      k-most = (c .before .before .before .before .before .pre) .k-most;
+      row = (c .before .before .before .before .before .pre) .row;
+      few = omega (arith, (c .before .loop-test) .taken, (c .before .before .before .before .before .pre) .k-most);
+      small = omega (arith, (c .before .before .loop) .inv .0, (c .before .before .before .before .before .pre) .room .small);
+      long = (c .before .before .before .before .before .pre) .long;
+    }
 
 row-room : (w : Writer) (b : ℕ → ℕ → List Gate) (r : ℕ) → ((at e : ℕ) → length (b at e) ≡ 1) → Room w r → Room w (length (blocks (w .wire) b r))
 row-room w b r one room = room-less w _ _ (omega (arith, length-same (w .wire) b 1 one r)) room
@@ -57,10 +73,10 @@ emit-requires c κs =
     let a = (c .before .before .before .before .before .before .before .args) in
     let l = (c .before .before .before .before .loop) in
     let b = gate (a .beats .now) (a .k) (a .w .wire) (a .i) in
-    fill-room (a .w) (a .table .now) b (l .t) (a .k - 2) (l .table) (l .next) ((c .before .before .before .loop-test) .taken) (row-room (a .w) b (a .k - 2) (λ at e. refl) ((c .before .before .before .before .before .before .before .pre) .0)) (l .inv .2)
+    fill-room (a .w) (a .table .now) b (l .t) (a .k - 2) (l .table) (l .next) ((c .before .before .before .loop-test) .taken) (row-room (a .w) b (a .k - 2) (λ at e. refl) ((c .before .before .before .before .before .before .before .pre) .room)) (l .inv .2)
 
 add-t : tie.Need-add-t Inv-loop μ-loop
-add-t c = omega (arith, (c .before .before .before .before .before .before .loop-test) .taken, (c .before .before .before .before .before .before .before .before .before .before .pre) .1 .1)
+add-t c = omega (arith, (c .before .before .before .before .before .before .loop-test) .taken, (c .before .before .before .before .before .before .before .before .before .before .pre) .k-most)
 
 loop-less : tie.Need-loop-less Inv-loop μ-loop
 loop-less c = omega (arith, (c .before .before .before .before .before .before .loop-test) .taken)

@@ -33,13 +33,17 @@ loser-row-requires c κs =
     let a = (c .before .before .before .before .before .args) in
     let l = (c .before .before .loop) in
     let b = loserRow (keptOf (a .beats .now) (a .k)) (a .k - 2) in
-    let room = fill-room (a .w) (a .table .now) b (l .i) (a .k) (l .table) (l .next) ((c .before .loop-test) .taken) (rows-room (a .w) (keptOf (a .beats .now) (a .k)) (a .k) (a .k - 2) ((c .before .before .before .before .before .pre) .0)) (l .inv .1) in (
-      room-less (l .next) _ _ (omega (arith, row-length (keptOf (a .beats .now) (a .k)) (a .k - 2) (l .next .wire) (l .i))) room,
-      ((c .before .before .before .before .before .pre) .1 .0, (c .before .before .before .before .before .pre) .1 .1, (c .before .loop-test) .taken, (c .before .before .before .before .before .pre) .1 .2),
-    )
+    let room = fill-room (a .w) (a .table .now) b (l .i) (a .k) (l .table) (l .next) ((c .before .loop-test) .taken) (rows-room (a .w) (keptOf (a .beats .now) (a .k)) (a .k) (a .k - 2) ((c .before .before .before .before .before .pre) .room)) (l .inv .1) in
+    record {
+      room = room-less (l .next) _ _ (omega (arith, row-length (keptOf (a .beats .now) (a .k)) (a .k - 2) (l .next .wire) (l .i))) room;
+      k-least = (c .before .before .before .before .before .pre) .k-least;
+      k-most = (c .before .before .before .before .before .pre) .k-most;
+      row = (c .before .loop-test) .taken;
+      long = (c .before .before .before .before .before .pre) .long;
+    }
 
 add-i : tie.Need-add-i Inv-loop μ-loop
-add-i c = omega (arith, (c .before .before .before .before .loop-test) .taken, (c .before .before .before .before .before .before .before .before .pre) .1 .1)
+add-i c = omega (arith, (c .before .before .before .before .loop-test) .taken, (c .before .before .before .before .before .before .before .before .pre) .k-most)
 
 loop-less : tie.Need-loop-less Inv-loop μ-loop
 loop-less c = omega (arith, (c .before .before .before .before .loop-test) .taken)

@@ -37,22 +37,30 @@ row-low : (k i : ℕ) → k ≤ 8 → i < k → (i * (k - 2) ≤ 64) × (i * (k 
 row-low k i h l = (mul-le-mul {n₁ = i} {m₁ = k - 2} {n₂ = 8} {m₂ = 8} (omega arith) (omega arith), mul-le-mul-right {m = i} {n = k} (k - 2) (omega arith))
 
 sub-joined : tie.Need-sub-joined Inv-loop μ-loop
-sub-joined c = omega (arith, (c .before .before .before .before .pre) .1 .0)
+sub-joined c = omega (arith, (c .before .before .before .before .pre) .k-least)
 
 mul-joined : tie.Need-mul-joined Inv-loop μ-loop
-mul-joined c = omega (arith, row-low ((c .before .before .before .before .args) .k) ((c .before .loop) .i) ((c .before .before .before .before .pre) .1 .1) ((c .loop-test) .taken))
+mul-joined c = omega (arith, row-low ((c .before .before .before .before .args) .k) ((c .before .loop) .i) ((c .before .before .before .before .pre) .k-most) ((c .loop-test) .taken))
 
 add-joined : tie.Need-add-joined Inv-loop μ-loop
-add-joined c = omega (arith, row-low ((c .before .before .before .before .args) .k) ((c .before .loop) .i) ((c .before .before .before .before .pre) .1 .1) ((c .loop-test) .taken), (c .before .before .before .before .pre) .1 .3, (c .before .before .before .before .pre) .0 .small)
+add-joined c = omega (arith, row-low ((c .before .before .before .before .args) .k) ((c .before .loop) .i) ((c .before .before .before .before .pre) .k-most) ((c .loop-test) .taken), (c .before .before .before .before .pre) .place, (c .before .before .before .before .pre) .room .small)
 
 sub-joined-2 : tie.Need-sub-joined-2 Inv-loop μ-loop
-sub-joined-2 c = omega (arith, (c .before .before .before .before .pre) .1 .0)
+sub-joined-2 c = omega (arith, (c .before .before .before .before .pre) .k-least)
 
 mul-joined-2 : tie.Need-mul-joined-2 Inv-loop μ-loop
-mul-joined-2 c = omega (arith, (c .before .before .before .before .pre) .1 .1)
+mul-joined-2 c = omega (arith, (c .before .before .before .before .pre) .k-most)
 
 joined-requires : tie.Need-joined-requires Inv-loop μ-loop
-joined-requires c κs = ((c .before .before .before .before .pre) .1 .0, (c .before .before .before .before .pre) .1 .1, (c .loop-test) .taken, omega (arith, (c .before .before .before .before .pre) .1 .1), omega (arith, row-low ((c .before .before .before .before .args) .k) ((c .before .loop) .i) ((c .before .before .before .before .pre) .1 .1) ((c .loop-test) .taken), (c .before .before .before .before .pre) .1 .3, (c .before .before .before .before .pre) .0 .small), (c .before .before .before .before .pre) .1 .2)
+joined-requires c κs =
+    record {
+      k-least = (c .before .before .before .before .pre) .k-least;
+      k-most = (c .before .before .before .before .pre) .k-most;
+      row = (c .loop-test) .taken;
+      few = omega (arith, (c .before .before .before .before .pre) .k-most);
+      small = omega (arith, row-low ((c .before .before .before .before .args) .k) ((c .before .loop) .i) ((c .before .before .before .before .pre) .k-most) ((c .loop-test) .taken), (c .before .before .before .before .pre) .place, (c .before .before .before .before .pre) .room .small);
+      long = (c .before .before .before .before .pre) .long;
+    }
 
 outputs-room : (w : Writer) (b : ℕ → ℕ → List Gate) (k : ℕ) → ((at e : ℕ) → length (b at e) ≡ 1) → Room w k → Room w (length (blocks (w .wire) b k))
 outputs-room w b k one room = room-less w _ _ (omega (arith, length-same (w .wire) b 1 one k)) room
@@ -62,10 +70,10 @@ emit-requires c κs =
     let a = (c .before .before .before .before .before .before .args) in
     let l = (c .before .before .before .loop) in
     let b = gate (a .beats .now) (a .k) (a .rows) in
-    fill-room (a .w) (a .table .now) b (l .i) (a .k) (l .table) (l .next) ((c .before .before .loop-test) .taken) (outputs-room (a .w) b (a .k) (λ at e. refl) ((c .before .before .before .before .before .before .pre) .0)) (l .inv .1)
+    fill-room (a .w) (a .table .now) b (l .i) (a .k) (l .table) (l .next) ((c .before .before .loop-test) .taken) (outputs-room (a .w) b (a .k) (λ at e. refl) ((c .before .before .before .before .before .before .pre) .room)) (l .inv .1)
 
 add-i : tie.Need-add-i Inv-loop μ-loop
-add-i c = omega (arith, (c .before .before .before .before .before .loop-test) .taken, (c .before .before .before .before .before .before .before .before .before .pre) .1 .1)
+add-i c = omega (arith, (c .before .before .before .before .before .loop-test) .taken, (c .before .before .before .before .before .before .before .before .before .pre) .k-most)
 
 loop-less : tie.Need-loop-less Inv-loop μ-loop
 loop-less c = omega (arith, (c .before .before .before .before .before .loop-test) .taken)
@@ -90,7 +98,7 @@ returns : tie.Need-returns Inv-loop μ-loop
 returns c =
     let a = (c .before .before .before .before .args) in
     let l = (c .before .loop) in
-    wrote-as (a .w) (a .table .now) _ _ (l .table) (l .next) (outputs-are (keptOf (a .beats .now) (a .k)) (a .k - 2) (a .rows) (a .k) (a .w .wire) ((c .before .before .before .before .pre) .1 .3))
+    wrote-as (a .w) (a .table .now) _ _ (l .table) (l .next) (outputs-are (keptOf (a .beats .now) (a .k)) (a .k - 2) (a .rows) (a .k) (a .w .wire) ((c .before .before .before .before .pre) .place))
     (fill-end (a .w) (a .table .now) (gate (a .beats .now) (a .k) (a .rows)) (l .i) (a .k) (l .table) (l .next) (omega (arith, (c .loop-test) .left)) (l .inv .0) (l .inv .1))
 
 pub output-gates-spec : {M : Type 1} → statement M

@@ -28,14 +28,14 @@ loop-holds c =
       refl,
       omega arith,
       table-start (a .w) (a .table .now) k (stageBlock (a .w) (a .table .now) k (a .p .digits) (a .m) (a .links .now) (a .words .now)),
-      kept-start k (stays (a .m)) (stageEnd (a .w) (a .table .now) k (a .p .digits) (a .m) (a .links .now) (a .words .now)) (a .words .now) ((c .before .before .before .pre) .1 .1 .0 .2),
+      kept-start k (stays (a .m)) (stageEnd (a .w) (a .table .now) k (a .p .digits) (a .m) (a .links .now) (a .words .now)) (a .words .now) ((c .before .before .before .pre) .ready .kept .words-long),
     )
 
 mul-loop : tie.Need-mul-loop Inv-loop μ-loop
-mul-loop c = omega (arith, square-small ((c .before .before .before .before .args) .p .candidates) ((c .before .before .before .before .pre) .0 .k-most), same-square ((c .loop) .inv .0))
+mul-loop c = omega (arith, square-small ((c .before .before .before .before .args) .p .candidates) ((c .before .before .before .before .pre) .ready .kept .ranked .k-most), same-square ((c .loop) .inv .0))
 
 now : (c : tie.In-loop Inv-loop μ-loop) → Turn ((c .before .before .before .before .before .args) .p .candidates) ((c .before .before .before .before .before .args) .p .candidates) ((c .before .loop) .e)
-now c = turn refl ((c .before .before .before .before .before .pre) .0 .k-most) (omega (arith, (c .loop-test) .taken, same-square ((c .before .loop) .inv .0)))
+now c = turn refl ((c .before .before .before .before .before .pre) .ready .kept .ranked .k-most) (omega (arith, (c .loop-test) .taken, same-square ((c .before .loop) .inv .0)))
 
 path-entry-requires : tie.Need-path-entry-requires Inv-loop μ-loop
 path-entry-requires c κs =
@@ -44,16 +44,20 @@ path-entry-requires c κs =
     let l = (c .before .before .before .loop) in
     let t = now (c .before .before) in
     let block = stageBlock (a .w) (a .table .now) k (a .p .digits) (a .m) (a .links .now) (a .words .now) in
-    let same = now-agree (a .w) (a .table .now) k (a .p .digits) (a .m) (a .links .now) (a .words .now) (l .e) (l .words) (l .inv .3) ((c .before .before .before .before .before .before .before .pre) .1 .1 .0 .0) (t .few) (l .next .wire) in (
-      (c .before .before .before .before .before .before .before .pre) .0,
-      (
-        room-less (l .next) _ _ (omega (arith, ap length same)) (table-room (a .w) (a .table .now) k block (l .e) (l .table) (l .next) (t .few) ((c .before .before .before .before .before .before .before .pre) .1 .0) (l .inv .2)),
-        (
-          ((c .before .before .before .before .before .before .before .pre) .1 .1 .0 .0, t .few, (c .before .before .before .before .before .before .before .pre) .1 .1 .0 .1, l .inv .3 .long),
-          now-below (a .w) (a .table .now) k (a .p .digits) (a .m) (a .links .now) (a .words .now) (l .e) (l .words) (l .inv .3) (l .table) (l .next) (l .inv .2) ((c .before .before .before .before .before .before .before .pre) .1 .1 .1),
-        ),
-      ),
-    )
+    let same = now-agree (a .w) (a .table .now) k (a .p .digits) (a .m) (a .links .now) (a .words .now) (l .e) (l .words) (l .inv .3) ((c .before .before .before .before .before .before .before .pre) .stage) (t .few) (l .next .wire) in
+    record {
+      entry = record {
+        kept = record {
+          ranked = (c .before .before .before .before .before .before .before .pre) .ready .kept .ranked;
+          words-long = l .inv .3 .long;
+          wires-long = (c .before .before .before .before .before .before .before .pre) .ready .kept .wires-long;
+          below = now-below (a .w) (a .table .now) k (a .p .digits) (a .m) (a .links .now) (a .words .now) (l .e) (l .words) (l .inv .3) (l .table) (l .next) (l .inv .2) ((c .before .before .before .before .before .before .before .pre) .ready .kept .below);
+        };
+        number = t .few;
+        room = room-less (l .next) _ _ (omega (arith, ap length same)) (table-room (a .w) (a .table .now) k block (l .e) (l .table) (l .next) (t .few) ((c .before .before .before .before .before .before .before .pre) .ready .room) (l .inv .2));
+      };
+      stage = (c .before .before .before .before .before .before .before .pre) .stage;
+    }
 
 add-e : tie.Need-add-e Inv-loop μ-loop
 add-e c = omega (arith, now (c .before .before .before .before .before .before .before) .small)
@@ -69,12 +73,12 @@ loop-again c =
     let t = now (c .before .before .before .before .before .before .before) in
     let h = (c .before .before .before .before .path-entry) in
     let block = stageBlock (a .w) (a .table .now) k (a .p .digits) (a .m) (a .links .now) (a .words .now) in
-    let same = now-agree (a .w) (a .table .now) k (a .p .digits) (a .m) (a .links .now) (a .words .now) (l .e) (l .words) (l .inv .3) ((c .before .before .before .before .before .before .before .before .before .before .before .before .pre) .1 .1 .0 .0) (t .few) (l .next .wire) in
-    let more = table-next (a .w) (a .table .now) k block (l .e) (l .table) (l .next) (h .last .1 .0) (h .result) (l .inv .2) (wrote-as (l .next) (l .table) _ _ (h .last .1 .0) (h .result) same (h .ensures .0)) in (
+    let same = now-agree (a .w) (a .table .now) k (a .p .digits) (a .m) (a .links .now) (a .words .now) (l .e) (l .words) (l .inv .3) ((c .before .before .before .before .before .before .before .before .before .before .before .before .pre) .stage) (t .few) (l .next .wire) in
+    let more = table-next (a .w) (a .table .now) k block (l .e) (l .table) (l .next) (h .last .1 .0) (h .result) (l .inv .2) (wrote-as (l .next) (l .table) _ _ (h .last .1 .0) (h .result) same (h .ensures .wrote)) in (
       l .inv .0,
       omega (arith, t .few),
       more,
-      kept-next k (stays (a .m)) (stageEnd (a .w) (a .table .now) k (a .p .digits) (a .m) (a .links .now) (a .words .now)) (a .words .now) (l .e) (l .words) (h .last .1 .1 .1 .0) (h .result .wire - suc (a .p .digits)) (t .few) (t .small) (l .inv .3) (h .ensures .1)
+      kept-next k (stays (a .m)) (stageEnd (a .w) (a .table .now) k (a .p .digits) (a .m) (a .links .now) (a .words .now)) (a .words .now) (l .e) (l .words) (h .last .1 .1 .1 .0) (h .result .wire - suc (a .p .digits)) (t .few) (t .small) (l .inv .3) (h .ensures .kept)
           (ap (λ (x : ℕ). x - suc (a .p .digits)) (end-here (a .w) (a .table .now) k block (l .e) (l .e / k) (l .e % k) (h .last .1 .0) (h .result) (t .number) more)),
     )
 
@@ -82,17 +86,18 @@ same-length : tie.Need-same-length Inv-loop μ-loop
 same-length c = (c .before .loop) .inv .2 .long
 
 same-length-2 : tie.Need-same-length-2 Inv-loop μ-loop
-same-length-2 c = (c .before .loop) .inv .3 .long ∙ sym ((c .before .before .before .before .before .pre) .1 .1 .0 .2)
+same-length-2 c = (c .before .loop) .inv .3 .long ∙ sym ((c .before .before .before .before .before .pre) .ready .kept .words-long)
 
 returns : tie.Need-returns Inv-loop μ-loop
 returns c =
     let a = (c .before .before .before .before .before .args) in
     let k = a .p .candidates in
     let l = (c .before .loop) in
-    let all : k * k ≤ l .e = omega (arith, (c .loop-test) .left, same-square (l .inv .0)) in (
-      table-end (a .w) (a .table .now) k (stageBlock (a .w) (a .table .now) k (a .p .digits) (a .m) (a .links .now) (a .words .now)) (l .e) (l .table) (l .next) all (l .inv .1) (l .inv .2),
-      kept-end k (stays (a .m)) (stageEnd (a .w) (a .table .now) k (a .p .digits) (a .m) (a .links .now) (a .words .now)) (a .words .now) (l .e) (l .words) all (l .inv .3),
-    )
+    let all : k * k ≤ l .e = omega (arith, (c .loop-test) .left, same-square (l .inv .0)) in
+    record {
+      wrote = table-end (a .w) (a .table .now) k (stageBlock (a .w) (a .table .now) k (a .p .digits) (a .m) (a .links .now) (a .words .now)) (l .e) (l .table) (l .next) all (l .inv .1) (l .inv .2);
+      kept = kept-end k (stays (a .m)) (stageEnd (a .w) (a .table .now) k (a .p .digits) (a .m) (a .links .now) (a .words .now)) (a .words .now) (l .e) (l .words) all (l .inv .3);
+    }
 
 pub path-table-spec : {M : Type 1} → statement M
 path-table-spec = tie.close (tie.spec Inv-loop μ-loop loop-holds mul-loop path-entry-requires add-e loop-less loop-again same-length same-length-2 returns)

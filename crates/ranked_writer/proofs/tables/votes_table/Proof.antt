@@ -34,25 +34,26 @@ abbrev μ-loop : tie.MeasureT-loop
 loop-holds : tie.Need-loop-holds Inv-loop μ-loop
 loop-holds c =
     let a = (c .before .before .args) in
-    (refl, omega arith, table-start (a .w) (a .table .now) (a .p .candidates) (block (a .p)), kept-start (a .p .candidates) eqb (end (a .w .wire) (a .p)) (a .words .now) ((c .before .before .pre) .1 .1 .1))
+    (refl, omega arith, table-start (a .w) (a .table .now) (a .p .candidates) (block (a .p)), kept-start (a .p .candidates) eqb (end (a .w .wire) (a .p)) (a .words .now) ((c .before .before .pre) .words-long))
 
 mul-loop : tie.Need-mul-loop Inv-loop μ-loop
-mul-loop c = omega (arith, square-small ((c .before .before .before .args) .p .candidates) ((c .before .before .before .pre) .0 .k-most), same-square ((c .loop) .inv .0))
+mul-loop c = omega (arith, square-small ((c .before .before .before .args) .p .candidates) ((c .before .before .before .pre) .ranked .k-most), same-square ((c .loop) .inv .0))
 
 now : (c : tie.In-loop Inv-loop μ-loop) → Turn ((c .before .before .before .before .args) .p .candidates) ((c .before .before .before .before .args) .p .candidates) ((c .before .loop) .e)
-now c = turn refl ((c .before .before .before .before .pre) .0 .k-most) (omega (arith, (c .loop-test) .taken, same-square ((c .before .loop) .inv .0)))
+now c = turn refl ((c .before .before .before .before .pre) .ranked .k-most) (omega (arith, (c .loop-test) .taken, same-square ((c .before .loop) .inv .0)))
 
 votes-entry-requires : tie.Need-votes-entry-requires Inv-loop μ-loop
 votes-entry-requires c κs =
     let a = (c .before .before .before .before .before .before .args) in
     let l = (c .before .before .before .loop) in
-    let t = now (c .before .before) in (
-      (c .before .before .before .before .before .before .pre) .0,
-      (
-        table-room (a .w) (a .table .now) (a .p .candidates) (block (a .p)) (l .e) (l .table) (l .next) (t .few) ((c .before .before .before .before .before .before .pre) .1 .0) (l .inv .2),
-        (t .few, omega (arith, table-from (a .w) (a .table .now) (a .p .candidates) (block (a .p)) (l .e) (l .table) (l .next) (l .inv .2), (c .before .before .before .before .before .before .pre) .1 .1 .0), l .inv .3 .long),
-      ),
-    )
+    let t = now (c .before .before) in
+    record {
+      ranked = (c .before .before .before .before .before .before .pre) .ranked;
+      room = table-room (a .w) (a .table .now) (a .p .candidates) (block (a .p)) (l .e) (l .table) (l .next) (t .few) ((c .before .before .before .before .before .before .pre) .room) (l .inv .2);
+      number = t .few;
+      ballots-below = omega (arith, table-from (a .w) (a .table .now) (a .p .candidates) (block (a .p)) (l .e) (l .table) (l .next) (l .inv .2), (c .before .before .before .before .before .before .pre) .ballots-below);
+      words-long = l .inv .3 .long;
+    }
 
 add-e : tie.Need-add-e Inv-loop μ-loop
 add-e c = omega (arith, now (c .before .before .before .before .before .before .before) .small)
@@ -67,11 +68,11 @@ loop-again c =
     let l = (c .before .before .before .before .before .before .before .before .loop) in
     let t = now (c .before .before .before .before .before .before .before) in
     let h = (c .before .before .before .before .votes-entry) in
-    let more = table-next (a .w) (a .table .now) k (block (a .p)) (l .e) (l .table) (l .next) (h .last .1 .0) (h .result) (l .inv .2) (h .ensures .0) in (
+    let more = table-next (a .w) (a .table .now) k (block (a .p)) (l .e) (l .table) (l .next) (h .last .1 .0) (h .result) (l .inv .2) (h .ensures .wrote) in (
       l .inv .0,
       omega (arith, t .few),
       more,
-      kept-next k eqb (end (a .w .wire) (a .p)) (a .words .now) (l .e) (l .words) (h .last .1 .1 .0) (h .result .wire - suc (a .p .digits)) (t .few) (t .small) (l .inv .3) (h .ensures .1)
+      kept-next k eqb (end (a .w .wire) (a .p)) (a .words .now) (l .e) (l .words) (h .last .1 .1 .0) (h .result .wire - suc (a .p .digits)) (t .few) (t .small) (l .inv .3) (h .ensures .kept)
           (ap (λ (x : ℕ). x - suc (a .p .digits)) (end-here (a .w) (a .table .now) k (block (a .p)) (l .e) (l .e / k) (l .e % k) (h .last .1 .0) (h .result) (t .number) more)),
     )
 
@@ -79,7 +80,7 @@ same-length : tie.Need-same-length Inv-loop μ-loop
 same-length c = (c .before .loop) .inv .2 .long
 
 same-length-2 : tie.Need-same-length-2 Inv-loop μ-loop
-same-length-2 c = (c .before .loop) .inv .3 .long ∙ sym ((c .before .before .before .before .pre) .1 .1 .1)
+same-length-2 c = (c .before .loop) .inv .3 .long ∙ sym ((c .before .before .before .before .pre) .words-long)
 
 returns : tie.Need-returns Inv-loop μ-loop
 returns c =
@@ -87,10 +88,11 @@ returns c =
     let k = a .p .candidates in
     let l = (c .before .loop) in
     let all : k * k ≤ l .e = omega (arith, (c .loop-test) .left, same-square (l .inv .0)) in
-    let u = kept-end k eqb (end (a .w .wire) (a .p)) (a .words .now) (l .e) (l .words) all (l .inv .3) in (
-      table-end (a .w) (a .table .now) k (block (a .p)) (l .e) (l .table) (l .next) all (l .inv .1) (l .inv .2),
-      record { long = u .long; each = λ i j hi hj ne. u .each i j hi hj ne ∙ ap (λ (t : Bool). cond t (keptOf (a .words .now) k i j) (end (a .w .wire) (a .p) i j)) (ne-eqb i j ne) },
-    )
+    let u = kept-end k eqb (end (a .w .wire) (a .p)) (a .words .now) (l .e) (l .words) all (l .inv .3) in
+    record {
+      wrote = table-end (a .w) (a .table .now) k (block (a .p)) (l .e) (l .table) (l .next) all (l .inv .1) (l .inv .2);
+      kept = record { long = u .long; each = λ i j hi hj ne. u .each i j hi hj ne ∙ ap (λ (t : Bool). cond t (keptOf (a .words .now) k i j) (end (a .w .wire) (a .p) i j)) (ne-eqb i j ne) };
+    }
 
 pub votes-table-spec : {M : Type 1} → statement M
 votes-table-spec = tie.close (tie.spec Inv-loop μ-loop loop-holds mul-loop votes-entry-requires add-e loop-less loop-again same-length same-length-2 returns)

@@ -45,7 +45,14 @@ cast-ranked-list-2 : tie.Need-cast-ranked-list-2
 cast-ranked-list-2 c = omega (arith, ranks (c .before .before) .n-most)
 
 ranked-list-requires : tie.Need-ranked-list-requires
-ranked-list-requires c κs = let r = ranks (c .before .before .before) in (r .k-least, r .k-most, r .n-least, r .n-most)
+ranked-list-requires c κs =
+    let r = ranks (c .before .before .before) in
+    record {
+      k-least = r .k-least;
+      k-most = r .k-most;
+      n-least = r .n-least;
+      n-most = r .n-most;
+    }
 
 own-list-requires : tie.Need-own-list-requires
 own-list-requires c κs =
