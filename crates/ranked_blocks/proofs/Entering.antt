@@ -66,7 +66,9 @@ later-stays zero i j n = absurd (n refl)
 later-stays (suc l) i j n = let e : suc l - 1 ≡ l = omega arith in rw e refl
 
 pub row-stays : (m i j : ℕ) → m ≢ 0 → i ≡ m - 1 → stays m i j ≡ true
-row-stays m i j n e = later-stays m i j n ∙ or-first (eqb i (m - 1) || eqb j (m - 1)) (eqb i j) (or-first (eqb i (m - 1)) (eqb j (m - 1)) (eq-eqb i (m - 1) e))
+row-stays m i j n e = later-stays m i j n
+    ∙ or-first (eqb i (m - 1) || eqb j (m - 1)) (eqb i j)
+    (or-first (eqb i (m - 1)) (eqb j (m - 1)) (eq-eqb i (m - 1) e))
 
 pub column-stays : (m i j : ℕ) → m ≢ 0 → i ≢ j → i ≢ m - 1 → stays m i j ≡ eqb j (m - 1)
 column-stays m i j n ne r = later-stays m i j n ∙ rw (ne-eqb i (m - 1) r, ne-eqb i j ne) (only (eqb j (m - 1)))
@@ -86,12 +88,15 @@ module _ (links words : ℕ → ℕ → ℕ) (w h at i j : ℕ) where
   new-zero m z = ap (masked (links i j) (words i j)) (add-one w) ∙ sym (ap (λ (x : ℕ). newWord links words w h x at i j) z)
 
   pub new-first : (m : ℕ) → m ≡ 1
-      → smaller at (words i (m - 1)) (words (m - 1) j) w h ++ largerIf (at + orderSize w h + suc w) (links i j) (words i j) (at + orderSize w h) w h ≡ newWord links words w h m at i j
+      → smaller at (words i (m - 1)) (words (m - 1) j) w h
+      ++ largerIf (at + orderSize w h + suc w) (links i j) (words i j) (at + orderSize w h) w h
+      ≡ newWord links words w h m at i j
   unfolding newWord
   new-first m z = rw z refl
 
   pub new-later : (m : ℕ) → m ≢ 0 → m ≢ 1
-      → smaller at (words i (m - 1)) (words (m - 1) j) w h ++ larger (at + orderSize w h + suc w) (words i j) (at + orderSize w h) w h ≡ newWord links words w h m at i j
+      → smaller at (words i (m - 1)) (words (m - 1) j) w h
+      ++ larger (at + orderSize w h + suc w) (words i j) (at + orderSize w h) w h ≡ newWord links words w h m at i j
   unfolding newWord
   new-later zero n p = absurd (n refl)
   new-later (suc zero) n p = absurd (p refl)
@@ -152,7 +157,8 @@ module _ (k n w at i j : ℕ) where
 
   pub votes-moved : (e : ℕ) → i * k + j ≡ e → i ≢ j → counter at e (k * k) n 0 w ≡ votesBlock k n w at i j
   unfolding votesBlock
-  votes-moved e q ne = ap (λ (x : ℕ). counter at x (k * k) n 0 w) (sym q) ∙ sym (ap (λ (c : Bool). cond c [] (counter at (i * k + j) (k * k) n 0 w)) (ne-eqb i j ne))
+  votes-moved e q ne = ap (λ (x : ℕ). counter at x (k * k) n 0 w) (sym q)
+      ∙ sym (ap (λ (c : Bool). cond c [] (counter at (i * k + j) (k * k) n 0 w)) (ne-eqb i j ne))
 
 -- blocks once for two candidates: none unless the row is the later one and has blocks
 pub not-later : (rows : ℕ → Bool) (i j : ℕ) → i ≤ j → (ltb j i && rows i) ≡ false
@@ -182,7 +188,8 @@ module _ (first : ℕ) (words : ℕ → ℕ → ℕ) (w at i j : ℕ) where
   unfolding linksBlock laterOf
   links-kept e = sym (ap (λ (c : Bool). cond c (compare at (words i j) (words j i) w) []) e)
 
-  pub links-moved : (ltb j i && leb first i) ≡ true → (x y : ℕ) → x ≡ words i j → y ≡ words j i → compare at x y w ≡ linksBlock first words w at i j
+  pub links-moved : (ltb j i && leb first i) ≡ true → (x y : ℕ) → x ≡ words i j → y ≡ words j i → compare at x y w
+      ≡ linksBlock first words w at i j
   unfolding linksBlock laterOf
   links-moved e x y ex ey = rw (ex, ey, e)
 

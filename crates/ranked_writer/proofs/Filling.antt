@@ -9,11 +9,16 @@ use lib.ListN.{length}
 use Rattle.gates.specs.Gate.{Gate}
 use Rattle.gate_words.specs.declared.writer.Writer.{Writer}
 use Rattle.gate_words.specs.Writing.{Room, Wrote}
-use Rattle.gate_words.proofs.Writing.{wrote-nothing, room-after}
+use Rattle.gate_words.proofs.Writing.{wrote-nothing, room-after, room-less}
 use Rattle.ranked_circuit.specs.Table.{blocks, entries, table, entryEnd}
 use Rattle.ranked_blocks.proofs.Entering.{square-small}
-use Rattle.ranked_circuit.proofs.TableLaws.{startOf, start-next, start-grows, row-low, column-low, number-of}
+use Rattle.ranked_circuit.proofs.TableLaws.{startOf, start-next, start-grows, length-same, row-low, column-low, number-of}
 use Rattle.gate_words.proofs.Standing.{wrote-then}
+
+-- blocks of one gate each
+pub single-room : (w : Writer) (b : ℕ → ℕ → List Gate) (k : ℕ) → ((at e : ℕ) → length (b at e) ≡ 1) → Room w k
+    → Room w (length (blocks (w .wire) b k))
+single-room w b k one room = room-less w _ _ (omega (arith, length-same (w .wire) b 1 one k)) room
 
 module _ (w₀ : Writer) (t₀ : List ℕ) (block : ℕ → ℕ → List Gate) where
   -- after m blocks
@@ -26,16 +31,20 @@ module _ (w₀ : Writer) (t₀ : List ℕ) (block : ℕ → ℕ → List Gate) w
   pub fill-wire : (m : ℕ) (t : List ℕ) (w : Writer) → Filled m t w → w .wire ≡ startOf (w₀ .wire) block m
   fill-wire m t w a = a .wires
 
-  pub fill-next : (m : ℕ) (t : List ℕ) (w : Writer) (t₁ : List ℕ) (w₁ : Writer) → Filled m t w → Wrote w t (block (w .wire) m) t₁ w₁ → Filled (m + 1) t₁ w₁
+  pub fill-next : (m : ℕ) (t : List ℕ) (w : Writer) (t₁ : List ℕ) (w₁ : Writer) → Filled m t w
+      → Wrote w t (block (w .wire) m) t₁ w₁ → Filled (m + 1) t₁ w₁
   fill-next m t w t₁ w₁ a b =
       subst (λ (n : ℕ). Filled n t₁ w₁) (sym (add-one m))
-      (unfold blocks in (wrote-then w₀ t₀ (blocks (w₀ .wire) block m) t w (block (w .wire) m) (block (startOf (w₀ .wire) block m) m) t₁ w₁ a b (ap (λ (at : ℕ). block at m) (fill-wire m t w a))))
+      (unfold blocks in (wrote-then w₀ t₀ (blocks (w₀ .wire) block m) t w (block (w .wire) m)
+      (block (startOf (w₀ .wire) block m) m) t₁ w₁ a b (ap (λ (at : ℕ). block at m) (fill-wire m t w a))))
 
-  pub fill-room : (m most : ℕ) (t : List ℕ) (w : Writer) → m < most → Room w₀ (length (blocks (w₀ .wire) block most)) → Filled m t w → Room w (length (block (w .wire) m))
+  pub fill-room : (m most : ℕ) (t : List ℕ) (w : Writer) → m < most
+      → Room w₀ (length (blocks (w₀ .wire) block most)) → Filled m t w → Room w (length (block (w .wire) m))
   fill-room m most t w h r a =
       let next = start-next (w₀ .wire) block m in
       let here = ap (λ (at : ℕ). length (block at m)) (fill-wire m t w a) in
-      room-after w₀ t₀ (blocks (w₀ .wire) block m) t w (length (block (w .wire) m)) (length (blocks (w₀ .wire) block most)) a (omega (arith, start-grows (w₀ .wire) block most (suc m) h)) r
+      room-after w₀ t₀ (blocks (w₀ .wire) block m) t w (length (block (w .wire) m))
+      (length (blocks (w₀ .wire) block most)) a (omega (arith, start-grows (w₀ .wire) block most (suc m) h)) r
 
   pub fill-end : (m most : ℕ) (t : List ℕ) (w : Writer) → most ≤ m → m ≤ most → Filled m t w → Filled most t w
   fill-end m most t w h g a = subst (λ (n : ℕ). Filled n t w) {x = m} {y = most} (omega arith) a
@@ -53,7 +62,15 @@ pub record Turn (x k e : ℕ) : Type 0 where
 pub turn : {x k e : ℕ} → x ≡ k → k ≤ 8 → e < x * x → Turn x k e
 turn {x} {k} {e} q h l =
     let m : e < k * k = subst (λ (y : ℕ). e < y * y) q l in
-    subst (λ (y : ℕ). Turn y k e) (sym q) (record { row = row-low k e m; column = column-low k e m; number = number-of k e; few = m; small = omega (arith, square-small k h) })
+    subst (λ (y : ℕ). Turn y k e) (sym q)
+    (record {
+      row = row-low k e m;
+      column = column-low k e m;
+      number = number-of k e;
+      few = m;
+      small =
+          omega (arith, square-small k h);
+    })
 
 pub same-square : {x k : ℕ} → x ≡ k → x * x ≡ k * k
 same-square {x} {k} q = ap (λ (y : ℕ). y * y) q
@@ -70,11 +87,13 @@ module _ (w₀ : Writer) (t₀ : List ℕ) (k : ℕ) (block : ℕ → ℕ → �
   unfolding entries
   table-start = fill-start w₀ t₀ numbered
 
-  pub table-next : (e : ℕ) (t : List ℕ) (w : Writer) (t₁ : List ℕ) (w₁ : Writer) → TableTo e t w → Wrote w t (block (w .wire) (e / k) (e % k)) t₁ w₁ → TableTo (e + 1) t₁ w₁
+  pub table-next : (e : ℕ) (t : List ℕ) (w : Writer) (t₁ : List ℕ) (w₁ : Writer) → TableTo e t w
+      → Wrote w t (block (w .wire) (e / k) (e % k)) t₁ w₁ → TableTo (e + 1) t₁ w₁
   unfolding entries
   table-next e t w t₁ w₁ a b = fill-next w₀ t₀ numbered e t w t₁ w₁ a b
 
-  pub table-room : (e : ℕ) (t : List ℕ) (w : Writer) → e < k * k → Room w₀ (length (table (w₀ .wire) k block)) → TableTo e t w → Room w (length (block (w .wire) (e / k) (e % k)))
+  pub table-room : (e : ℕ) (t : List ℕ) (w : Writer) → e < k * k → Room w₀ (length (table (w₀ .wire) k block))
+      → TableTo e t w → Room w (length (block (w .wire) (e / k) (e % k)))
   unfolding entries table
   table-room e t w h r a = fill-room w₀ t₀ numbered e (k * k) t w h r a
 

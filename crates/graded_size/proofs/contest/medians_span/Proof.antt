@@ -24,8 +24,10 @@ sub-gates c = omega (arith, fits-some (c .args .count) (c .args .above) (c .pre 
 
 loop-holds : tie.Need-loop-holds Inv-loop μ-loop
 loop-holds c =
-    let a = c .args in
-    (fits-half (a .count) (a .above) (c .pre .fits), omega (arith, ones-span (a .count) (a .above), fits-some (a .count) (a .above) (c .pre .fits)))
+    let a = c .args in (
+      fits-half (a .count) (a .above) (c .pre .fits),
+      omega (arith, ones-span (a .count) (a .above), fits-some (a .count) (a .above) (c .pre .fits)),
+    )
 
 -- a turn: the digit's gates, and those left
 in-turn : (c : tie.In-loop Inv-loop μ-loop) → let l = c .before .loop in

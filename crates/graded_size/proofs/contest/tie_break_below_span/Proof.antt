@@ -19,7 +19,8 @@ few r d h k =
 
 between : (c : tie.Else2) → ((c .before .before) .args .grades - 3) * (6 * (c .before .before) .args .digits + 1) ≤ 172
 between c =
-    few ((c .before .before) .args .digits) ((c .before .before) .args .grades) ((c .before .before) .pre .narrow) ((c .before .before) .pre .few)
+    few ((c .before .before) .args .digits) ((c .before .before) .args .grades) ((c .before .before) .pre .narrow)
+    ((c .before .before) .pre .few)
 
 returns : tie.Need-returns
 returns c =

@@ -16,9 +16,16 @@ use Rattle.ranked_blocks.proofs.Entering.{Place, place, index-small, no
 use Rattle.ranked_blocks.proofs.entries.links_entry.Statement.{statement}
 use Rattle.ranked_blocks.proofs.entries.links_entry.Tie as tie
 
+-- The stages of the function, seen from later ones.
+abbrev start-from-else2 : tie.Else2 → tie.Start
+start-from-else2 c = c .before .before .before .before .before
+
+abbrev start-from-then2 : tie.Then2 → tie.Start
+start-from-then2 c = c .before .before .before .before .before
+
 -- the start; after the tests, after the block, and after the first of its wires was kept
 abbrev start : tie.Else2 → tie.Start
-start c = c .before .before .before .before .before
+start c = (start-from-else2 c)
 
 abbrev tested : tie.After-compare → tie.Else2
 tested c = c .before .before .before .before
@@ -62,17 +69,21 @@ returns c =
     let k = a .p .candidates in
     let q = not-later (leb (a .first)) (a .e / k) (a .e % k) (c .if1 .taken) in
     record {
-      wrote = wrote-as (a .w) (a .table .now) [] _ (a .table .now) (a .w) (links-kept (a .first) (keptOf (a .words .now) k) (a .p .digits) (a .w .wire) (a .e / k) (a .e % k) q) (wrote-nothing (a .w) (a .table .now));
+      wrote = wrote-as (a .w) (a .table .now) [] _ (a .table .now) (a .w)
+          (links-kept (a .first) (keptOf (a .words .now) k) (a .p .digits) (a .w .wire) (a .e / k) (a .e % k) q)
+          (wrote-nothing (a .w) (a .table .now));
       kept = same-links (leb (a .first)) (a .links .now) k (a .e / k) (a .e % k) (a .w .wire) q;
     }
 
 returns-2 : tie.Need-returns-2
 returns-2 c =
-    let a = c .before .before .before .before .before .args in
+    let a = (start-from-then2 c) .args in
     let k = a .p .candidates in
     let q = no-row (leb (a .first)) (a .e / k) (a .e % k) (lt-leb (a .first) (a .e / k) (c .if2 .taken)) in
     record {
-      wrote = wrote-as (a .w) (a .table .now) [] _ (a .table .now) (a .w) (links-kept (a .first) (keptOf (a .words .now) k) (a .p .digits) (a .w .wire) (a .e / k) (a .e % k) q) (wrote-nothing (a .w) (a .table .now));
+      wrote = wrote-as (a .w) (a .table .now) [] _ (a .table .now) (a .w)
+          (links-kept (a .first) (keptOf (a .words .now) k) (a .p .digits) (a .w .wire) (a .e / k) (a .e % k) q)
+          (wrote-nothing (a .w) (a .table .now));
       kept = same-links (leb (a .first)) (a .links .now) k (a .e / k) (a .e % k) (a .w .wire) q;
     }
 
@@ -109,13 +120,22 @@ compare-requires c κs =
     let l = f .later in
     let b = s .pre .kept .below in
     record {
-      room = room-less (a .w) _ _ (omega (arith, links-long (a .first) (keptOf (a .words .now) k) (a .p .digits) (a .w .wire) (a .e / k) (a .e % k) (f .row))) (s .pre .room);
+      room = room-less (a .w) _ _ (omega (
+        arith,
+        links-long (a .first) (keptOf (a .words .now) k) (a .p .digits) (a .w .wire) (a .e / k) (a .e % k)
+            (f .row),
+      )) (s .pre .room);
       firstBelow = omega (arith, b (a .e / k) (a .e % k) (t .row) (t .column) (λ z. omega arith), c .before .kept .ensures);
       secondBelow = omega (arith, b (a .e % k) (a .e / k) (t .column) (t .row) (λ z. omega arith), c .kept2 .ensures);
     }
 
 ended : (c : tie.After-compare) → 2 ≤ c .compare .result .wire
-ended c = let a = start (tested c) .args in omega (arith, c .compare .ensures .wires, length-whole (a .w .wire) (c .before .before .kept .result) (c .before .kept2 .result) (a .p .digits))
+ended c = let a = start (tested c) .args in
+    omega (
+      arith,
+      c .compare .ensures .wires,
+      length-whole (a .w .wire) (c .before .before .kept .result) (c .before .kept2 .result) (a .p .digits),
+    )
 
 sub-links : tie.Need-sub-links
 sub-links c = omega (arith, ended (made c))
@@ -155,7 +175,12 @@ slice-write-links-2 c =
     let d = made (c .before) in
     let s = start (tested d) in
     let k = s .args .p .candidates in
-    omega (arith, facts (tested d) .index-back, s .pre .kept .wires-long, length-set (s .args .links .now) (s .args .e / k * k + s .args .e % k) (d .compare .result .wire - 2))
+    omega (
+      arith,
+      facts (tested d) .index-back,
+      s .pre .kept .wires-long,
+      length-set (s .args .links .now) (s .args .e / k * k + s .args .e % k) (d .compare .result .wire - 2),
+    )
 
 returns-3 : tie.Need-returns-3
 returns-3 c =
@@ -166,7 +191,10 @@ returns-3 c =
     let q = facts (tested d) .row in
     let next = d .compare .result in
     record {
-      wrote = wrote-as (a .w) (a .table .now) _ _ (d .compare .last .1 .0) next (links-moved (a .first) (keptOf (a .words .now) k) (a .p .digits) (a .w .wire) (a .e / k) (a .e % k) q (d .before .before .kept .result) (d .before .kept2 .result) (d .before .before .kept .ensures) (d .before .kept2 .ensures)) (d .compare .ensures);
+      wrote = wrote-as (a .w) (a .table .now) _ _ (d .compare .last .1 .0) next
+          (links-moved (a .first) (keptOf (a .words .now) k) (a .p .digits) (a .w .wire) (a .e / k) (a .e % k) q
+          (d .before .before .kept .result) (d .before .kept2 .result) (d .before .before .kept .ensures)
+          (d .before .kept2 .ensures)) (d .compare .ensures);
       kept = new-links (leb (a .first)) (a .links .now) k (a .e / k) (a .e % k) (next .wire) q;
     }
 

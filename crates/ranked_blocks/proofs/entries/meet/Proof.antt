@@ -130,7 +130,9 @@ returns c =
     let p = three q in
     let a = start (asked p) .args in
     wrote-as (a .w) (a .table .now) _ _ (m .meeting .last .1 .0) (m .meeting .result)
-    (same-meeting _ _ _ _ _ _ _ _ _ _ _ _ (a .p .digits) (a .w .wire) (p .before .before .kept .ensures) (p .before .kept2 .ensures) (p .kept3 .ensures) (q .before .before .kept4 .ensures) (q .before .kept5 .ensures) (q .kept6 .ensures))
+    (same-meeting _ _ _ _ _ _ _ _ _ _ _ _ (a .p .digits) (a .w .wire) (p .before .before .kept .ensures)
+    (p .before .kept2 .ensures) (p .kept3 .ensures) (q .before .before .kept4 .ensures) (q .before .kept5 .ensures)
+    (q .kept6 .ensures))
     (m .meeting .ensures)
 
 same-length : tie.Need-same-length

@@ -15,9 +15,16 @@ use Rattle.ranked_blocks.proofs.Entering.{Place, place, index-small, no
 use Rattle.ranked_blocks.proofs.entries.meetings_entry.Statement.{statement}
 use Rattle.ranked_blocks.proofs.entries.meetings_entry.Tie as tie
 
+-- The stages of the function, seen from later ones.
+abbrev start-from-else2 : tie.Else2 → tie.Start
+start-from-else2 c = c .before .before .before .before .before
+
+abbrev start-from-then2 : tie.Then2 → tie.Start
+start-from-then2 c = c .before .before .before .before .before
+
 -- the start; after the tests, after the block, and after the first of its wires was kept
 abbrev start : tie.Else2 → tie.Start
-start c = c .before .before .before .before .before
+start c = (start-from-else2 c)
 
 abbrev tested : tie.After-meet → tie.Else2
 tested c = c .before .before .before
@@ -66,17 +73,21 @@ returns c =
     let k = a .p .candidates in
     let q = not-later (λ y. ltb y (k - 1)) (a .e / k) (a .e % k) (c .if1 .taken) in
     record {
-      wrote = wrote-as (a .w) (a .table .now) [] _ (a .table .now) (a .w) (meetings-kept (k - 1) (keptOf (a .words .now) k) (keptOf (a .met .now) k) (a .p .digits) (a .w .wire) (a .e / k) (a .e % k) q) (wrote-nothing (a .w) (a .table .now));
+      wrote = wrote-as (a .w) (a .table .now) [] _ (a .table .now) (a .w)
+          (meetings-kept (k - 1) (keptOf (a .words .now) k) (keptOf (a .met .now) k) (a .p .digits) (a .w .wire)
+          (a .e / k) (a .e % k) q) (wrote-nothing (a .w) (a .table .now));
       kept = same-links (λ y. ltb y (k - 1)) (a .met .now) k (a .e / k) (a .e % k) (a .w .wire) q;
     }
 
 returns-2 : tie.Need-returns-2
 returns-2 c =
-    let a = c .before .before .before .before .before .args in
+    let a = (start-from-then2 c) .args in
     let k = a .p .candidates in
     let q = no-row (λ y. ltb y (k - 1)) (a .e / k) (a .e % k) (le-ltb (a .e / k) (k - 1) (c .if2 .taken)) in
     record {
-      wrote = wrote-as (a .w) (a .table .now) [] _ (a .table .now) (a .w) (meetings-kept (k - 1) (keptOf (a .words .now) k) (keptOf (a .met .now) k) (a .p .digits) (a .w .wire) (a .e / k) (a .e % k) q) (wrote-nothing (a .w) (a .table .now));
+      wrote = wrote-as (a .w) (a .table .now) [] _ (a .table .now) (a .w)
+          (meetings-kept (k - 1) (keptOf (a .words .now) k) (keptOf (a .met .now) k) (a .p .digits) (a .w .wire)
+          (a .e / k) (a .e % k) q) (wrote-nothing (a .w) (a .table .now));
       kept = same-links (λ y. ltb y (k - 1)) (a .met .now) k (a .e / k) (a .e % k) (a .w .wire) q;
     }
 
@@ -89,7 +100,11 @@ meet-requires c κs =
     let f = facts p in
     record {
       kept = s .pre .kept;
-      room = room-less (a .w) _ _ (omega (arith, meetings-long (k - 1) (keptOf (a .words .now) k) (keptOf (a .met .now) k) (a .p .digits) (a .w .wire) (a .e / k) (a .e % k) (f .row))) (s .pre .room);
+      room = room-less (a .w) _ _ (omega (
+        arith,
+        meetings-long (k - 1) (keptOf (a .words .now) k) (keptOf (a .met .now) k) (a .p .digits) (a .w .wire)
+            (a .e / k) (a .e % k) (f .row),
+      )) (s .pre .room);
       later = f .later;
       other = f .other;
     }
@@ -98,7 +113,12 @@ ended : (c : tie.After-meet) → 2 ≤ c .meet .result .wire
 ended c =
     let a = start (tested c) .args in
     let k = a .p .candidates in
-    omega (arith, c .meet .ensures .wires, meeting-long (k - 1) (keptOf (a .words .now) k) (keptOf (a .met .now) k) (a .p .digits) (a .w .wire) (a .e / k) (a .e % k))
+    omega (
+      arith,
+      c .meet .ensures .wires,
+      meeting-long (k - 1) (keptOf (a .words .now) k) (keptOf (a .met .now) k) (a .p .digits) (a .w .wire) (a .e / k)
+          (a .e % k),
+    )
 
 sub-met : tie.Need-sub-met
 sub-met c = omega (arith, ended (made c))
@@ -138,7 +158,12 @@ slice-write-met-2 c =
     let d = made (c .before) in
     let s = start (tested d) in
     let k = s .args .p .candidates in
-    omega (arith, facts (tested d) .index-back, s .pre .kept .wires-long, length-set (s .args .met .now) (s .args .e / k * k + s .args .e % k) (d .meet .result .wire - 2))
+    omega (
+      arith,
+      facts (tested d) .index-back,
+      s .pre .kept .wires-long,
+      length-set (s .args .met .now) (s .args .e / k * k + s .args .e % k) (d .meet .result .wire - 2),
+    )
 
 returns-3 : tie.Need-returns-3
 returns-3 c =
@@ -149,7 +174,9 @@ returns-3 c =
     let q = facts (tested d) .row in
     let next = d .meet .result in
     record {
-      wrote = wrote-as (a .w) (a .table .now) _ _ (d .meet .last .1 .0) next (meetings-moved (k - 1) (keptOf (a .words .now) k) (keptOf (a .met .now) k) (a .p .digits) (a .w .wire) (a .e / k) (a .e % k) q) (d .meet .ensures);
+      wrote = wrote-as (a .w) (a .table .now) _ _ (d .meet .last .1 .0) next
+          (meetings-moved (k - 1) (keptOf (a .words .now) k) (keptOf (a .met .now) k) (a .p .digits) (a .w .wire)
+          (a .e / k) (a .e % k) q) (d .meet .ensures);
       kept = new-links (λ y. ltb y (k - 1)) (a .met .now) k (a .e / k) (a .e % k) (next .wire) q;
     }
 

@@ -16,9 +16,13 @@ use Rattle.ranked_blocks.proofs.Entering.{apart-later, new-zero, new-fi
 use Rattle.ranked_blocks.proofs.entries.new_word.Statement.{statement}
 use Rattle.ranked_blocks.proofs.entries.new_word.Tie as tie
 
+-- The stages of the function, seen from later ones.
+abbrev start-from-kept2 : tie.After-kept2 → tie.Start
+start-from-kept2 c = c .before .before .before .before .before
+
 -- the start, after the link and the word were read, and after the way's parts and the cut
 abbrev start : tie.After-kept2 → tie.Start
-start c = c .before .before .before .before .before
+start c = (start-from-kept2 c)
 
 abbrev read : tie.After-cut-at → tie.After-kept2
 read c = c .before .before .before .before
@@ -54,11 +58,13 @@ zero-same : (f v w f′ v′ : ℕ) → f ≡ f′ → v ≡ v′ → masked f v
 zero-same f v w f′ v′ ef ev = rw (ef, ev)
 
 first-same : (at f v x y w h f′ v′ x′ y′ h′ : ℕ) → f ≡ f′ → v ≡ v′ → x ≡ x′ → y ≡ y′ → h ≡ h′ →
-    smaller at x y w h ++ largerIf (at + orderSize w h + suc w) f v (at + orderSize w h) w h ≡ smaller at x′ y′ w h′ ++ largerIf (at + orderSize w h′ + suc w) f′ v′ (at + orderSize w h′) w h′
+    smaller at x y w h ++ largerIf (at + orderSize w h + suc w) f v (at + orderSize w h) w h ≡ smaller at x′ y′ w h′
+    ++ largerIf (at + orderSize w h′ + suc w) f′ v′ (at + orderSize w h′) w h′
 first-same at f v x y w h f′ v′ x′ y′ h′ ef ev ex ey eh = rw (ef, ev, ex, ey, eh)
 
 later-same : (at v x y w h v′ x′ y′ h′ : ℕ) → v ≡ v′ → x ≡ x′ → y ≡ y′ → h ≡ h′ →
-    smaller at x y w h ++ larger (at + orderSize w h + suc w) v (at + orderSize w h) w h ≡ smaller at x′ y′ w h′ ++ larger (at + orderSize w h′ + suc w) v′ (at + orderSize w h′) w h′
+    smaller at x y w h ++ larger (at + orderSize w h + suc w) v (at + orderSize w h) w h ≡ smaller at x′ y′ w h′
+    ++ larger (at + orderSize w h′ + suc w) v′ (at + orderSize w h′) w h′
 later-same at v x y w h v′ x′ y′ h′ ev ex ey eh = rw (ev, ex, ey, eh)
 
 -- a link's strength
@@ -71,7 +77,11 @@ masked-requires c κs =
     let k = a .p .candidates in
     let ne : a .i ≢ a .j = apart-zero (a .i) (a .j) (ap (λ (x : ℕ). stays x (a .i) (a .j)) (sym (t .if1 .taken)) ∙ s .pre .moves) in
     record {
-      room = room-less (a .w) _ _ (omega (arith, long-zero (keptOf (a .links .now) k) (keptOf (a .words .now) k) (a .p .digits) (cutOf s) (a .w .wire) (a .i) (a .j) (within s) (a .m) (t .if1 .taken))) (s .pre .room);
+      room = room-less (a .w) _ _ (omega (
+        arith,
+        long-zero (keptOf (a .links .now) k) (keptOf (a .words .now) k) (a .p .digits) (cutOf s) (a .w .wire)
+            (a .i) (a .j) (within s) (a .m) (t .if1 .taken),
+      )) (s .pre .room);
       below = omega (arith, s .pre .kept .below (a .i) (a .j) (s .pre .row) (s .pre .column) ne, r .kept2 .ensures);
     }
 
@@ -84,8 +94,10 @@ returns c =
     let a = s .args in
     let k = a .p .candidates in
     wrote-as (a .w) (a .table .now) _ _ (d .masked .last .1 .0) (d .masked .result)
-    (zero-same (r .before .kept .result) (r .kept2 .result) (a .p .digits) (keptOf (a .links .now) k (a .i) (a .j)) (keptOf (a .words .now) k (a .i) (a .j)) (r .before .kept .ensures) (r .kept2 .ensures)
-    ∙ new-zero (keptOf (a .links .now) k) (keptOf (a .words .now) k) (a .p .digits) (cutOf s) (a .w .wire) (a .i) (a .j) (a .m) (t .if1 .taken)) (d .masked .ensures)
+    (zero-same (r .before .kept .result) (r .kept2 .result) (a .p .digits) (keptOf (a .links .now) k (a .i) (a .j))
+    (keptOf (a .words .now) k (a .i) (a .j)) (r .before .kept .ensures) (r .kept2 .ensures)
+    ∙ new-zero (keptOf (a .links .now) k) (keptOf (a .words .now) k) (a .p .digits) (cutOf s) (a .w .wire) (a .i)
+    (a .j) (a .m) (t .if1 .taken)) (d .masked .ensures)
 
 -- the candidate of the detour
 over : (s : tie.Start) → s .args .m - 1 < s .args .p .candidates
@@ -126,7 +138,9 @@ pub record Read (w : ℕ) (digits v x y cut : ℕ) : Type 0 where
   pub from : y + suc digits ≤ w
   pub most : cut ≤ digits
 
-below : (c : tie.After-cut-at) → Read (start (read c) .args .w .wire) (start (read c) .args .p .digits) (read c .kept2 .result) (c .before .before .kept3 .result) (c .before .kept4 .result) (c .cut-at .result)
+below : (c : tie.After-cut-at)
+    → Read (start (read c) .args .w .wire) (start (read c) .args .p .digits) (read c .kept2 .result)
+    (c .before .before .kept3 .result) (c .before .kept4 .result) (c .cut-at .result)
 below c =
     let r = read c in
     let s = start r in
@@ -149,7 +163,12 @@ link-or-way-requires c κs =
     let k = a .p .candidates in
     let b = below q in
     record {
-      room = room-less (a .w) _ _ (omega (arith, long-first (keptOf (a .links .now) k) (keptOf (a .words .now) k) (a .p .digits) (cutOf s) (a .w .wire) (a .i) (a .j) (within s) (a .m) (t .if2 .taken), q .cut-at .ensures)) (s .pre .room);
+      room = room-less (a .w) _ _ (omega (
+        arith,
+        long-first (keptOf (a .links .now) k) (keptOf (a .words .now) k) (a .p .digits) (cutOf s) (a .w .wire)
+            (a .i) (a .j) (within s) (a .m) (t .if2 .taken),
+        q .cut-at .ensures,
+      )) (s .pre .room);
       wordBelow = b .word;
       toBelow = b .to;
       fromBelow = b .from;
@@ -167,9 +186,12 @@ returns-2 c =
     let k = a .p .candidates in
     let words = keptOf (a .words .now) k in
     wrote-as (a .w) (a .table .now) _ _ (d .link-or-way .last .1 .0) (d .link-or-way .result)
-    (first-same (a .w .wire) (r .before .kept .result) (r .kept2 .result) (q .before .before .kept3 .result) (q .before .kept4 .result) (a .p .digits) (q .cut-at .result) (keptOf (a .links .now) k (a .i) (a .j)) (words (a .i) (a .j)) (words (a .i) (a .m - 1)) (words (a .m - 1) (a .j)) (cutOf s)
+    (first-same (a .w .wire) (r .before .kept .result) (r .kept2 .result) (q .before .before .kept3 .result)
+    (q .before .kept4 .result) (a .p .digits) (q .cut-at .result) (keptOf (a .links .now) k (a .i) (a .j))
+    (words (a .i) (a .j)) (words (a .i) (a .m - 1)) (words (a .m - 1) (a .j)) (cutOf s)
     (r .before .kept .ensures) (r .kept2 .ensures) (q .before .before .kept3 .ensures) (q .before .kept4 .ensures) (q .cut-at .ensures)
-    ∙ new-first (keptOf (a .links .now) k) words (a .p .digits) (cutOf s) (a .w .wire) (a .i) (a .j) (a .m) (t .if2 .taken)) (d .link-or-way .ensures)
+    ∙ new-first (keptOf (a .links .now) k) words (a .p .digits) (cutOf s) (a .w .wire) (a .i) (a .j) (a .m)
+    (t .if2 .taken)) (d .link-or-way .ensures)
 
 path-or-way-requires : tie.Need-path-or-way-requires
 path-or-way-requires c κs =
@@ -180,7 +202,12 @@ path-or-way-requires c κs =
     let k = a .p .candidates in
     let b = below q in
     record {
-      room = room-less (a .w) _ _ (omega (arith, long-later (keptOf (a .links .now) k) (keptOf (a .words .now) k) (a .p .digits) (cutOf s) (a .w .wire) (a .i) (a .j) (within s) (a .m) (q .before .before .before .if1 .left) (t .if2 .left), q .cut-at .ensures)) (s .pre .room);
+      room = room-less (a .w) _ _ (omega (
+        arith,
+        long-later (keptOf (a .links .now) k) (keptOf (a .words .now) k) (a .p .digits) (cutOf s) (a .w .wire)
+            (a .i) (a .j) (within s) (a .m) (q .before .before .before .if1 .left) (t .if2 .left),
+        q .cut-at .ensures,
+      )) (s .pre .room);
       wordBelow = b .word;
       toBelow = b .to;
       fromBelow = b .from;
@@ -198,9 +225,12 @@ returns-3 c =
     let k = a .p .candidates in
     let words = keptOf (a .words .now) k in
     wrote-as (a .w) (a .table .now) _ _ (d .path-or-way .last .1 .0) (d .path-or-way .result)
-    (later-same (a .w .wire) (r .kept2 .result) (q .before .before .kept3 .result) (q .before .kept4 .result) (a .p .digits) (q .cut-at .result) (words (a .i) (a .j)) (words (a .i) (a .m - 1)) (words (a .m - 1) (a .j)) (cutOf s)
+    (later-same (a .w .wire) (r .kept2 .result) (q .before .before .kept3 .result) (q .before .kept4 .result)
+    (a .p .digits) (q .cut-at .result) (words (a .i) (a .j)) (words (a .i) (a .m - 1)) (words (a .m - 1) (a .j))
+    (cutOf s)
     (r .kept2 .ensures) (q .before .before .kept3 .ensures) (q .before .kept4 .ensures) (q .cut-at .ensures)
-    ∙ new-later (keptOf (a .links .now) k) words (a .p .digits) (cutOf s) (a .w .wire) (a .i) (a .j) (a .m) (q .before .before .before .if1 .left) (t .if2 .left)) (d .path-or-way .ensures)
+    ∙ new-later (keptOf (a .links .now) k) words (a .p .digits) (cutOf s) (a .w .wire) (a .i) (a .j) (a .m)
+    (q .before .before .before .if1 .left) (t .if2 .left)) (d .path-or-way .ensures)
 
 add-masked : tie.Need-add-masked
 add-masked c = omega (arith, start (c .before .before .before) .pre .kept .ranked .w-most)

@@ -25,7 +25,8 @@ add-result : tie.Need-add-result
 add-result c = omega (arith, c .before .before .pre .narrow)
 
 returns-2 : tie.Need-returns-2
-returns-2 c = let a = c .before .before .args in half (a .digits) ∙ sym (cut-row (a .k) (a .digits) (a .m) (a .i) (a .j) (next (c .before)) (c .if2 .taken))
+returns-2 c = let a = c .before .before .args in half (a .digits)
+    ∙ sym (cut-row (a .k) (a .digits) (a .m) (a .i) (a .j) (next (c .before)) (c .if2 .taken))
 
 add-result-2 : tie.Need-add-result-2
 add-result-2 c = omega (arith, c .before .before .before .pre .narrow)
@@ -33,10 +34,13 @@ add-result-2 c = omega (arith, c .before .before .before .pre .narrow)
 returns-3 : tie.Need-returns-3
 returns-3 c =
     let a = c .before .before .before .args in
-    half (a .digits) ∙ sym (cut-column (a .k) (a .digits) (a .m) (a .i) (a .j) (next (c .before .before)) (c .before .if2 .left) (c .if3 .taken))
+    half (a .digits) ∙ sym (cut-column (a .k) (a .digits) (a .m) (a .i) (a .j) (next (c .before .before))
+    (c .before .if2 .left) (c .if3 .taken))
 
 returns-4 : tie.Need-returns-4
-returns-4 c = let a = c .before .before .before .args in sym (cut-none (a .k) (a .digits) (a .m) (a .i) (a .j) (next (c .before .before)) (c .before .if2 .left) (c .if3 .left))
+returns-4 c = let a = c .before .before .before .args in
+    sym (cut-none (a .k) (a .digits) (a .m) (a .i) (a .j) (next (c .before .before)) (c .before .if2 .left)
+    (c .if3 .left))
 
 pub cut-at-spec : {M : Type 1} → statement M
 cut-at-spec =

@@ -19,7 +19,12 @@ mul-result-2 : tie.Need-mul-result-2
 mul-result-2 c = omega (arith, index-small ((c .args) .k) ((c .args) .i) ((c .args) .j) ((c .pre) .few) ((c .pre) .row) ((c .pre) .column))
 
 shared-slice-read-result : tie.Need-shared-slice-read-result
-shared-slice-read-result c = omega (arith, index-small ((c .before .args) .k) ((c .before .args) .i) ((c .before .args) .j) ((c .before .pre) .few) ((c .before .pre) .row) ((c .before .pre) .column), (c .before .pre) .long)
+shared-slice-read-result c = omega (
+  arith,
+  index-small ((c .before .args) .k) ((c .before .args) .i) ((c .before .args) .j) ((c .before .pre) .few)
+      ((c .before .pre) .row) ((c .before .pre) .column),
+  (c .before .pre) .long,
+)
 
 returns : tie.Need-returns
 returns c = search needs

@@ -34,9 +34,19 @@ add-compare-words-3 c = search needs
 add-compare-words-4 : tie.Need-add-compare-words-4
 add-compare-words-4 c = search needs
 
+-- The stages of the function, seen from later ones.
+abbrev start-from-compare-words-arg : tie.After-compare-words-arg → tie.Start
+start-from-compare-words-arg c = c .before .before .before .before .before .before
+
+abbrev start-from-compare-words : tie.After-compare-words → tie.Start
+start-from-compare-words c = c .before .before .before .before .before .before .before
+
+abbrev first-digit-from-slice-known3 : tie.After-slice-known3 → tie.After-first-digit
+first-digit-from-slice-known3 c = c .before .before .before .before .before .before
+
 compare-words-requires : tie.Need-compare-words-requires
 compare-words-requires c κs =
-    let a = (c .before .before .before .before .before .before .args) in
+    let a = ((start-from-compare-words-arg c) .args) in
     let e = lowest (c .before .before .before) in
     let n = (c .before .before .before .first-digit) .result .wire in
     record {
@@ -44,23 +54,23 @@ compare-words-requires c κs =
           ((c .before .before .before .first-digit) .result) 3 _ _
           ((c .before .before .before .first-digit) .ensures) (length-first-digit (a .w .wire) (a .x) (a .y))
           (omega (arith, length-compare n (a .x + 1) (a .y + 1) (a .w .wire + 1) (a .w .wire + 2) (a .digits)))
-          (c .before .before .before .before .before .before .pre .room);
-      firstBelow = omega (arith, c .before .before .before .before .before .before .pre .firstBelow);
-      secondBelow = omega (arith, c .before .before .before .before .before .before .pre .secondBelow);
+          ((start-from-compare-words-arg c) .pre .room);
+      firstBelow = omega (arith, (start-from-compare-words-arg c) .pre .firstBelow);
+      secondBelow = omega (arith, (start-from-compare-words-arg c) .pre .secondBelow);
     }
 
 returns : tie.Need-returns
 unfolding compare
 returns c =
-    let a = (c .before .before .before .before .before .before .before .before .before .args) in
+    let a = ((start-from-compare-words (c .before .before)) .args) in
     wrote-then (a .w) (a .table .now) _
-    ((c .before .before .before .before .before .before .first-digit) .last .1 .0)
-    ((c .before .before .before .before .before .before .first-digit) .result) _ _
+    (((first-digit-from-slice-known3 c) .first-digit) .last .1 .0)
+    (((first-digit-from-slice-known3 c) .first-digit) .result) _ _
     ((c .before .before .compare-words) .last .1 .0) ((c .before .before .compare-words) .result)
-    ((c .before .before .before .before .before .before .first-digit) .ensures)
+    (((first-digit-from-slice-known3 c) .first-digit) .ensures)
     ((c .before .before .compare-words) .ensures)
     (ap (λ (n : ℕ). compareWords n (a .x + 1) (a .y + 1) (a .w .wire + 1) (a .w .wire + 2) (a .digits))
-    (lowest (c .before .before .before .before .before .before)))
+    (lowest (first-digit-from-slice-known3 c)))
 
 same-length : tie.Need-same-length
 same-length c = search needs

@@ -32,29 +32,39 @@ differ c = behind ((c .before .before .before .args) .w) ((c .before .before .be
 add-above : tie.Need-add-above
 add-above c = search needs
 
+-- The stages of the function, seen from later ones.
+abbrev start-from-above-arg : tie.After-above-arg → tie.Start
+start-from-above-arg c = c .before .before .before .before .before .before
+
+abbrev start-from-above : tie.After-above → tie.Start
+start-from-above c = c .before .before .before .before .before .before .before
+
+abbrev differences-from-slice-known3 : tie.After-slice-known3 → tie.After-differences
+differences-from-slice-known3 c = c .before .before .before .before .before .before
+
 above-requires : tie.Need-above-requires
 above-requires c κs =
-    let a = (c .before .before .before .before .before .before .args) in
+    let a = ((start-from-above-arg c) .args) in
     let e = differ (c .before .before .before) in
     record {
       room = room-behind (a .w) (a .table .now) _ ((c .before .before .before .differences) .last .1 .0)
           ((c .before .before .before .differences) .result) (a .digits) (a .digits) _
           ((c .before .before .before .differences) .ensures) (length-differences (a .x + 1) (a .y + 1) (a .digits))
-          (omega arith) (c .before .before .before .before .before .before .pre .room);
+          (omega arith) ((start-from-above-arg c) .pre .room);
       firstBelow = omega arith;
-      secondBelow = omega (arith, c .before .before .before .before .before .before .pre .firstBelow);
+      secondBelow = omega (arith, (start-from-above-arg c) .pre .firstBelow);
     }
 
 returns : tie.Need-returns
 unfolding order
 returns c =
-    let a = (c .before .before .before .before .before .before .before .before .before .args) in
+    let a = ((start-from-above (c .before .before)) .args) in
     wrote-then (a .w) (a .table .now) _
-    ((c .before .before .before .before .before .before .differences) .last .1 .0)
-    ((c .before .before .before .before .before .before .differences) .result) _ _
+    (((differences-from-slice-known3 c) .differences) .last .1 .0)
+    (((differences-from-slice-known3 c) .differences) .result) _ _
     ((c .before .before .above) .last .1 .0) ((c .before .before .above) .result)
-    ((c .before .before .before .before .before .before .differences) .ensures) ((c .before .before .above) .ensures)
-    (ap (λ (n : ℕ). above n (a .w .wire) (a .x + 1) (a .x) (a .digits)) (differ (c .before .before .before .before .before .before)))
+    (((differences-from-slice-known3 c) .differences) .ensures) ((c .before .before .above) .ensures)
+    (ap (λ (n : ℕ). above n (a .w .wire) (a .x + 1) (a .x) (a .digits)) (differ (differences-from-slice-known3 c)))
 
 same-length : tie.Need-same-length
 same-length c = search needs

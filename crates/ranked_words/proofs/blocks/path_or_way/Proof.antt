@@ -15,8 +15,12 @@ use Rattle.ranked_words.proofs.blocks.path_or_way.Tie as tie
 abbrev start : tie.After-one-of → tie.Start
 start c = c .before .before .before
 
+-- The stages of the function, seen from later ones.
+abbrev one-of-from-one-of2 : tie.After-one-of2 → tie.After-one-of
+one-of-from-one-of2 c = c .before .before .before .before .before
+
 abbrev weaker : tie.After-one-of2 → tie.After-one-of
-weaker c = c .before .before .before .before .before
+weaker c = (one-of-from-one-of2 c)
 
 one-of-requires : tie.Need-one-of-requires
 one-of-requires c κs =

@@ -23,54 +23,86 @@ two {k} h = omega arith
 no-rows : {k : ℕ} → k ≡ 2 → k * (k - 2) ≡ 0
 no-rows {k} e = rw e refl
 
-long : (p : Ranks) → p .candidates ≡ 2 → length (rankedList (p .candidates) (p .ballots) (p .digits)) ≡ length (pathsTo (p .candidates) (p .ballots) (p .digits) 0 .gates) + p .candidates
+long : (p : Ranks) → p .candidates ≡ 2 → length (rankedList (p .candidates) (p .ballots) (p .digits))
+    ≡ length (pathsTo (p .candidates) (p .ballots) (p .digits) 0 .gates) + p .candidates
 long p e =
     let k = p .candidates in
     let paths = pathsTo k (p .ballots) (p .digits) 0 .gates in
     let outputs = outputGates (linkWire k (p .ballots) (p .digits)) (k - 2) (endOf k (p .ballots) (p .digits) 0) k in
     ap length (pair-parts k (p .ballots) (p .digits) e)
-    ∙ omega (arith, length-append paths outputs, outputs-long k (p .ballots) (p .digits) (linkWire k (p .ballots) (p .digits)) (k - 2) (endOf k (p .ballots) (p .digits) 0) (two e))
+    ∙ omega (
+      arith,
+      length-append paths outputs,
+      outputs-long k (p .ballots) (p .digits) (linkWire k (p .ballots) (p .digits)) (k - 2)
+          (endOf k (p .ballots) (p .digits) 0) (two e),
+    )
 
 first-tables-requires : tie.Need-first-tables-requires
 first-tables-requires c κs =
     let a = (c .before .before .before .before .args) in
     record {
       ranked = (c .before .before .before .before .pre) .ranked;
-      room = room-less (a .w) _ _ (omega (arith, long (a .p) ((c .before .before .before .before .pre) .two))) ((c .before .before .before .before .pre) .room);
+      room = room-less (a .w) _ _ (omega (arith, long (a .p) ((c .before .before .before .before .pre) .two)))
+          ((c .before .before .before .before .pre) .room);
       place = (c .before .before .before .before .pre) .place;
       links-long = refl;
       words-long = refl;
     }
 
+-- The stages of the function, seen from later ones.
+abbrev start-from-links : tie.After-links → tie.Start
+start-from-links c = c .before .before .before
+
+abbrev start-from-links3 : tie.After-links3 → tie.Start
+start-from-links3 c = start-from-links (c .before .before .before .before .before .before .before .before)
+
+abbrev first-tables-from-links3 : tie.After-links3 → tie.After-first-tables
+first-tables-from-links3 c = c .before .before .before .before .before .before
+
+abbrev start-from-output-gates : tie.After-output-gates → tie.Start
+start-from-output-gates c = start-from-links3 (c .before)
+
+abbrev first-tables-from-output-gates : tie.After-output-gates → tie.After-first-tables
+first-tables-from-output-gates c = c .before .before .before .before .before .before .before
+
 output-gates-requires : tie.Need-output-gates-requires
 output-gates-requires c κs =
-    let a = (c .before .before .before .before .before .before .before .before .before .before .before .args) in
-    let f = (c .before .before .before .before .before .before .first-tables) in
+    let a = ((start-from-links3 c) .args) in
+    let f = ((first-tables-from-links3 c) .first-tables) in
     record {
-      room = room-after (a .w) (a .table .now) _ (f .last .1 .0) (f .result) _ _ (f .ensures .wrote) (omega (arith, long (a .p) ((c .before .before .before .before .before .before .before .before .before .before .before .pre) .two))) ((c .before .before .before .before .before .before .before .before .before .before .before .pre) .room);
-      k-least = (c .before .before .before .before .before .before .before .before .before .before .before .pre) .ranked .k-least;
-      k-most = (c .before .before .before .before .before .before .before .before .before .before .before .pre) .ranked .k-most;
+      room = room-after (a .w) (a .table .now) _ (f .last .1 .0) (f .result) _ _ (f .ensures .wrote)
+          (omega (arith, long (a .p) (((start-from-links3 c) .pre) .two))) (((start-from-links3 c) .pre) .room);
+      k-least = ((start-from-links3 c) .pre) .ranked .k-least;
+      k-most = ((start-from-links3 c) .pre) .ranked .k-most;
       long = f .ensures .links-kept .long;
-      place = omega (arith, no-rows ((c .before .before .before .before .before .before .before .before .before .before .before .pre) .two));
+      place = omega (arith, no-rows (((start-from-links3 c) .pre) .two));
     }
 
-outputs-are : (k n w : ℕ) (ls : List ℕ) (wire : ℕ) → k ≡ 2 → Keeps k ls (linkWire k n w) → wire ≡ endOf k n w 0 → outputGates (keptOf ls k) (k - 2) wire k ≡ outputGates (linkWire k n w) (k - 2) (endOf k n w 0) k
+outputs-are : (k n w : ℕ) (ls : List ℕ) (wire : ℕ) → k ≡ 2 → Keeps k ls (linkWire k n w) → wire ≡ endOf k n w 0
+    → outputGates (keptOf ls k) (k - 2) wire k ≡ outputGates (linkWire k n w) (k - 2) (endOf k n w 0) k
 outputs-are k n w ls wire h t q =
     let e = two h in
     ap (λ (x : ℕ). outputGates (keptOf ls k) (k - 2) x k) q
-    ∙ outputs-agree (k - 2) (keptOf ls k) (linkWire k n w) (λ i j hi hj ne. t .each i j (omega arith) (omega arith) ne) (endOf k n w 0) k (omega arith)
+    ∙ outputs-agree (k - 2) (keptOf ls k) (linkWire k n w)
+    (λ i j hi hj ne. t .each i j (omega arith) (omega arith) ne) (endOf k n w 0) k (omega arith)
 
 returns : tie.Need-returns
 returns c =
-    let a = (c .before .before .before .before .before .before .before .before .before .before .before .before .before .before .args) in
+    let a = ((start-from-output-gates (c .before .before)) .args) in
     let p = a .p in
     let k = p .candidates in
-    let f = (c .before .before .before .before .before .before .before .before .before .first-tables) in
+    let f = ((first-tables-from-output-gates (c .before .before)) .first-tables) in
     let o = (c .before .before .output-gates) in
     let outputs = outputGates (linkWire k (p .ballots) (p .digits)) (k - 2) (endOf k (p .ballots) (p .digits) 0) k in
-    wrote-as (a .w) (a .table .now) _ _ (o .last .1 .0) (o .result) (sym (pair-parts k (p .ballots) (p .digits) ((c .before .before .before .before .before .before .before .before .before .before .before .before .before .before .pre) .two)))
-    (wrote-both (a .w) (a .table .now) (pathsTo k (p .ballots) (p .digits) 0 .gates) (f .last .1 .0) (f .result) outputs (o .last .1 .0) (o .result) (f .ensures .wrote)
-    (wrote-as (f .result) (f .last .1 .0) _ outputs (o .last .1 .0) (o .result) (outputs-are k (p .ballots) (p .digits) (f .last .1 .1 .0) (f .result .wire) ((c .before .before .before .before .before .before .before .before .before .before .before .before .before .before .pre) .two) (f .ensures .links-kept) (omega (arith, f .ensures .wrote .wires, (c .before .before .before .before .before .before .before .before .before .before .before .before .before .before .pre) .place))) (o .ensures)))
+    wrote-as (a .w) (a .table .now) _ _ (o .last .1 .0) (o .result)
+    (sym (pair-parts k (p .ballots) (p .digits) (((start-from-output-gates (c .before .before)) .pre) .two)))
+    (wrote-both (a .w) (a .table .now) (pathsTo k (p .ballots) (p .digits) 0 .gates) (f .last .1 .0) (f .result)
+    outputs (o .last .1 .0) (o .result) (f .ensures .wrote)
+    (wrote-as (f .result) (f .last .1 .0) _ outputs (o .last .1 .0) (o .result)
+    (outputs-are k (p .ballots) (p .digits) (f .last .1 .1 .0) (f .result .wire)
+    (((start-from-output-gates (c .before .before)) .pre) .two) (f .ensures .links-kept)
+    (omega (arith, f .ensures .wrote .wires, ((start-from-output-gates (c .before .before)) .pre) .place)))
+    (o .ensures)))
 
 slice-aggregate-first-tables : tie.Need-slice-aggregate-first-tables
 slice-aggregate-first-tables c = search needs
@@ -85,4 +117,5 @@ same-length : tie.Need-same-length
 same-length c = search needs
 
 pub pair-circuit-spec : {M : Type 1} → statement M
-pair-circuit-spec = tie.close (tie.spec slice-aggregate-first-tables slice-aggregate-first-tables-2 first-tables-requires slice-aggregate-output-gates output-gates-requires same-length returns)
+pair-circuit-spec = tie.close (tie.spec slice-aggregate-first-tables slice-aggregate-first-tables-2
+    first-tables-requires slice-aggregate-output-gates output-gates-requires same-length returns)

@@ -51,51 +51,127 @@ first-room w bytes m e h l =
     }
 
 mul-new : tie.Need-mul-new
-mul-new c = omega (arith, bytes ((c .before .args) .candidates) ((c .before .args) .ballots) ((c .before .pre) .k-most) ((c .before .pre) .n-most))
+mul-new c = omega (
+  arith,
+  bytes ((c .before .args) .candidates) ((c .before .args) .ballots)
+      ((c .before .pre) .k-most) ((c .before .pre) .n-most),
+)
 
 mul-new-2 : tie.Need-mul-new-2
-mul-new-2 c = omega (arith, bytes ((c .before .args) .candidates) ((c .before .args) .ballots) ((c .before .pre) .k-most) ((c .before .pre) .n-most))
+mul-new-2 c = omega (
+  arith,
+  bytes ((c .before .args) .candidates) ((c .before .args) .ballots)
+      ((c .before .pre) .k-most) ((c .before .pre) .n-most),
+)
 
 emit-requires : tie.Need-emit-requires
-emit-requires c κs = first-room ((c .before .before .new) .result) _ 1 ((c .before .before .new) .ensures) (bytes ((c .before .before .before .before .args) .candidates) ((c .before .before .before .before .args) .ballots) ((c .before .before .before .before .pre) .k-most) ((c .before .before .before .before .pre) .n-most) .1) (omega arith)
+emit-requires c κs = first-room ((c .before .before .new) .result) _ 1 ((c .before .before .new) .ensures)
+    (bytes ((c .before .before .before .before .args) .candidates)
+    ((c .before .before .before .before .args) .ballots) ((c .before .before .before .before .pre) .k-most)
+    ((c .before .before .before .before .pre) .n-most) .1) (omega arith)
+
+-- The stages of the function, seen from later ones.
+abbrev start-from-emit : tie.After-emit → tie.Start
+start-from-emit c = c .before .before .before .before .before
+
+abbrev start-from-circuit : tie.After-circuit → tie.Start
+start-from-circuit c = c .before .before .before .before .before .before .before
+
+abbrev new-from-circuit : tie.After-circuit → tie.After-new
+new-from-circuit c = c .before .before .before .before .before
+
+abbrev start-from-pair-circuit : tie.After-pair-circuit → tie.Start
+start-from-pair-circuit c = c .before .before .before .before .before .before .before
+
+abbrev new-from-pair-circuit : tie.After-pair-circuit → tie.After-new
+new-from-pair-circuit c = c .before .before .before .before .before
+
+abbrev new-from-slice-known2 : tie.After-slice-known2 → tie.After-new
+new-from-slice-known2 c = c .before .before .before .before .before
+
+abbrev width-from-slice-known3 : tie.After-slice-known3 → tie.After-width
+width-from-slice-known3 c = c .before .before .before .before .before
+
+abbrev width-from-slice-known4 : tie.After-slice-known4 → tie.After-width
+width-from-slice-known4 c = c .before .before .before .before .before
 
 returns : tie.Need-returns
 returns c =
-    let a = (c .before .before .before .before .before .before .before .args) in
+    let a = ((start-from-emit (c .before .before)) .args) in
     let e = (c .before .before .emit) in
-    subst (λ (v : Writer). Wrote v (a .table .now) (ownRanking (a .candidates) (a .ballots)) (e .last .1 .0) (e .result)) ((c .before .before .before .before .before .new) .ensures)
-    (wrote-as ((c .before .before .before .before .before .new) .result) (a .table .now) _ _ (e .last .1 .0) (e .result) (single (a .candidates) (a .ballots) ((c .before .before .before .before .if1) .taken)) (constant-wrote ((c .before .before .before .before .before .new) .result) (a .table .now) (e .last .1 .0) (e .result) 0 0 0 1 (e .ensures)))
+    subst (λ (v : Writer). Wrote v (a .table .now) (ownRanking (a .candidates) (a .ballots)) (e .last .1 .0)
+    (e .result)) (((new-from-slice-known2 c) .new) .ensures)
+    (wrote-as (((new-from-slice-known2 c) .new) .result) (a .table .now) _ _ (e .last .1 .0) (e .result)
+    (single (a .candidates) (a .ballots) ((c .before .before .before .before .if1) .taken))
+    (constant-wrote (((new-from-slice-known2 c) .new) .result) (a .table .now) (e .last .1 .0) (e .result) 0 0 0 1
+    (e .ensures)))
 
 cast-digits : tie.Need-cast-digits
-cast-digits c = omega (arith, (c .width) .ensures, widths ((c .before .before .before .before .args) .ballots) ((c .before .before .before .before .pre) .n-least) ((c .before .before .before .before .pre) .n-most))
+cast-digits c = omega (
+  arith,
+  (c .width) .ensures,
+  widths ((c .before .before .before .before .args) .ballots) ((c .before .before .before .before .pre) .n-least)
+      ((c .before .before .before .before .pre) .n-most),
+)
 
 sub-digits : tie.Need-sub-digits
-sub-digits c = omega (arith, (c .width) .ensures, widths ((c .before .before .before .before .args) .ballots) ((c .before .before .before .before .pre) .n-least) ((c .before .before .before .before .pre) .n-most))
+sub-digits c = omega (
+  arith,
+  (c .width) .ensures,
+  widths ((c .before .before .before .before .args) .ballots) ((c .before .before .before .before .pre) .n-least)
+      ((c .before .before .before .before .pre) .n-most),
+)
 
 -- the digits
 digits-are : (c : tie.After-width) → (c .width) .result - 1 ≡ widthOf ((c .before .before .before .before .args) .ballots) - 1
 digits-are c = ap (λ (x : ℕ). x - 1) ((c .width) .ensures)
 
 can-count : (c : tie.After-width) → Countable ((c .before .before .before .before .args) .ballots) 0 ((c .width) .result - 1)
-can-count c = subst (Countable ((c .before .before .before .before .args) .ballots) 0) (sym (digits-are (c))) (ranking-countable ((c .before .before .before .before .args) .ballots) ((c .before .before .before .before .pre) .n-least))
+can-count c = subst (Countable ((c .before .before .before .before .args) .ballots) 0) (sym (digits-are (c)))
+    (ranking-countable ((c .before .before .before .before .args) .ballots)
+    ((c .before .before .before .before .pre) .n-least))
 
-same-list : (c : tie.After-width) → rankedList ((c .before .before .before .before .args) .candidates) ((c .before .before .before .before .args) .ballots) ((c .width) .result - 1) ≡ ownRanking ((c .before .before .before .before .args) .candidates) ((c .before .before .before .before .args) .ballots)
-same-list c = list-is ((c .before .before .before .before .args) .candidates) ((c .before .before .before .before .args) .ballots) ((c .width) .result - 1) (digits-are (c))
+same-list : (c : tie.After-width)
+    → rankedList ((c .before .before .before .before .args) .candidates)
+    ((c .before .before .before .before .args) .ballots) ((c .width) .result - 1)
+    ≡ ownRanking ((c .before .before .before .before .args) .candidates)
+    ((c .before .before .before .before .args) .ballots)
+same-list c = list-is ((c .before .before .before .before .args) .candidates)
+    ((c .before .before .before .before .args) .ballots) ((c .width) .result - 1) (digits-are (c))
 
-room : (c : tie.After-width) → Room ((c .before .before .new) .result) (length (rankedList ((c .before .before .before .before .args) .candidates) ((c .before .before .before .before .args) .ballots) ((c .width) .result - 1)))
+room : (c : tie.After-width) → Room ((c .before .before .new) .result)
+    (length (rankedList ((c .before .before .before .before .args) .candidates)
+    ((c .before .before .before .before .args) .ballots) ((c .width) .result - 1)))
 room c =
     let a = (c .before .before .before .before .args) in
-    let few = short (a .candidates) (a .ballots) ((c .before .before .before .before .pre) .k-least) ((c .before .before .before .before .pre) .k-most) ((c .before .before .before .before .pre) .n-least) ((c .before .before .before .before .pre) .n-most) in
-    first-room ((c .before .before .new) .result) _ _ ((c .before .before .new) .ensures) (bytes (a .candidates) (a .ballots) ((c .before .before .before .before .pre) .k-most) ((c .before .before .before .before .pre) .n-most) .1) (omega (arith, few, ap (λ (gs : List Gate). length gs) (same-list (c))))
+    let few = short (a .candidates) (a .ballots) ((c .before .before .before .before .pre) .k-least)
+    ((c .before .before .before .before .pre) .k-most) ((c .before .before .before .before .pre) .n-least)
+    ((c .before .before .before .before .pre) .n-most) in
+    first-room ((c .before .before .new) .result) _ _ ((c .before .before .new) .ensures)
+    (bytes (a .candidates) (a .ballots) ((c .before .before .before .before .pre) .k-most)
+    ((c .before .before .before .before .pre) .n-most) .1)
+    (omega (arith, few, ap (λ (gs : List Gate). length gs) (same-list (c))))
 
-ranked : (c : tie.After-width) → Ranked (record { candidates = (c .before .before .before .before .args) .candidates; ballots = (c .before .before .before .before .args) .ballots; digits = (c .width) .result - 1 })
+ranked : (c : tie.After-width)
+    → Ranked (record {
+      candidates = (c .before .before .before .before .args) .candidates;
+      ballots =
+          (c .before .before .before .before .args) .ballots;
+      digits = (c .width) .result - 1;
+    })
 ranked c =
     record {
-      k-least = two ((c .before .before .before .before .args) .candidates) ((c .before .before .before .before .pre) .k-least) ((c .before .if1) .left);
+      k-least = two ((c .before .before .before .before .args) .candidates)
+          ((c .before .before .before .before .pre) .k-least) ((c .before .if1) .left);
       k-most = (c .before .before .before .before .pre) .k-most;
       n-least = (c .before .before .before .before .pre) .n-least;
       n-most = (c .before .before .before .before .pre) .n-most;
-      w-most = omega (arith, (c .width) .ensures, widths ((c .before .before .before .before .args) .ballots) ((c .before .before .before .before .pre) .n-least) ((c .before .before .before .before .pre) .n-most));
+      w-most = omega (
+        arith,
+        (c .width) .ensures,
+        widths ((c .before .before .before .before .args) .ballots)
+            ((c .before .before .before .before .pre) .n-least) ((c .before .before .before .before .pre) .n-most),
+      );
       countable = can-count (c);
     }
   where
@@ -127,17 +203,21 @@ circuit-requires c κs =
 
 returns-2 : tie.Need-returns-2
 returns-2 c =
-    let a = (c .before .before .before .before .before .before .before .before .before .args) in
+    let a = ((start-from-pair-circuit (c .before .before)) .args) in
     let e = (c .before .before .pair-circuit) in
-    subst (λ (v : Writer). Wrote v (a .table .now) (ownRanking (a .candidates) (a .ballots)) (e .last .1 .0) (e .result)) ((c .before .before .before .before .before .before .before .new) .ensures)
-    (wrote-as ((c .before .before .before .before .before .before .before .new) .result) (a .table .now) _ _ (e .last .1 .0) (e .result) (same-list (c .before .before .before .before .before)) (e .ensures))
+    subst (λ (v : Writer). Wrote v (a .table .now) (ownRanking (a .candidates) (a .ballots)) (e .last .1 .0)
+    (e .result)) (((new-from-pair-circuit (c .before .before)) .new) .ensures)
+    (wrote-as (((new-from-pair-circuit (c .before .before)) .new) .result) (a .table .now) _ _ (e .last .1 .0)
+    (e .result) (same-list (width-from-slice-known3 c)) (e .ensures))
 
 returns-3 : tie.Need-returns-3
 returns-3 c =
-    let a = (c .before .before .before .before .before .before .before .before .before .args) in
+    let a = ((start-from-circuit (c .before .before)) .args) in
     let e = (c .before .before .circuit) in
-    subst (λ (v : Writer). Wrote v (a .table .now) (ownRanking (a .candidates) (a .ballots)) (e .last .1 .0) (e .result)) ((c .before .before .before .before .before .before .before .new) .ensures)
-    (wrote-as ((c .before .before .before .before .before .before .before .new) .result) (a .table .now) _ _ (e .last .1 .0) (e .result) (same-list (c .before .before .before .before .before)) (e .ensures))
+    subst (λ (v : Writer). Wrote v (a .table .now) (ownRanking (a .candidates) (a .ballots)) (e .last .1 .0)
+    (e .result)) (((new-from-circuit (c .before .before)) .new) .ensures)
+    (wrote-as (((new-from-circuit (c .before .before)) .new) .result) (a .table .now) _ _ (e .last .1 .0)
+    (e .result) (same-list (width-from-slice-known4 c)) (e .ensures))
 
 new-requires : tie.Need-new-requires
 new-requires c κs = search needs
@@ -155,4 +235,6 @@ same-length-3 : tie.Need-same-length-3
 same-length-3 c = search needs
 
 pub ranked-list-spec : {M : Type 1} → statement M
-ranked-list-spec = tie.close (tie.spec mul-new mul-new-2 new-requires emit-requires same-length returns width-requires cast-digits sub-digits pair-circuit-requires same-length-2 returns-2 circuit-requires same-length-3 returns-3)
+ranked-list-spec = tie.close (tie.spec mul-new mul-new-2 new-requires emit-requires same-length returns
+    width-requires cast-digits sub-digits pair-circuit-requires same-length-2 returns-2 circuit-requires
+    same-length-3 returns-3)

@@ -19,7 +19,8 @@ returns c = let a = (c .before .args) in sym (ap (λ (t : Bool). cond t (a .s) (
 
 returns-2 : tie.Need-returns-2
 unfolding other
-returns-2 c = let a = (c .before .args) in add-one (a .s) ∙ sym (ap (λ (t : Bool). cond t (a .s) (suc (a .s))) (le-ltb (a .s) (a .i) (omega (arith, (c .if1) .left))))
+returns-2 c = let a = (c .before .args) in add-one (a .s)
+    ∙ sym (ap (λ (t : Bool). cond t (a .s) (suc (a .s))) (le-ltb (a .s) (a .i) (omega (arith, (c .if1) .left))))
 
 pub other-spec : {M : Type 1} → statement M
 other-spec = tie.close (tie.spec add-result returns returns-2)

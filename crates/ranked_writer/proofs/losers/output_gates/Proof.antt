@@ -5,18 +5,14 @@ use mathlib.Core.List.{List, [], _∷_}
 use Prim.Native.Nat.{ℕ, suc, _+_, _-_, _*_, _≤_, _<_}
 use native.Mathlib.Nat.{mul-le-mul, mul-le-mul-right}
 use native.Mathlib.Omega.{arith}
-use lib.ListN.{length}
 use Rattle.gates.specs.Gate.{Gate}
 use Rattle.gate_words.specs.Gates.{notOf}
-use Rattle.gate_words.specs.declared.writer.Writer.{Writer}
-use Rattle.gate_words.specs.Writing.{Room}
-use Rattle.gate_words.proofs.Writing.{room-less, wrote-as}
+use Rattle.gate_words.proofs.Writing.{wrote-as}
 use Rattle.gate_words.proofs.Emitting.{not-wrote}
 use Rattle.ranked_circuit.specs.Table.{blocks}
 use Rattle.ranked_circuit.specs.RankedList.{joined, outputGates}
-use Rattle.ranked_circuit.proofs.TableLaws.{length-same}
 use Rattle.ranked_blocks.specs.Ranked.{keptOf}
-use Rattle.ranked_writer.proofs.Filling.{Filled, fill-start, fill-next, fill-room, fill-end}
+use Rattle.ranked_writer.proofs.Filling.{Filled, fill-start, fill-next, fill-room, fill-end, single-room}
 use Rattle.ranked_writer.proofs.losers.output_gates.Statement.{statement}
 use Rattle.ranked_writer.proofs.losers.output_gates.Tie as tie
 
@@ -34,16 +30,29 @@ loop-holds c = let a = (c .before .before .args) in (omega arith, fill-start (a 
 
 -- a row starts before the output gates
 row-low : (k i : ℕ) → k ≤ 8 → i < k → (i * (k - 2) ≤ 64) × (i * (k - 2) ≤ k * (k - 2))
-row-low k i h l = (mul-le-mul {n₁ = i} {m₁ = k - 2} {n₂ = 8} {m₂ = 8} (omega arith) (omega arith), mul-le-mul-right {m = i} {n = k} (k - 2) (omega arith))
+row-low k i h l = (
+  mul-le-mul {n₁ = i} {m₁ = k - 2} {n₂ = 8} {m₂ = 8} (omega arith) (omega arith),
+  mul-le-mul-right {m = i} {n = k} (k - 2) (omega arith),
+)
 
 sub-joined : tie.Need-sub-joined Inv-loop μ-loop
 sub-joined c = omega (arith, (c .before .before .before .before .pre) .k-least)
 
 mul-joined : tie.Need-mul-joined Inv-loop μ-loop
-mul-joined c = omega (arith, row-low ((c .before .before .before .before .args) .k) ((c .before .loop) .i) ((c .before .before .before .before .pre) .k-most) ((c .loop-test) .taken))
+mul-joined c = omega (
+  arith,
+  row-low ((c .before .before .before .before .args) .k) ((c .before .loop) .i)
+      ((c .before .before .before .before .pre) .k-most) ((c .loop-test) .taken),
+)
 
 add-joined : tie.Need-add-joined Inv-loop μ-loop
-add-joined c = omega (arith, row-low ((c .before .before .before .before .args) .k) ((c .before .loop) .i) ((c .before .before .before .before .pre) .k-most) ((c .loop-test) .taken), (c .before .before .before .before .pre) .place, (c .before .before .before .before .pre) .room .small)
+add-joined c = omega (
+  arith,
+  row-low ((c .before .before .before .before .args) .k) ((c .before .loop) .i)
+      ((c .before .before .before .before .pre) .k-most) ((c .loop-test) .taken),
+  (c .before .before .before .before .pre) .place,
+  (c .before .before .before .before .pre) .room .small,
+)
 
 sub-joined-2 : tie.Need-sub-joined-2 Inv-loop μ-loop
 sub-joined-2 c = omega (arith, (c .before .before .before .before .pre) .k-least)
@@ -58,48 +67,75 @@ joined-requires c κs =
       k-most = (c .before .before .before .before .pre) .k-most;
       row = (c .loop-test) .taken;
       few = omega (arith, (c .before .before .before .before .pre) .k-most);
-      small = omega (arith, row-low ((c .before .before .before .before .args) .k) ((c .before .loop) .i) ((c .before .before .before .before .pre) .k-most) ((c .loop-test) .taken), (c .before .before .before .before .pre) .place, (c .before .before .before .before .pre) .room .small);
+      small = omega (
+        arith,
+        row-low ((c .before .before .before .before .args) .k) ((c .before .loop) .i)
+            ((c .before .before .before .before .pre) .k-most) ((c .loop-test) .taken),
+        (c .before .before .before .before .pre) .place,
+        (c .before .before .before .before .pre) .room .small,
+      );
       long = (c .before .before .before .before .pre) .long;
     }
 
-outputs-room : (w : Writer) (b : ℕ → ℕ → List Gate) (k : ℕ) → ((at e : ℕ) → length (b at e) ≡ 1) → Room w k → Room w (length (blocks (w .wire) b k))
-outputs-room w b k one room = room-less w _ _ (omega (arith, length-same (w .wire) b 1 one k)) room
+-- The stages of the function, seen from later ones.
+abbrev start-from-joined : tie.After-joined Inv-loop μ-loop → tie.Start Inv-loop μ-loop
+start-from-joined c = c .before .before .before .before .before
+
+abbrev start-from-emit : tie.After-emit Inv-loop μ-loop → tie.Start Inv-loop μ-loop
+start-from-emit c = c .before .before .before .before .before .before .before
+
+abbrev loop-reached-from-slice-known2 : tie.After-slice-known2 Inv-loop μ-loop → tie.At-loop Inv-loop μ-loop
+loop-reached-from-slice-known2 c = c .before .before .before .before .before .before
+
+abbrev round-from-slice-known2 : tie.After-slice-known2 Inv-loop μ-loop → tie.In-loop Inv-loop μ-loop
+round-from-slice-known2 c = c .before .before .before .before .before
 
 emit-requires : tie.Need-emit-requires Inv-loop μ-loop
 emit-requires c κs =
-    let a = (c .before .before .before .before .before .before .args) in
+    let a = ((start-from-joined (c .before)) .args) in
     let l = (c .before .before .before .loop) in
     let b = gate (a .beats .now) (a .k) (a .rows) in
-    fill-room (a .w) (a .table .now) b (l .i) (a .k) (l .table) (l .next) ((c .before .before .loop-test) .taken) (outputs-room (a .w) b (a .k) (λ at e. refl) ((c .before .before .before .before .before .before .pre) .room)) (l .inv .1)
+    fill-room (a .w) (a .table .now) b (l .i) (a .k) (l .table) (l .next) ((c .before .before .loop-test) .taken)
+    (single-room (a .w) b (a .k) (λ at e. refl) (((start-from-joined (c .before)) .pre) .room)) (l .inv .1)
 
 add-i : tie.Need-add-i Inv-loop μ-loop
-add-i c = omega (arith, (c .before .before .before .before .before .loop-test) .taken, (c .before .before .before .before .before .before .before .before .before .pre) .k-most)
+add-i c = omega (arith, ((round-from-slice-known2 c) .loop-test) .taken, ((start-from-emit (c .before .before)) .pre) .k-most)
 
 loop-less : tie.Need-loop-less Inv-loop μ-loop
-loop-less c = omega (arith, (c .before .before .before .before .before .loop-test) .taken)
+loop-less c = omega (arith, ((round-from-slice-known2 c) .loop-test) .taken)
 
 loop-again : tie.Need-loop-again Inv-loop μ-loop
 loop-again c =
-    let a = (c .before .before .before .before .before .before .before .before .before .args) in
-    let l = (c .before .before .before .before .before .before .loop) in
+    let a = ((start-from-emit (c .before .before)) .args) in
+    let l = ((loop-reached-from-slice-known2 c) .loop) in
     let h = (c .before .before .emit) in (
-      omega (arith, (c .before .before .before .before .before .loop-test) .taken),
-      fill-next (a .w) (a .table .now) (gate (a .beats .now) (a .k) (a .rows)) (l .i) (l .table) (l .next) (h .last .1 .0) (h .result) (l .inv .1)
-          (wrote-as (l .next) (l .table) _ _ (h .last .1 .0) (h .result) (ap (λ (x : ℕ). notOf x ∷ []) ((c .before .before .before .before .joined) .ensures)) (not-wrote (l .next) (l .table) (h .last .1 .0) (h .result) _ 0 0 (h .ensures))),
+      omega (arith, ((round-from-slice-known2 c) .loop-test) .taken),
+      fill-next (a .w) (a .table .now) (gate (a .beats .now) (a .k) (a .rows)) (l .i) (l .table) (l .next)
+          (h .last .1 .0) (h .result) (l .inv .1)
+          (wrote-as (l .next) (l .table) _ _ (h .last .1 .0) (h .result)
+          (ap (λ (x : ℕ). notOf x ∷ []) ((c .before .before .before .before .joined) .ensures))
+          (not-wrote (l .next) (l .table) (h .last .1 .0) (h .result) _ 0 0 (h .ensures))),
     )
 
 same-length : tie.Need-same-length Inv-loop μ-loop
 same-length c = (c .before .loop) .inv .1 .long
 
-outputs-are : (beats : ℕ → ℕ → ℕ) (r rows k wire : ℕ) → wire ≡ rows + k * r → blocks wire (λ at i. notOf (joined beats (suc r) (rows + i * r) i (2 * r)) ∷ []) k ≡ outputGates beats r rows k
-outputs-are beats r rows k wire q = ap (λ (x : ℕ). blocks x (λ at i. notOf (joined beats (suc r) (rows + i * r) i (2 * r)) ∷ []) k) q ∙ unfold outputGates in refl
+outputs-are : (beats : ℕ → ℕ → ℕ) (r rows k wire : ℕ) → wire ≡ rows + k * r
+    → blocks wire (λ at i. notOf (joined beats (suc r) (rows + i * r) i (2 * r)) ∷ []) k ≡ outputGates beats r rows k
+outputs-are beats r rows k wire q =
+    ap (λ (x : ℕ). blocks x (λ at i. notOf (joined beats (suc r) (rows + i * r) i (2 * r)) ∷ []) k) q
+    ∙ unfold outputGates in refl
 
 returns : tie.Need-returns Inv-loop μ-loop
 returns c =
     let a = (c .before .before .before .before .args) in
     let l = (c .before .loop) in
-    wrote-as (a .w) (a .table .now) _ _ (l .table) (l .next) (outputs-are (keptOf (a .beats .now) (a .k)) (a .k - 2) (a .rows) (a .k) (a .w .wire) ((c .before .before .before .before .pre) .place))
-    (fill-end (a .w) (a .table .now) (gate (a .beats .now) (a .k) (a .rows)) (l .i) (a .k) (l .table) (l .next) (omega (arith, (c .loop-test) .left)) (l .inv .0) (l .inv .1))
+    wrote-as (a .w) (a .table .now) _ _ (l .table) (l .next)
+    (outputs-are (keptOf (a .beats .now) (a .k)) (a .k - 2) (a .rows) (a .k) (a .w .wire)
+    ((c .before .before .before .before .pre) .place))
+    (fill-end (a .w) (a .table .now) (gate (a .beats .now) (a .k) (a .rows)) (l .i) (a .k) (l .table) (l .next)
+    (omega (arith, (c .loop-test) .left)) (l .inv .0) (l .inv .1))
 
 pub output-gates-spec : {M : Type 1} → statement M
-output-gates-spec = tie.close (tie.spec Inv-loop μ-loop loop-holds sub-joined mul-joined add-joined sub-joined-2 mul-joined-2 joined-requires emit-requires add-i loop-less loop-again same-length returns)
+output-gates-spec = tie.close (tie.spec Inv-loop μ-loop loop-holds sub-joined mul-joined add-joined sub-joined-2
+    mul-joined-2 joined-requires emit-requires add-i loop-less loop-again same-length returns)

@@ -22,14 +22,16 @@ abbrev block : Ranks → ℕ → List ℕ → ℕ → ℕ → ℕ → List Gate
 block p first words = linksBlock first (keptOf words (p .candidates)) (p .digits)
 
 -- after e blocks
-pub record Inv (p : Ranks) (k : ℕ) (block : ℕ → ℕ → ℕ → List Gate) (rows : ℕ → Bool) (w₀ : Writer) (table₀ wires₀ : List ℕ) (e : ℕ) (table wires : List ℕ) (next : Writer) : Type 0 where
+pub record Inv (p : Ranks) (k : ℕ) (block : ℕ → ℕ → ℕ → List Gate) (rows : ℕ → Bool) (w₀ : Writer)
+    (table₀ wires₀ : List ℕ) (e : ℕ) (table wires : List ℕ) (next : Writer) : Type 0 where
   pub same : k ≡ p .candidates
   pub few : e ≤ p .candidates * p .candidates
   pub wrote : TableTo w₀ table₀ (p .candidates) block e table next
   pub kept : LinksTo (p .candidates) rows (entryEnd (w₀ .wire) (p .candidates) block) wires₀ e wires
 
 abbrev Inv-loop : tie.InvT-loop
-Inv-loop table₀ words wires₀ p first k next₀ e₀ table wires next e = Inv p k (block p first words) (leb first) next₀ table₀ wires₀ e table wires next
+Inv-loop table₀ words wires₀ p first k next₀ e₀ table wires next e =
+    Inv p k (block p first words) (leb first) next₀ table₀ wires₀ e table wires next
 
 abbrev μ-loop : tie.MeasureT-loop
 μ-loop table₀ words wires₀ p first k next₀ e₀ table wires next e = p .candidates * p .candidates - e
@@ -60,10 +62,17 @@ loop-holds c =
     }
 
 mul-loop : tie.Need-mul-loop Inv-loop μ-loop
-mul-loop c = let s = start c in omega (arith, square-small (s .args .p .candidates) (s .pre .kept .ranked .k-most), same-square (c .loop .inv .same))
+mul-loop c = let s = start c in
+    omega (
+      arith,
+      square-small (s .args .p .candidates) (s .pre .kept .ranked .k-most),
+      same-square (c .loop .inv .same),
+    )
 
-now : (c : tie.In-loop Inv-loop μ-loop) → Turn (start (c .before) .args .p .candidates) (start (c .before) .args .p .candidates) (c .before .loop .e)
-now c = turn refl (start (c .before) .pre .kept .ranked .k-most) (omega (arith, c .loop-test .taken, same-square (c .before .loop .inv .same)))
+now : (c : tie.In-loop Inv-loop μ-loop)
+    → Turn (start (c .before) .args .p .candidates) (start (c .before) .args .p .candidates) (c .before .loop .e)
+now c = turn refl (start (c .before) .pre .kept .ranked .k-most)
+    (omega (arith, c .loop-test .taken, same-square (c .before .loop .inv .same)))
 
 links-entry-requires : tie.Need-links-entry-requires Inv-loop μ-loop
 links-entry-requires c κs =
@@ -102,13 +111,16 @@ loop-again c =
     let l = q .before .loop in
     let t = now q in
     let h = d .links-entry in
-    let more = table-next (a .w) (a .table .now) k (blockAt s) (l .e) (l .table) (l .next) (h .last .1 .0) (h .result) (l .inv .wrote) (h .ensures .wrote) in
+    let more = table-next (a .w) (a .table .now) k (blockAt s) (l .e) (l .table) (l .next) (h .last .1 .0)
+    (h .result) (l .inv .wrote) (h .ensures .wrote) in
     record {
       same = l .inv .same;
       few = omega (arith, t .few);
       wrote = more;
       kept =
-          links-next k (leb (a .first)) (entryEnd (a .w .wire) k (blockAt s)) (a .links .now) (s .pre .kept .ranked .k-most) (l .e) (l .links) (h .last .1 .1 .1 .0) (h .result .wire) (t .row) (t .column) (l .inv .kept) (h .ensures .kept)
+          links-next k (leb (a .first)) (entryEnd (a .w .wire) k (blockAt s)) (a .links .now)
+          (s .pre .kept .ranked .k-most) (l .e) (l .links) (h .last .1 .1 .1 .0) (h .result .wire) (t .row)
+          (t .column) (l .inv .kept) (h .ensures .kept)
           (end-here (a .w) (a .table .now) k (blockAt s) (l .e) (l .e / k) (l .e % k) (h .last .1 .0) (h .result) (t .number) more);
     }
 
@@ -132,4 +144,5 @@ returns c =
     }
 
 pub links-table-spec : {M : Type 1} → statement M
-links-table-spec = tie.close (tie.spec Inv-loop μ-loop loop-holds mul-loop links-entry-requires add-e loop-less loop-again same-length same-length-2 returns)
+links-table-spec = tie.close (tie.spec Inv-loop μ-loop loop-holds mul-loop links-entry-requires add-e loop-less
+    loop-again same-length same-length-2 returns)

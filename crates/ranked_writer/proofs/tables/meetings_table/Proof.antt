@@ -25,14 +25,16 @@ abbrev block : Ranks → List ℕ → List ℕ → ℕ → ℕ → ℕ → List 
 block p words met = meetingsBlock (p .candidates - 1) (keptOf words (p .candidates)) (keptOf met (p .candidates)) (p .digits)
 
 -- after e blocks
-pub record Inv (p : Ranks) (k : ℕ) (block : ℕ → ℕ → ℕ → List Gate) (rows : ℕ → Bool) (w₀ : Writer) (table₀ wires₀ : List ℕ) (e : ℕ) (table wires : List ℕ) (next : Writer) : Type 0 where
+pub record Inv (p : Ranks) (k : ℕ) (block : ℕ → ℕ → ℕ → List Gate) (rows : ℕ → Bool) (w₀ : Writer)
+    (table₀ wires₀ : List ℕ) (e : ℕ) (table wires : List ℕ) (next : Writer) : Type 0 where
   pub same : k ≡ p .candidates
   pub few : e ≤ p .candidates * p .candidates
   pub wrote : TableTo w₀ table₀ (p .candidates) block e table next
   pub kept : LinksTo (p .candidates) rows (entryEnd (w₀ .wire) (p .candidates) block) wires₀ e wires
 
 abbrev Inv-loop : tie.InvT-loop
-Inv-loop table₀ words wires₀ p k next₀ e₀ table wires next e = Inv p k (block p words wires₀) (λ i. ltb i (p .candidates - 1)) next₀ table₀ wires₀ e table wires next
+Inv-loop table₀ words wires₀ p k next₀ e₀ table wires next e =
+    Inv p k (block p words wires₀) (λ i. ltb i (p .candidates - 1)) next₀ table₀ wires₀ e table wires next
 
 abbrev μ-loop : tie.MeasureT-loop
 μ-loop table₀ words wires₀ p k next₀ e₀ table wires next e = p .candidates * p .candidates - e
@@ -63,10 +65,17 @@ loop-holds c =
     }
 
 mul-loop : tie.Need-mul-loop Inv-loop μ-loop
-mul-loop c = let s = start c in omega (arith, square-small (s .args .p .candidates) (s .pre .kept .ranked .k-most), same-square (c .loop .inv .same))
+mul-loop c = let s = start c in
+    omega (
+      arith,
+      square-small (s .args .p .candidates) (s .pre .kept .ranked .k-most),
+      same-square (c .loop .inv .same),
+    )
 
-now : (c : tie.In-loop Inv-loop μ-loop) → Turn (start (c .before) .args .p .candidates) (start (c .before) .args .p .candidates) (c .before .loop .e)
-now c = turn refl (start (c .before) .pre .kept .ranked .k-most) (omega (arith, c .loop-test .taken, same-square (c .before .loop .inv .same)))
+now : (c : tie.In-loop Inv-loop μ-loop)
+    → Turn (start (c .before) .args .p .candidates) (start (c .before) .args .p .candidates) (c .before .loop .e)
+now c = turn refl (start (c .before) .pre .kept .ranked .k-most)
+    (omega (arith, c .loop-test .taken, same-square (c .before .loop .inv .same)))
 
 meetings-entry-requires : tie.Need-meetings-entry-requires Inv-loop μ-loop
 meetings-entry-requires c κs =
@@ -87,7 +96,11 @@ meetings-entry-requires c κs =
       };
       number = t .few;
       room =
-          room-less (l .next) _ _ (omega (arith, ap length (met-agree k (a .p .digits) (a .words .now) (a .met .now) (entryEnd (a .w .wire) k (blockAt s)) (l .e) (l .met) (l .inv .kept) (l .next .wire) (t .few))))
+          room-less (l .next) _ _ (omega (
+            arith,
+            ap length (met-agree k (a .p .digits) (a .words .now) (a .met .now) (entryEnd (a .w .wire) k (blockAt s))
+                (l .e) (l .met) (l .inv .kept) (l .next .wire) (t .few)),
+          ))
           (table-room (a .w) (a .table .now) k (blockAt s) (l .e) (l .table) (l .next) (t .few) (s .pre .room) (l .inv .wrote));
     }
 
@@ -108,13 +121,17 @@ loop-again c =
     let t = now q in
     let h = d .meetings-entry in
     let more = table-next (a .w) (a .table .now) k (blockAt s) (l .e) (l .table) (l .next) (h .last .1 .0) (h .result) (l .inv .wrote)
-    (wrote-as (l .next) (l .table) _ _ (h .last .1 .0) (h .result) (met-agree k (a .p .digits) (a .words .now) (a .met .now) (entryEnd (a .w .wire) k (blockAt s)) (l .e) (l .met) (l .inv .kept) (l .next .wire) (t .few)) (h .ensures .wrote)) in
+    (wrote-as (l .next) (l .table) _ _ (h .last .1 .0) (h .result)
+    (met-agree k (a .p .digits) (a .words .now) (a .met .now) (entryEnd (a .w .wire) k (blockAt s)) (l .e) (l .met)
+    (l .inv .kept) (l .next .wire) (t .few)) (h .ensures .wrote)) in
     record {
       same = l .inv .same;
       few = omega (arith, t .few);
       wrote = more;
       kept =
-          links-next k (λ i. ltb i (k - 1)) (entryEnd (a .w .wire) k (blockAt s)) (a .met .now) (s .pre .kept .ranked .k-most) (l .e) (l .met) (h .last .1 .1 .1 .0) (h .result .wire) (t .row) (t .column) (l .inv .kept) (h .ensures .kept)
+          links-next k (λ i. ltb i (k - 1)) (entryEnd (a .w .wire) k (blockAt s)) (a .met .now)
+          (s .pre .kept .ranked .k-most) (l .e) (l .met) (h .last .1 .1 .1 .0) (h .result .wire) (t .row)
+          (t .column) (l .inv .kept) (h .ensures .kept)
           (end-here (a .w) (a .table .now) k (blockAt s) (l .e) (l .e / k) (l .e % k) (h .last .1 .0) (h .result) (t .number) more);
     }
 
@@ -138,4 +155,6 @@ returns c =
     }
 
 pub meetings-table-spec : {M : Type 1} → statement M
-meetings-table-spec = tie.close (tie.spec Inv-loop μ-loop loop-holds mul-loop meetings-entry-requires add-e loop-less loop-again same-length same-length-2 returns)
+meetings-table-spec = tie.close
+    (tie.spec Inv-loop μ-loop loop-holds mul-loop meetings-entry-requires add-e loop-less loop-again same-length
+    same-length-2 returns)

@@ -28,76 +28,117 @@ loop-holds c =
       refl,
       omega arith,
       table-start (a .w) (a .table .now) k (stageBlock (a .w) (a .table .now) k (a .p .digits) (a .m) (a .links .now) (a .words .now)),
-      kept-start k (stays (a .m)) (stageEnd (a .w) (a .table .now) k (a .p .digits) (a .m) (a .links .now) (a .words .now)) (a .words .now) ((c .before .before .before .pre) .ready .kept .words-long),
+      kept-start k (stays (a .m)) (stageEnd (a .w) (a .table .now) k (a .p .digits) (a .m) (a .links .now)
+          (a .words .now)) (a .words .now) ((c .before .before .before .pre) .ready .kept .words-long),
     )
 
 mul-loop : tie.Need-mul-loop Inv-loop μ-loop
-mul-loop c = omega (arith, square-small ((c .before .before .before .before .args) .p .candidates) ((c .before .before .before .before .pre) .ready .kept .ranked .k-most), same-square ((c .loop) .inv .0))
+mul-loop c = omega (
+  arith,
+  square-small ((c .before .before .before .before .args) .p .candidates)
+      ((c .before .before .before .before .pre) .ready .kept .ranked .k-most),
+  same-square ((c .loop) .inv .0),
+)
 
-now : (c : tie.In-loop Inv-loop μ-loop) → Turn ((c .before .before .before .before .before .args) .p .candidates) ((c .before .before .before .before .before .args) .p .candidates) ((c .before .loop) .e)
-now c = turn refl ((c .before .before .before .before .before .pre) .ready .kept .ranked .k-most) (omega (arith, (c .loop-test) .taken, same-square ((c .before .loop) .inv .0)))
+-- The stages of the function, seen from later ones.
+abbrev start-from-loop-done : tie.After-loop Inv-loop μ-loop → tie.Start Inv-loop μ-loop
+start-from-loop-done c = c .before .before .before .before .before
+
+abbrev start-from-round : tie.In-loop Inv-loop μ-loop → tie.Start Inv-loop μ-loop
+start-from-round c = c .before .before .before .before .before
+
+abbrev start-from-words : tie.After-words Inv-loop μ-loop → tie.Start Inv-loop μ-loop
+start-from-words c = start-from-round (c .before .before .before .before .before .before)
+
+abbrev loop-reached-from-words : tie.After-words Inv-loop μ-loop → tie.At-loop Inv-loop μ-loop
+loop-reached-from-words c = c .before .before .before .before .before .before .before
+
+abbrev round-from-words : tie.After-words Inv-loop μ-loop → tie.In-loop Inv-loop μ-loop
+round-from-words c = c .before .before .before .before .before .before
+
+now : (c : tie.In-loop Inv-loop μ-loop)
+    → Turn (((start-from-round c) .args) .p .candidates) (((start-from-round c) .args) .p .candidates)
+    ((c .before .loop) .e)
+now c = turn refl (((start-from-round c) .pre) .ready .kept .ranked .k-most)
+    (omega (arith, (c .loop-test) .taken, same-square ((c .before .loop) .inv .0)))
 
 path-entry-requires : tie.Need-path-entry-requires Inv-loop μ-loop
 path-entry-requires c κs =
-    let a = (c .before .before .before .before .before .before .before .args) in
+    let a = ((start-from-round (c .before .before)) .args) in
     let k = a .p .candidates in
     let l = (c .before .before .before .loop) in
     let t = now (c .before .before) in
     let block = stageBlock (a .w) (a .table .now) k (a .p .digits) (a .m) (a .links .now) (a .words .now) in
-    let same = now-agree (a .w) (a .table .now) k (a .p .digits) (a .m) (a .links .now) (a .words .now) (l .e) (l .words) (l .inv .3) ((c .before .before .before .before .before .before .before .pre) .stage) (t .few) (l .next .wire) in
+    let same = now-agree (a .w) (a .table .now) k (a .p .digits) (a .m) (a .links .now) (a .words .now) (l .e)
+    (l .words) (l .inv .3) (((start-from-round (c .before .before)) .pre) .stage) (t .few) (l .next .wire) in
     record {
       entry = record {
         kept = record {
-          ranked = (c .before .before .before .before .before .before .before .pre) .ready .kept .ranked;
+          ranked = ((start-from-round (c .before .before)) .pre) .ready .kept .ranked;
           words-long = l .inv .3 .long;
-          wires-long = (c .before .before .before .before .before .before .before .pre) .ready .kept .wires-long;
-          below = now-below (a .w) (a .table .now) k (a .p .digits) (a .m) (a .links .now) (a .words .now) (l .e) (l .words) (l .inv .3) (l .table) (l .next) (l .inv .2) ((c .before .before .before .before .before .before .before .pre) .ready .kept .below);
+          wires-long = ((start-from-round (c .before .before)) .pre) .ready .kept .wires-long;
+          below = now-below (a .w) (a .table .now) k (a .p .digits) (a .m) (a .links .now) (a .words .now) (l .e)
+              (l .words) (l .inv .3) (l .table) (l .next) (l .inv .2)
+              (((start-from-round (c .before .before)) .pre) .ready .kept .below);
         };
         number = t .few;
-        room = room-less (l .next) _ _ (omega (arith, ap length same)) (table-room (a .w) (a .table .now) k block (l .e) (l .table) (l .next) (t .few) ((c .before .before .before .before .before .before .before .pre) .ready .room) (l .inv .2));
+        room = room-less (l .next) _ _ (omega (arith, ap length same))
+            (table-room (a .w) (a .table .now) k block (l .e) (l .table) (l .next) (t .few)
+            (((start-from-round (c .before .before)) .pre) .ready .room) (l .inv .2));
       };
-      stage = (c .before .before .before .before .before .before .before .pre) .stage;
+      stage = ((start-from-round (c .before .before)) .pre) .stage;
     }
 
 add-e : tie.Need-add-e Inv-loop μ-loop
-add-e c = omega (arith, now (c .before .before .before .before .before .before .before) .small)
+add-e c = omega (arith, now (round-from-words (c .before)) .small)
 
 loop-less : tie.Need-loop-less Inv-loop μ-loop
-loop-less c = omega (arith, now (c .before .before .before .before .before .before .before) .few)
+loop-less c = omega (arith, now (round-from-words (c .before)) .few)
 
 loop-again : tie.Need-loop-again Inv-loop μ-loop
 loop-again c =
-    let a = (c .before .before .before .before .before .before .before .before .before .before .before .before .args) in
+    let a = ((start-from-words (c .before)) .args) in
     let k = a .p .candidates in
-    let l = (c .before .before .before .before .before .before .before .before .loop) in
-    let t = now (c .before .before .before .before .before .before .before) in
+    let l = ((loop-reached-from-words (c .before)) .loop) in
+    let t = now (round-from-words (c .before)) in
     let h = (c .before .before .before .before .path-entry) in
     let block = stageBlock (a .w) (a .table .now) k (a .p .digits) (a .m) (a .links .now) (a .words .now) in
-    let same = now-agree (a .w) (a .table .now) k (a .p .digits) (a .m) (a .links .now) (a .words .now) (l .e) (l .words) (l .inv .3) ((c .before .before .before .before .before .before .before .before .before .before .before .before .pre) .stage) (t .few) (l .next .wire) in
-    let more = table-next (a .w) (a .table .now) k block (l .e) (l .table) (l .next) (h .last .1 .0) (h .result) (l .inv .2) (wrote-as (l .next) (l .table) _ _ (h .last .1 .0) (h .result) same (h .ensures .wrote)) in (
+    let same = now-agree (a .w) (a .table .now) k (a .p .digits) (a .m) (a .links .now) (a .words .now) (l .e)
+    (l .words) (l .inv .3) (((start-from-words (c .before)) .pre) .stage) (t .few) (l .next .wire) in
+    let more = table-next (a .w) (a .table .now) k block (l .e) (l .table) (l .next) (h .last .1 .0) (h .result)
+    (l .inv .2) (wrote-as (l .next) (l .table) _ _ (h .last .1 .0) (h .result) same (h .ensures .wrote)) in (
       l .inv .0,
       omega (arith, t .few),
       more,
-      kept-next k (stays (a .m)) (stageEnd (a .w) (a .table .now) k (a .p .digits) (a .m) (a .links .now) (a .words .now)) (a .words .now) (l .e) (l .words) (h .last .1 .1 .1 .0) (h .result .wire - suc (a .p .digits)) (t .few) (t .small) (l .inv .3) (h .ensures .kept)
-          (ap (λ (x : ℕ). x - suc (a .p .digits)) (end-here (a .w) (a .table .now) k block (l .e) (l .e / k) (l .e % k) (h .last .1 .0) (h .result) (t .number) more)),
+      kept-next k (stays (a .m)) (stageEnd (a .w) (a .table .now) k (a .p .digits) (a .m) (a .links .now)
+          (a .words .now)) (a .words .now) (l .e) (l .words) (h .last .1 .1 .1 .0)
+          (h .result .wire - suc (a .p .digits)) (t .few) (t .small) (l .inv .3) (h .ensures .kept)
+          (ap (λ (x : ℕ). x - suc (a .p .digits))
+          (end-here (a .w) (a .table .now) k block (l .e) (l .e / k) (l .e % k) (h .last .1 .0) (h .result)
+          (t .number) more)),
     )
 
 same-length : tie.Need-same-length Inv-loop μ-loop
 same-length c = (c .before .loop) .inv .2 .long
 
 same-length-2 : tie.Need-same-length-2 Inv-loop μ-loop
-same-length-2 c = (c .before .loop) .inv .3 .long ∙ sym ((c .before .before .before .before .before .pre) .ready .kept .words-long)
+same-length-2 c = (c .before .loop) .inv .3 .long ∙ sym (((start-from-loop-done c) .pre) .ready .kept .words-long)
 
 returns : tie.Need-returns Inv-loop μ-loop
 returns c =
-    let a = (c .before .before .before .before .before .args) in
+    let a = ((start-from-loop-done c) .args) in
     let k = a .p .candidates in
     let l = (c .before .loop) in
     let all : k * k ≤ l .e = omega (arith, (c .loop-test) .left, same-square (l .inv .0)) in
     record {
-      wrote = table-end (a .w) (a .table .now) k (stageBlock (a .w) (a .table .now) k (a .p .digits) (a .m) (a .links .now) (a .words .now)) (l .e) (l .table) (l .next) all (l .inv .1) (l .inv .2);
-      kept = kept-end k (stays (a .m)) (stageEnd (a .w) (a .table .now) k (a .p .digits) (a .m) (a .links .now) (a .words .now)) (a .words .now) (l .e) (l .words) all (l .inv .3);
+      wrote = table-end (a .w) (a .table .now) k
+          (stageBlock (a .w) (a .table .now) k (a .p .digits) (a .m) (a .links .now) (a .words .now)) (l .e)
+          (l .table) (l .next) all (l .inv .1) (l .inv .2);
+      kept = kept-end k (stays (a .m))
+          (stageEnd (a .w) (a .table .now) k (a .p .digits) (a .m) (a .links .now) (a .words .now)) (a .words .now)
+          (l .e) (l .words) all (l .inv .3);
     }
 
 pub path-table-spec : {M : Type 1} → statement M
-path-table-spec = tie.close (tie.spec Inv-loop μ-loop loop-holds mul-loop path-entry-requires add-e loop-less loop-again same-length same-length-2 returns)
+path-table-spec = tie.close (tie.spec Inv-loop μ-loop loop-holds mul-loop path-entry-requires add-e loop-less
+    loop-again same-length same-length-2 returns)
