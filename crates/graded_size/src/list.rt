@@ -26,7 +26,7 @@ fn pair_span(p: Plan, contest: u32, key: u32, count: u32) -> u32
 }
 
 // The best of one to four candidates: both halves, their merge, and the better key.
-fn four_span(p: Plan, contest: u32, key: u32, count: u32) -> u32
+fn best_of_four_span(p: Plan, contest: u32, key: u32, count: u32) -> u32
     requires { ⌜ GroupReady p contest key count 4 ⌝ }
     ensures { λ r. ⌜ r ≡ levelsSpan p 2 count ⌝ }
 {
@@ -48,8 +48,8 @@ fn circuit_span(p: Plan) -> u32
     let contest = contest_span(p);
     let key = (p.grades - 1) * (p.digits + 1);
     let count = p.candidates;
-    let low = four_span(p, contest, key, count / 2);
-    let high = four_span(p, contest, key, count - count / 2);
+    let low = best_of_four_span(p, contest, key, count / 2);
+    let high = best_of_four_span(p, contest, key, count - count / 2);
     count * each + low + high + contest + SELECT_FLAGS + count
 }
 

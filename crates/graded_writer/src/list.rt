@@ -124,7 +124,7 @@ fn two_to_four(w: Writer, table: &mut [u32], p: Plan, span: u32, c: u32, count: 
 }
 
 // The best of one to four candidates from candidate c on.
-fn four(w: Writer, table: &mut [u32], p: Plan, span: u32, c: u32, count: u32) -> Writer
+fn best_of_four(w: Writer, table: &mut [u32], p: Plan, span: u32, c: u32, count: u32) -> Writer
     requires { ⌜ GroupReady w (levelsSpan p 2 count) p span c count 0 4 ⌝ }
     ensures { λ r. ⌜ Wrote w (now (table .entry)) (levels p 2 (w .wire) c count) (now (table .exit)) r ⌝ }
 {
@@ -146,8 +146,8 @@ fn all_levels(all: Writer, table: &mut [u32], p: Plan, span: u32) -> Writer
 {
     let first = p.candidates / 2;
     let second = p.candidates - first;
-    let low = four(all, table, p, span, 0, first);
-    let high = four(low, table, p, span, first, second);
+    let low = best_of_four(all, table, p, span, 0, first);
+    let high = best_of_four(low, table, p, span, first, second);
     halves(high, table, p, span, 0, first, second, low.wire)
 }
 

@@ -10,7 +10,7 @@ use Rattle.gate_words.proofs.Emitting.{xor-wrote}
 use Rattle.gate_words.proofs.ChoiceSteps.{length-chain}
 use Rattle.gate_words.proofs.Standing.{Stands, stands, stands-after, room-of, wrote-then, one-gate}
 use Rattle.graded_circuit.specs.Median.{digitDifference, differAt, differenceSpan}
-use Rattle.graded_circuit.proofs.PlanFacts.{all-below}
+use Rattle.gate_words.proofs.CounterSteps.{below-stride}
 use Rattle.graded_circuit.proofs.MedianLaws.{first-of}
 use Rattle.graded_keys.proofs.Steps.{stride-most}
 use Rattle.graded_keys.proofs.median.digit_difference.Statement.{statement}
@@ -57,7 +57,7 @@ parity-requires c κs =
     let a = s .args in
     record {
       room = room-less (a .w) _ (differenceSpan (a .many)) (omega arith) (s .pre .ones .room);
-      below = all-below (a .w .wire) (a .x + a .step) (a .step) (a .many - 1) (x-there s .1);
+      below = below-stride (a .w .wire) (a .x + a .step) (a .step) (a .many - 1) (x-there s .1);
       near = omega (arith, near s);
     }
 
@@ -83,7 +83,7 @@ parity-requires-2 c κs =
     let a = s .args in
     record {
       room = room-of (h .parity .result) _ _ _ (first h) (omega arith);
-      below = all-below (h .parity .result .wire) (a .y + a .step) (a .step) (a .many - 1) (omega (arith, y-there s .1, first h .place));
+      below = below-stride (h .parity .result .wire) (a .y + a .step) (a .step) (a .many - 1) (omega (arith, y-there s .1, first h .place));
       near = omega (arith, near s);
     }
 

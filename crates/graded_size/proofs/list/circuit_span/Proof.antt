@@ -26,10 +26,10 @@ record Whole (p : Plan) (each contest low high : ℕ) : Type 0 where
   high-few : high ≤ 1500
   few : p .candidates ≤ 8
 
-whole : (c : tie.After-four-span2)
+whole : (c : tie.After-best-of-four-span2)
     → Whole (c .before .before .before .before .before .before .args .p)
     (c .before .before .before .before .before .candidate-span .result)
-    (c .before .before .before .before .contest-span .result) (c .before .four-span .result) (c .four-span2 .result)
+    (c .before .before .before .before .contest-span .result) (c .before .best-of-four-span .result) (c .best-of-four-span2 .result)
 whole c =
     let p = c .before .before .before .before .before .before .args .p in
     let f = c .before .before .before .before .before .before .pre .plan in
@@ -40,10 +40,10 @@ whole c =
       all-few = omega (arith, e, all-small p f);
       contest-is = c .before .before .before .before .contest-span .ensures;
       contest-few = omega (arith, c .before .before .before .before .contest-span .ensures, contest-small p f);
-      low-is = c .before .four-span .ensures;
-      low-few = omega (arith, c .before .four-span .ensures, four-small p f (k / 2) (omega (arith, f .k-most)));
-      high-is = c .four-span2 .ensures;
-      high-few = omega (arith, c .four-span2 .ensures, four-small p f (k - k / 2) (omega (arith, f .k-most)));
+      low-is = c .before .best-of-four-span .ensures;
+      low-few = omega (arith, c .before .best-of-four-span .ensures, four-small p f (k / 2) (omega (arith, f .k-most)));
+      high-is = c .best-of-four-span2 .ensures;
+      high-few = omega (arith, c .best-of-four-span2 .ensures, four-small p f (k - k / 2) (omega (arith, f .k-most)));
       few = f .k-most;
     }
 
@@ -62,14 +62,14 @@ add-key c = omega (arith, digits-most (c .before .before .before .before .args .
 mul-key : tie.Need-mul-key
 mul-key c = omega (arith, contest-small (c .before .before .before .before .args .p) (c .before .before .before .before .pre .plan))
 
-four-span-requires : tie.Need-four-span-requires
-four-span-requires c κs = search needs
+best-of-four-span-requires : tie.Need-best-of-four-span-requires
+best-of-four-span-requires c κs = search needs
 
-sub-four-span : tie.Need-sub-four-span
-sub-four-span c = search needs
+sub-best-of-four-span : tie.Need-sub-best-of-four-span
+sub-best-of-four-span c = search needs
 
-four-span-requires-2 : tie.Need-four-span-requires-2
-four-span-requires-2 c κs = search needs
+best-of-four-span-requires-2 : tie.Need-best-of-four-span-requires-2
+best-of-four-span-requires-2 c κs = search needs
 
 mul-result : tie.Need-mul-result
 mul-result c = omega (arith, whole c)
@@ -107,9 +107,9 @@ circuit-span-spec =
     sub-key
     add-key
     mul-key
-    four-span-requires
-    sub-four-span
-    four-span-requires-2
+    best-of-four-span-requires
+    sub-best-of-four-span
+    best-of-four-span-requires-2
     mul-result
     add-result
     add-result-2

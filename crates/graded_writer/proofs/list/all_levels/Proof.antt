@@ -30,8 +30,8 @@ all c = stands (c .args .all) (levelsAt (c .args .p)) (allLevelsSpan (c .args .p
 sub-second : tie.Need-sub-second
 sub-second c = omega arith
 
-four-requires : tie.Need-four-requires
-four-requires c κs =
+best-of-four-requires : tie.Need-best-of-four-requires
+best-of-four-requires c κs =
     let s = c .before .before .before .before in
     let q = s .pre in
     record {
@@ -45,43 +45,43 @@ four-requires c κs =
     }
 
 -- The stages of the function, seen from later ones.
-abbrev start-from-four : tie.After-four → tie.Start
-start-from-four c = c .before .before .before .before .before
+abbrev start-from-best-of-four : tie.After-best-of-four → tie.Start
+start-from-best-of-four c = c .before .before .before .before .before
 
-abbrev start-from-four2 : tie.After-four2 → tie.Start
-start-from-four2 c = start-from-four (c .before .before .before .before)
+abbrev start-from-best-of-four2 : tie.After-best-of-four2 → tie.Start
+start-from-best-of-four2 c = start-from-best-of-four (c .before .before .before .before)
 
-abbrev four-from-halves-arg : tie.After-halves-arg → tie.After-four
-four-from-halves-arg c = c .before .before .before .before .before .before .before
+abbrev best-of-four-from-halves-arg : tie.After-halves-arg → tie.After-best-of-four
+best-of-four-from-halves-arg c = c .before .before .before .before .before .before .before
 
 abbrev start-from-halves : tie.After-halves → tie.Start
-start-from-halves c = start-from-four (c .before .before .before .before .before .before .before .before)
+start-from-halves c = start-from-best-of-four (c .before .before .before .before .before .before .before .before)
 
-abbrev four-from-halves : tie.After-halves → tie.After-four
-four-from-halves c = c .before .before .before .before .before .before .before .before
+abbrev best-of-four-from-halves : tie.After-halves → tie.After-best-of-four
+best-of-four-from-halves c = c .before .before .before .before .before .before .before .before
 
-abbrev four2-from-slice-known4 : tie.After-slice-known4 → tie.After-four2
-four2-from-slice-known4 c = c .before .before .before .before .before .before
+abbrev best-of-four2-from-slice-known4 : tie.After-slice-known4 → tie.After-best-of-four2
+best-of-four2-from-slice-known4 c = c .before .before .before .before .before .before
 
-low : (c : tie.After-four) → let p = (start-from-four c) .args .p in
-    Stands (c .four .result) (levelsAt p + lowSpan p) (highSpan p + lastSpan p)
+low : (c : tie.After-best-of-four) → let p = (start-from-best-of-four c) .args .p in
+    Stands (c .best-of-four .result) (levelsAt p + lowSpan p) (highSpan p + lastSpan p)
 low c =
-    let s = (start-from-four c) in
+    let s = (start-from-best-of-four c) in
     let a = s .args in
     let q = s .pre in
-    stands-after (a .all) (a .table .now) _ (c .four .last .1 .0) (c .four .result) _ _ _ (c .four .ensures)
+    stands-after (a .all) (a .table .now) _ (c .best-of-four .last .1 .0) (c .best-of-four .result) _ _ _ (c .best-of-four .ensures)
     (levels-block (a .p) (s .pre .plan) 2 (a .all .wire) 0 (a .p .candidates / 2) (omega (arith, q .place))
     (omega (arith, q .several)) (omega (arith, s .pre .plan .k-most)) (omega arith) .long)
     (all s)
 
-four-requires-2 : tie.Need-four-requires-2
-four-requires-2 c κs =
-    let s = (start-from-four (c .before .before .before)) in
+best-of-four-requires-2 : tie.Need-best-of-four-requires-2
+best-of-four-requires-2 c κs =
+    let s = (start-from-best-of-four (c .before .before .before)) in
     let q = s .pre in
     let l = low (c .before .before .before) in
     record {
       plan = s .pre .plan;
-      room = room-of (c .before .before .before .four .result) _ _ _ l (omega arith);
+      room = room-of (c .before .before .before .best-of-four .result) _ _ _ l (omega arith);
       spanIs = q .spanIs;
       levelsBelow = omega (arith, l .place);
       some = omega (arith, q .several);
@@ -89,15 +89,15 @@ four-requires-2 c κs =
       inside = omega arith;
     }
 
-high : (c : tie.After-four2) → let p = (start-from-four2 c) .args .p in
-    Stands (c .four2 .result) (levelsAt p + lowSpan p + highSpan p) (lastSpan p)
+high : (c : tie.After-best-of-four2) → let p = (start-from-best-of-four2 c) .args .p in
+    Stands (c .best-of-four2 .result) (levelsAt p + lowSpan p + highSpan p) (lastSpan p)
 high c =
-    let s = (start-from-four2 c) in
+    let s = (start-from-best-of-four2 c) in
     let a = s .args in
     let q = s .pre in
-    let f = c .before .before .before .before .four in
+    let f = c .before .before .before .before .best-of-four in
     let l = low (c .before .before .before .before) in
-    stands-after (f .result) (f .last .1 .0) _ (c .four2 .last .1 .0) (c .four2 .result) _ _ _ (c .four2 .ensures)
+    stands-after (f .result) (f .last .1 .0) _ (c .best-of-four2 .last .1 .0) (c .best-of-four2 .result) _ _ _ (c .best-of-four2 .ensures)
     (levels-block (a .p) (s .pre .plan) 2 (f .result .wire) (a .p .candidates / 2)
     (a .p .candidates - a .p .candidates / 2) (omega (arith, l .place)) (omega (arith, q .several))
     (omega (arith, s .pre .plan .k-most)) (omega arith) .long)
@@ -105,10 +105,10 @@ high c =
 
 halves-requires : tie.Need-halves-requires
 halves-requires c κs =
-    let s = (start-from-four2 (c .before .before .before)) in
+    let s = (start-from-best-of-four2 (c .before .before .before)) in
     let p = s .args .p in
     let q = s .pre in
-    let e = low (four-from-halves-arg c) .place in
+    let e = low (best-of-four-from-halves-arg c) .place in
     let h = high (c .before .before .before) in
     let e′ = h .place in
     record {
@@ -133,10 +133,10 @@ returns c =
     let a = s .args in
     let p = a .p in
     let k = p .candidates in
-    let f = (four-from-halves (c .before .before)) .four in
-    let g = (four2-from-slice-known4 c) .four2 in
-    let l = low (four-from-halves (c .before .before)) in
-    let h = high (four2-from-slice-known4 c) in
+    let f = (best-of-four-from-halves (c .before .before)) .best-of-four in
+    let g = (best-of-four2-from-slice-known4 c) .best-of-four2 in
+    let l = low (best-of-four-from-halves (c .before .before)) in
+    let h = high (best-of-four2-from-slice-known4 c) in
     wrote-then (a .all) (a .table .now) _ (g .last .1 .0) (g .result) _ _ _ _
     (wrote-then (a .all) (a .table .now) _ (f .last .1 .0) (f .result) _ _ _ _
     (wrote-as (a .all) (a .table .now) _ _ _ _ (ap (λ (i : ℕ). levels p 2 i 0 (k / 2)) (s .pre .place)) (f .ensures))
@@ -146,4 +146,4 @@ returns c =
     (h .place))
 
 pub all-levels-spec : {M : Type 1} → statement M
-all-levels-spec = tie.close (tie.spec sub-second four-requires four-requires-2 halves-requires same-length returns)
+all-levels-spec = tie.close (tie.spec sub-second best-of-four-requires best-of-four-requires-2 halves-requires same-length returns)

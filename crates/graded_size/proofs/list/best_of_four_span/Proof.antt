@@ -1,4 +1,4 @@
--- `graded_size::list::four_span` meets its contract: both halves, their merge and a key.
+-- `graded_size::list::best_of_four_span` meets its contract: both halves, their merge and a key.
 -- Assumes nothing.
 use mathlib.Core.Path.{_≡_}
 use Prim.Native.Nat.{_-_, _/_, _≤_}
@@ -6,8 +6,8 @@ use native.Mathlib.Omega.{arith}
 use borrow.Author.Needs.{needs}
 use Rattle.graded_circuit.specs.OwnList.{levelsSpan}
 use Rattle.graded_size.proofs.Spans.{four-one, four-more, pair-small, contest-small}
-use Rattle.graded_size.proofs.list.four_span.Statement.{statement}
-use Rattle.graded_size.proofs.list.four_span.Tie as tie
+use Rattle.graded_size.proofs.list.best_of_four_span.Statement.{statement}
+use Rattle.graded_size.proofs.list.best_of_four_span.Tie as tie
 
 returns : tie.Need-returns
 returns c = let a = c .before .args in omega (arith, four-one (a .p) (a .count) (c .if1 .taken))
@@ -68,6 +68,6 @@ returns-2 c =
       four-more (a .p) (a .count) (omega (arith, c .before .before .if1 .left)),
     )
 
-pub four-span-spec : {M : Type 1} → statement M
-four-span-spec = tie.close (tie.spec returns pair-span-requires sub-pair-span pair-span-requires-2 add-result
+pub best-of-four-span-spec : {M : Type 1} → statement M
+best-of-four-span-spec = tie.close (tie.spec returns pair-span-requires sub-pair-span pair-span-requires-2 add-result
     add-result-2 add-result-3 add-result-4 add-result-5 returns-2)

@@ -1,12 +1,12 @@
--- `graded_writer::list::four` meets its contract: a single candidate meets nobody.
+-- `graded_writer::list::best_of_four` meets its contract: a single candidate meets nobody.
 -- Assumes nothing.
 use mathlib.Core.Path.{sym}
 use mathlib.Core.List.{[]}
 use borrow.Author.Needs.{needs}
 use Rattle.gate_words.proofs.Writing.{wrote-nothing, wrote-as}
 use Rattle.graded_circuit.proofs.LevelsLaws.{levels-one}
-use Rattle.graded_writer.proofs.list.four.Statement.{statement}
-use Rattle.graded_writer.proofs.list.four.Tie as tie
+use Rattle.graded_writer.proofs.list.best_of_four.Statement.{statement}
+use Rattle.graded_writer.proofs.list.best_of_four.Tie as tie
 
 returns : tie.Need-returns
 returns c =
@@ -23,5 +23,5 @@ same-length c = search needs
 returns-2 : tie.Need-returns-2
 returns-2 c = search needs
 
-pub four-spec : {M : Type 1} → statement M
-four-spec = tie.close (tie.spec returns two-to-four-requires same-length returns-2)
+pub best-of-four-spec : {M : Type 1} → statement M
+best-of-four-spec = tie.close (tie.spec returns two-to-four-requires same-length returns-2)
