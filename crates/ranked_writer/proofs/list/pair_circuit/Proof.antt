@@ -50,32 +50,28 @@ first-tables-requires c κs =
     }
 
 -- The stages of the function, seen from later ones.
-abbrev start-from-links : tie.After-links → tie.Start
-start-from-links c = c .before .before .before
-
-abbrev start-from-links3 : tie.After-links3 → tie.Start
-start-from-links3 c = start-from-links (c .before .before .before .before .before .before .before .before)
-
-abbrev first-tables-from-links3 : tie.After-links3 → tie.After-first-tables
-first-tables-from-links3 c = c .before .before .before .before .before .before
-
-abbrev start-from-output-gates : tie.After-output-gates → tie.Start
-start-from-output-gates c = start-from-links3 (c .before)
+abbrev start-from-first-tables : tie.After-first-tables → tie.Start
+start-from-first-tables c = c .before .before .before .before .before
 
 abbrev first-tables-from-output-gates : tie.After-output-gates → tie.After-first-tables
 first-tables-from-output-gates c = c .before .before .before .before .before .before .before
 
+abbrev start-from-output-gates : tie.After-output-gates → tie.Start
+start-from-output-gates c = start-from-first-tables (first-tables-from-output-gates c)
+
 output-gates-requires : tie.Need-output-gates-requires
 output-gates-requires c κs =
-    let a = ((start-from-links3 c) .args) in
-    let f = ((first-tables-from-links3 c) .first-tables) in
+    let done = c .before .before .before .before .before .before in
+    let s = start-from-first-tables done in
+    let a = s .args in
+    let f = done .first-tables in
     record {
       room = room-after (a .w) (a .table .now) _ (f .last .1 .0) (f .result) _ _ (f .ensures .wrote)
-          (omega (arith, long (a .p) (((start-from-links3 c) .pre) .two))) (((start-from-links3 c) .pre) .room);
-      k-least = ((start-from-links3 c) .pre) .ranked .k-least;
-      k-most = ((start-from-links3 c) .pre) .ranked .k-most;
+          (omega (arith, long (a .p) (s .pre .two))) (s .pre .room);
+      k-least = s .pre .ranked .k-least;
+      k-most = s .pre .ranked .k-most;
       long = f .ensures .links-kept .long;
-      place = omega (arith, no-rows (((start-from-links3 c) .pre) .two));
+      place = omega (arith, no-rows (s .pre .two));
     }
 
 outputs-are : (k n w : ℕ) (ls : List ℕ) (wire : ℕ) → k ≡ 2 → Keeps k ls (linkWire k n w) → wire ≡ endOf k n w 0
