@@ -4,4 +4,5 @@ pub mod Cases
 pub mod Arithmetic
 pub mod Tabulate
 pub mod Sums
+pub mod Same
 pub mod Tables

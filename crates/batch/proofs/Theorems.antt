@@ -45,7 +45,7 @@ use Rattle.batch_lanes.proofs.ListLaws.{lanes-length, lanes-bits, lanes-zeros, 
 use Rattle.batch.specs.Ballots.{wordGradedReasons, wordRankedReasons, wordBallotReasons}
 use Rattle.batch.specs.Call.{Call}
 use Rattle.batch.specs.Run.{wordBufferReasons, batchReasons, boardAlone, batchResultAfter, batchResult}
-use Rattle.batch.specs.Theorems.{runAlone, EachAsAlone, AcceptedAsAll, BatchMemory, BatchAccuracy, BatchHiding}
+use Rattle.batch.specs.Theorems.{runAlone, EachAsAlone, AcceptedIfAll, BatchMemory, BatchAccuracy, BatchHiding}
 use Rattle.batch.proofs.Reasons.{BatchPassed, batch-passed, batch-passed-back, result-by}
 
 -- every byte of a finished board of good gates on bits is a bit
@@ -180,7 +180,7 @@ each-as-alone c size e j h =
     )
 
 -- And 64 accepted single runs make an accepted call.
-pub accepted-as-all : AcceptedAsAll
+pub accepted-as-all : AcceptedIfAll
 unfolding batchResultAfter
 accepted-as-all c size e =
     ap (λ (r : RunResult). r .answer) (result-by c none (batch-passed-back c passed))

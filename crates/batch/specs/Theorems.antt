@@ -11,7 +11,7 @@ use Rattle.tally.specs.Memory.{BoardKeepsMemory}
 use Rattle.tally.specs.Count.{plainClosing}
 use Rattle.tally.specs.Write.{writeOutcome}
 use Rattle.tally.specs.Run.{RunResult, runResult}
-use Rattle.tally.specs.Hiding.{closingBytes, Hidden}
+use Rattle.tally.specs.Hiding.{closingBytes, RunsHide}
 use Rattle.tally.specs.Demands.{listIn}
 use Rattle.batch_lanes.specs.Lane.{laneCount, laneOf}
 use Rattle.batch.specs.Call.{Call}
@@ -34,8 +34,8 @@ EachAsAlone =
     × (laneOf j (batchResult c .board) ≡ runAlone j c .board)
 
 -- A call is accepted if all 64 single runs are.
-abbrev pub AcceptedAsAll : Type 0
-AcceptedAsAll =
+abbrev pub AcceptedIfAll : Type 0
+AcceptedIfAll =
     (c : Call) (size : Size) → ((j : ℕ) → j < laneCount → runAlone j c .answer ≡ accepted size)
     → batchResult c .answer ≡ accepted size
 
@@ -83,5 +83,5 @@ BatchHiding =
     → (i j : ℕ) → i < laneCount → j < laneCount
     → closingBytes (c .shape) (laneOf i (batchResult c .board))
     ≡ closingBytes (c .shape) (laneOf j (batchResult c′ .board))
-    → Hidden (c .shape) (c .table) (laneOf i (c .ballots)) (laneOf j (c′ .ballots)) (laneOf i (c .wires))
+    → RunsHide (c .shape) (c .table) (laneOf i (c .ballots)) (laneOf j (c′ .ballots)) (laneOf i (c .wires))
     (laneOf j (c′ .wires)) (laneOf i (c .board)) (laneOf j (c′ .board))

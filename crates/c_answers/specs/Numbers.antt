@@ -9,6 +9,7 @@ use Rattle.jury.specs.declared.shape.Shape.{Shape}
 use Rattle.jury.specs.Reason.{Reason}
 use Rattle.tally.specs.Answer.{Outcome, refused, accepted, Size}
 use Rattle.tally.specs.Measure.{Measures}
+use Rattle.tally.specs.Run.{RunResult}
 
 unfoldable pub shapeOf : ℕ → ℕ → ℕ → Shape
 shapeOf candidates grades ballots = record { candidates = candidates; grades = grades; ballots = ballots }
@@ -78,3 +79,8 @@ callResult needed numbers answer before after =
       answer = answered needed numbers answer;
       lent = cond (ltb (length answer) needed) before after;
     }
+
+-- The same for a call that leaves a board, from what its run leaves.
+abbrev pub boardCall : (r : RunResult) (wires board answer : List ℕ) → CallResult
+boardCall r wires board answer =
+    callResult sizeAnswer (sizeNumbers (r .answer)) answer (wires ∷ board ∷ []) (r .wires ∷ r .board ∷ [])

@@ -8,7 +8,7 @@ ghost use mathlib.Core.Path.{_≡_};
 ghost use mathlib.Core.List.{[], _∷_};
 ghost use Prim.Native.Nat.{_≤_, _<_};
 ghost use lib.ListN.{length, getD};
-ghost use Rattle.dispatch_rounds.specs.Tables.{lent};
+ghost use Rattle.dispatch_rounds.specs.Tables.{tablesOf};
 ghost use Rattle.dispatch.specs.Reasons.{verdictReason};
 ghost use Rattle.c_answers.specs.Numbers.{answerNumbers};
 ghost use Rattle.c_answers.specs.inner.Puts.{Puts};
@@ -73,7 +73,7 @@ fn put_rounds(outcome: Dispatched, answer: &mut [usize]) -> usize
 #[no_mangle]
 pub extern "C" fn jugy_dispatch(
     count: usize,
-    quantum: usize,
+    gates_per_round: usize,
     headers: &[usize],
     lists: &[u32],
     ballots: &[u8],
@@ -90,8 +90,8 @@ pub extern "C" fn jugy_dispatch(
         } ≡ dispatchCall (record {
           count = count;
           headers = headersIn (now (headers .entry));
-          quantum = quantum;
-          tables = lent (now (lists .entry)) (now (ballots .entry)) (now (tapes .entry)) (now (wires .entry))
+          gatesPerRound = «gates_per_round»;
+          tables = tablesOf (now (lists .entry)) (now (ballots .entry)) (now (tapes .entry)) (now (wires .entry))
               (now (boards .entry));
         }) (now (answer .entry)) ⌝ }
 {
@@ -102,7 +102,7 @@ pub extern "C" fn jugy_dispatch(
     let outcome = dispatch::dispatch::dispatch(
         count,
         stated,
-        quantum,
+        gates_per_round,
         lists,
         ballots,
         tapes,

@@ -5,10 +5,10 @@ use Prim.Native.Nat.{ℕ}
 use Rattle.jury.specs.declared.shape.Shape.{Shape}
 use Rattle.tally.specs.Count.{countReason, plainClosing}
 use Rattle.tally.specs.Measure.{measureOutcome}
-use Rattle.tally.specs.Run.{RunResult, runResult}
+use Rattle.tally.specs.Run.{runResult}
 use Rattle.tally.specs.Test.{testOutcome}
 use Rattle.tally.specs.Write.{writeOutcome, writeResult, HoldsWithin}
-use Rattle.c_answers.specs.Numbers.{sizeAnswer, measureAnswer, countAnswer, sizeNumbers, measureNumbers, answerNumbers}
+use Rattle.c_answers.specs.Numbers.{sizeAnswer, measureAnswer, countAnswer, sizeNumbers, measureNumbers, answerNumbers, boardCall}
 use Rattle.c_answers.specs.Numbers.{CallResult, callResult}
 
 abbrev pub measureCall : (s : Shape) (answer : List ℕ) → CallResult
@@ -25,11 +25,6 @@ pub record WriteLeaves (s : Shape) (table answer : List ℕ) (left : CallResult)
 
 abbrev pub testCall : (s : Shape) (table answer : List ℕ) → CallResult
 testCall s table answer = callResult sizeAnswer (sizeNumbers (testOutcome s table)) answer [] []
-
--- The same from what a run leaves.
-abbrev pub boardCall : (r : RunResult) (wires board answer : List ℕ) → CallResult
-boardCall r wires board answer =
-    callResult sizeAnswer (sizeNumbers (r .answer)) answer (wires ∷ board ∷ []) (r .wires ∷ r .board ∷ [])
 
 abbrev pub runCall : (s : Shape) (table ballots tape wires board answer : List ℕ) → CallResult
 runCall s table ballots tape wires board answer =

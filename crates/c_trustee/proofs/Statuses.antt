@@ -13,13 +13,13 @@ pub status-tells : StatusMeans
 unfolding fit
 status-tells =
     record {
-      start = λ s table t p parts dealt wireParts published answer.
-          size-tells 18 (omega arith) answer (startOutcome s table t p parts dealt wireParts published)
-          (λ r e. numbered 18 _ r tt (start-number s table t p parts dealt wireParts published r e));
-      round = λ s table t p round levels dealt heard wireParts published answer.
+      start = λ s table t p shares triples wireParts published answer.
+          size-tells 18 (omega arith) answer (startOutcome s table t p shares triples wireParts published)
+          (λ r e. numbered 18 _ r tt (start-number s table t p shares triples wireParts published r e));
+      round = λ s table t p round levels triples heard wireParts published answer.
           depth-tells 202 (omega arith) answer
-          (roundOutcome s table t p round levels dealt heard wireParts published)
-          (λ r e. numbered 202 _ r tt (round-number s table t p round levels dealt heard wireParts published r e));
+          (roundOutcome s table t p round levels triples heard wireParts published)
+          (λ r e. numbered 202 _ r tt (round-number s table t p round levels triples heard wireParts published r e));
       finish = λ s table wireParts answer. size-tells 18 (omega arith) answer (finishOutcome s table wireParts)
           (λ r e. numbered 18 _ r tt (finish-number s table wireParts r e));
     }

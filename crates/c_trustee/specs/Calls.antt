@@ -9,20 +9,22 @@ use Rattle.c_answers.specs.Numbers.{sizeAnswer, sizeNumbers, CallResult, callRe
 use Rattle.c_levels.specs.Numbers.{depthAnswer, depthNumbers}
 
 -- Trustee p of t: its start, its round r, and its finish.
-abbrev pub startCall : (s : Shape) (table : List ℕ) (t p : ℕ) (parts dealt wires published answer : List ℕ) → CallResult
-startCall s table t p parts dealt wires published answer =
-    callResult sizeAnswer (sizeNumbers (startOutcome s table t p parts dealt wires published)) answer
+abbrev pub startCall : (s : Shape) (table : List ℕ) (t p : ℕ) (shares triples wires published answer : List ℕ)
+    → CallResult
+startCall s table t p shares triples wires published answer =
+    callResult sizeAnswer (sizeNumbers (startOutcome s table t p shares triples wires published)) answer
     (wires ∷ published ∷ [])
-    (startedWires s table t p parts dealt wires published ∷ startedPublished s table t p parts dealt wires published
+    (startedWires s table t p shares triples wires published
+    ∷ startedPublished s table t p shares triples wires published
     ∷ [])
 
-abbrev pub roundCall : (s : Shape) (table : List ℕ) (t p r : ℕ) (levels dealt heard wires published answer : List ℕ)
+abbrev pub roundCall : (s : Shape) (table : List ℕ) (t p r : ℕ) (levels triples heard wires published answer : List ℕ)
     → CallResult
-roundCall s table t p r levels dealt heard wires published answer =
-    callResult depthAnswer (depthNumbers (roundOutcome s table t p r levels dealt heard wires published)) answer
+roundCall s table t p r levels triples heard wires published answer =
+    callResult depthAnswer (depthNumbers (roundOutcome s table t p r levels triples heard wires published)) answer
     (wires ∷ published ∷ [])
-    (roundedWires s table t p r levels dealt heard wires published
-    ∷ roundedPublished s table t p r levels dealt heard wires published ∷ [])
+    (roundedWires s table t p r levels triples heard wires published
+    ∷ roundedPublished s table t p r levels triples heard wires published ∷ [])
 
 abbrev pub finishCall : (s : Shape) (table wires answer : List ℕ) → CallResult
 finishCall s table wires answer =

@@ -10,8 +10,8 @@ use Rattle.c_answers.specs.Status.{SizeStatus}
 use Rattle.c_levels.specs.Status.{DepthStatus}
 
 pub record StatusMeans : Type 0 where
-  pub start : (s : Shape) (table : List ℕ) (t p : ℕ) (parts dealt wires published answer : List ℕ)
-      → SizeStatus 18 answer (startOutcome s table t p parts dealt wires published)
-  pub round : (s : Shape) (table : List ℕ) (t p r : ℕ) (levels dealt heard wires published answer : List ℕ)
-      → DepthStatus 202 answer (roundOutcome s table t p r levels dealt heard wires published)
+  pub start : (s : Shape) (table : List ℕ) (t p : ℕ) (shares triples wires published answer : List ℕ)
+      → SizeStatus 18 answer (startOutcome s table t p shares triples wires published)
+  pub round : (s : Shape) (table : List ℕ) (t p r : ℕ) (levels triples heard wires published answer : List ℕ)
+      → DepthStatus 202 answer (roundOutcome s table t p r levels triples heard wires published)
   pub finish : (s : Shape) (table wires answer : List ℕ) → SizeStatus 18 answer (finishOutcome s table wires)

@@ -23,8 +23,8 @@ pub extern "C" fn jugy_trustee_start(
     table: &[u32],
     trustees: usize,
     trustee: usize,
-    parts: &[u8],
-    dealt: &[u8],
+    shares: &[u8],
+    triples: &[u8],
     wires: &mut [u8],
     published: &mut [u8],
     answer: &mut [usize],
@@ -34,8 +34,8 @@ pub extern "C" fn jugy_trustee_start(
           returned = r;
           answer = now (answer .exit);
           lent = now (wires .exit) ∷ now (published .exit) ∷ [];
-        } ≡ startCall (shapeOf candidates grades ballots) (now (table .entry)) trustees trustee (now (parts .entry))
-        (now (dealt .entry)) (now (wires .entry)) (now (published .entry)) (now (answer .entry)) ⌝ }
+        } ≡ startCall (shapeOf candidates grades ballots) (now (table .entry)) trustees trustee (now (shares .entry))
+        (now (triples .entry)) (now (wires .entry)) (now (published .entry)) (now (answer .entry)) ⌝ }
 {
     if answer.len() < SIZE_ANSWER {
         return SHORT_ANSWER;
@@ -48,8 +48,8 @@ pub extern "C" fn jugy_trustee_start(
         table,
         trustees,
         trustee,
-        parts,
-        dealt,
+        shares,
+        triples,
         wires,
         published,
     );
@@ -67,7 +67,7 @@ pub extern "C" fn jugy_trustee_round(
     trustee: usize,
     round: usize,
     levels: &[u32],
-    dealt: &[u8],
+    triples: &[u8],
     heard: &[u8],
     wires: &mut [u8],
     published: &mut [u8],
@@ -79,7 +79,7 @@ pub extern "C" fn jugy_trustee_round(
           answer = now (answer .exit);
           lent = now (wires .exit) ∷ now (published .exit) ∷ [];
         } ≡ roundCall (shapeOf candidates grades ballots) (now (table .entry)) trustees trustee round
-        (now (levels .entry)) (now (dealt .entry)) (now (heard .entry)) (now (wires .entry)) (now (published .entry))
+        (now (levels .entry)) (now (triples .entry)) (now (heard .entry)) (now (wires .entry)) (now (published .entry))
         (now (answer .entry)) ⌝ }
 {
     if answer.len() < DEPTH_ANSWER {
@@ -98,7 +98,7 @@ pub extern "C" fn jugy_trustee_round(
         trustee,
         round,
         levels,
-        dealt,
+        triples,
         heard,
         wires,
         published,

@@ -2,13 +2,12 @@
 use mathlib.Core.List.{List, [], _∷_}
 use Prim.Native.Nat.{ℕ}
 use Rattle.jury.specs.declared.shape.Shape.{Shape}
-use Rattle.tally.specs.Run.{RunResult}
 use Rattle.urn.specs.Facts.{UrnResult}
 use Rattle.urn.specs.Empty.{emptying}
 use Rattle.urn.specs.Admit.{admitOutcome, admission}
 use Rattle.urn.specs.Withdraw.{withdrawOutcome, withdrawal}
 use Rattle.urn_run.specs.Run.{urnRunResult}
-use Rattle.c_answers.specs.Numbers.{oneAnswer, sizeAnswer, oneNumber, sizeNumbers, CallResult, callResult}
+use Rattle.c_answers.specs.Numbers.{oneAnswer, oneNumber, CallResult, callResult, boardCall}
 
 -- The same from what a call leaves of its urn.
 abbrev pub urnCall : (r : UrnResult) (urn answer : List ℕ) → CallResult
@@ -30,11 +29,6 @@ previewAdmitCall k d urn juror ballot answer =
 
 abbrev pub previewWithdrawCall : (k d : ℕ) (urn : List ℕ) (juror : ℕ) (answer : List ℕ) → CallResult
 previewWithdrawCall k d urn juror answer = callResult oneAnswer (oneNumber (withdrawOutcome k d urn juror)) answer [] []
-
--- The same from what a run leaves.
-abbrev pub boardCall : (r : RunResult) (wires board answer : List ℕ) → CallResult
-boardCall r wires board answer =
-    callResult sizeAnswer (sizeNumbers (r .answer)) answer (wires ∷ board ∷ []) (r .wires ∷ r .board ∷ [])
 
 abbrev pub runUrnCall : (s : Shape) (table urn tape wires board answer : List ℕ) → CallResult
 runUrnCall s table urn tape wires board answer =

@@ -18,7 +18,7 @@ use Rattle.tally.specs.Examples.{oneBallot}
 use Rattle.tally.proofs.Examples.{pair-of-runs}
 use Rattle.tally.proofs.RunReasons.{run-passed}
 use Rattle.tally.proofs.Hiding.{ran-accepted, run-answer}
-use Rattle.dispatch_rounds.specs.Tables.{Tables, lent, shapeOf, fitting, pieceOf, listOf, conditionalIn, piecesOf, behind, through}
+use Rattle.dispatch_rounds.specs.Tables.{Tables, tablesOf, headerShape, fitting, pieceOf, listOf, conditionalIn, piecesOf, behind, through}
 use Rattle.dispatch_rounds.specs.Reasons.{reasonsOf, atJury, juryReasons}
 use Rattle.dispatch_rounds.specs.Rounds.{eightOf, roundsFor}
 use Rattle.dispatch.specs.Reasons.{dispatchReasons}
@@ -29,7 +29,7 @@ use Rattle.dispatch.proofs.Whole.{by-juries, result-by, same-result}
 one-conditional : conditionalCount (gatesOf oneGate) ≡ 1
 one-conditional = sym (accepted-list 2 1 oneGate 1 1 one-gate-tested .conditional-are)
 
-two-bytes : ballotBytes (shapeOf oneHeader) ≡ 2
+two-bytes : ballotBytes (headerShape oneHeader) ≡ 2
 unfolding oneHeader ballotBytes isRanking columns
 two-bytes = refl
 
@@ -46,11 +46,11 @@ module _ (t : Tables) (ballots tape wires board : List ℕ) (f : Front t ballots
   unfolding conditionalIn listOf oneHeader
   marked = ap (λ (l : List ℕ). conditionalCount (gatesOf l)) (f .list) ∙ one-conditional
 
-  in-front : piecesOf oneHeader t ≡ lent oneGate ballots tape wires board
+  in-front : piecesOf oneHeader t ≡ tablesOf oneGate ballots tape wires board
   unfolding piecesOf listOf oneHeader
   in-front = rw (two-bytes, marked, f .list, f .ballots-are, f .tape-is, f .wires-are, f .board-is)
 
-  then : behind oneHeader t ≡ lent (drop 4 (t .lists)) (drop 2 (t .ballots)) (drop 1 (t .tapes)) (drop 3 (t .wires)) (drop 2 (t .boards))
+  then : behind oneHeader t ≡ tablesOf (drop 4 (t .lists)) (drop 2 (t .ballots)) (drop 1 (t .tapes)) (drop 3 (t .wires)) (drop 2 (t .boards))
   unfolding behind oneHeader
   then = rw (two-bytes, marked)
 
@@ -58,12 +58,12 @@ module _ (t : Tables) (ballots tape wires board : List ℕ) (f : Front t ballots
     none-applies : firstOf (reasonsOf oneHeader t) ≡ none
     unfolding reasonsOf oneHeader oneBallot
     none-applies =
-        ap (λ (p : Tables). firstOf (runReasons (shapeOf oneHeader) (p .lists) (p .ballots) (p .tapes) (p .wires) (p .boards))) in-front
+        ap (λ (p : Tables). firstOf (runReasons (headerShape oneHeader) (p .lists) (p .ballots) (p .tapes) (p .wires) (p .boards))) in-front
         ∙ ran-accepted oneBallot oneGate ballots wires board tape _ ran .0
 
     its-board : runBoard oneHeader (piecesOf oneHeader t) ≡ runResult oneBallot oneGate ballots tape wires board .board
     unfolding runBoard oneHeader oneBallot
-    its-board = ap (λ (p : Tables). runResult (shapeOf oneHeader) (p .lists) (p .ballots) (p .tapes) (p .wires) (p .boards) .board) in-front
+    its-board = ap (λ (p : Tables). runResult (headerShape oneHeader) (p .lists) (p .ballots) (p .tapes) (p .wires) (p .boards) .board) in-front
 
     its-zeros : zeroWires oneHeader (piecesOf oneHeader t) ≡ replicate (length wires) 0
     its-zeros = ap (λ (p : Tables). replicate (length (p .wires)) 0) in-front
@@ -82,7 +82,7 @@ module _ (mask : ℕ) where
   abbrev second : Tables
   second = behind oneHeader (twoJuries mask .tables)
 
-  second-is : second ≡ lent oneGate (0 ∷ 1 ∷ []) (mask ∷ []) (7 ∷ 7 ∷ 7 ∷ []) (7 ∷ 7 ∷ [])
+  second-is : second ≡ tablesOf oneGate (0 ∷ 1 ∷ []) (mask ∷ []) (7 ∷ 7 ∷ 7 ∷ []) (7 ∷ 7 ∷ [])
   unfolding twoJuries oneGate
   second-is = then (twoJuries mask .tables) _ _ _ _ two-front
 
@@ -98,7 +98,7 @@ better-ran = ap (λ (r : RunResult). r .answer) (pair-of-runs .first-run)
 better-board : runResult oneBallot oneGate (1 ∷ 0 ∷ []) (0 ∷ []) (9 ∷ 9 ∷ 9 ∷ []) (9 ∷ 9 ∷ []) .board ≡ 1 ∷ 0 ∷ []
 better-board = ap (λ (r : RunResult). r .board) (pair-of-runs .first-run)
 
-first-left : behind oneHeader (oneJury .tables) ≡ lent [] [] [] (9 ∷ []) (9 ∷ [])
+first-left : behind oneHeader (oneJury .tables) ≡ tablesOf [] [] [] (9 ∷ []) (9 ∷ [])
 unfolding oneJury oneGate
 first-left = then (oneJury .tables) _ _ _ _ first-front
 
@@ -146,11 +146,11 @@ module _ (mask : ℕ) (board : List ℕ)
     (second-ran : runResult oneBallot oneGate (0 ∷ 1 ∷ []) (mask ∷ []) (7 ∷ 7 ∷ 7 ∷ []) (7 ∷ 7 ∷ []) .answer
     ≡ accepted (record { gates = 1; conditional = 1 }))
     (second-board : runResult oneBallot oneGate (0 ∷ 1 ∷ []) (mask ∷ []) (7 ∷ 7 ∷ 7 ∷ []) (7 ∷ 7 ∷ []) .board ≡ board) where
-  left-over : behind oneHeader (second mask) ≡ lent [] [] [] [] []
+  left-over : behind oneHeader (second mask) ≡ tablesOf [] [] [] [] []
   unfolding oneGate
   left-over =
       then (second mask) _ _ _ _ (second-front mask)
-      ∙ ap (λ (u : Tables). lent (drop 4 (u .lists)) (drop 2 (u .ballots)) (drop 1 (u .tapes)) (drop 3 (u .wires))
+      ∙ ap (λ (u : Tables). tablesOf (drop 4 (u .lists)) (drop 2 (u .ballots)) (drop 1 (u .tapes)) (drop 3 (u .wires))
       (drop 2 (u .boards))) (second-is mask)
 
   both-juries : firstOf (juryReasons 0 (oneHeader ∷ oneHeader ∷ []) (twoJuries mask .tables)) ≡ none

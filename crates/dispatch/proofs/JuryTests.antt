@@ -22,7 +22,7 @@ use Rattle.tally.specs.declared.answer.Answer.{Answer}
 use Rattle.tally.specs.declared.answer.Answer.the-variants as answer
 use Rattle.tally.proofs.TestReasons.{never, TestPassed}
 use Rattle.dispatch_rounds.specs.declared.header.JuryHeader.{JuryHeader}
-use Rattle.dispatch_rounds.specs.Tables.{Tables, lent, shapeOf, fitting, pieceOf, listOf, conditionalIn, piecesOf, behind}
+use Rattle.dispatch_rounds.specs.Tables.{Tables, tablesOf, headerShape, fitting, pieceOf, listOf, conditionalIn, piecesOf, behind}
 use Rattle.dispatch_rounds.specs.Reasons.{reasonsOf, atJury, juryReasons}
 use Rattle.dispatch_rounds.specs.declared.header.Places.{Places}
 use Rattle.dispatch_rounds.specs.Rounds.{eightOf}
@@ -47,23 +47,23 @@ module _ (s : JuryHeader) (t : Tables) where
   unfolding piecesOf listOf pieceOf
   list-piece n e = ap (λ (x : ℕ). take x (t .lists)) e
 
-  pub ballots-piece : (i n : ℕ) → i ≡ ballotBytes (shapeOf s) → n ≡ fitting (i + 0) (length (t .ballots))
+  pub ballots-piece : (i n : ℕ) → i ≡ ballotBytes (headerShape s) → n ≡ fitting (i + 0) (length (t .ballots))
       → take n (t .ballots) ≡ piecesOf s t .ballots
   unfolding piecesOf pieceOf
   ballots-piece i n h e = ap (λ (x : ℕ). take x (t .ballots))
-      (e ∙ ap (λ (x : ℕ). fitting x (length (t .ballots))) {x = i + 0} {y = ballotBytes (shapeOf s)} (omega arith))
+      (e ∙ ap (λ (x : ℕ). fitting x (length (t .ballots))) {x = i + 0} {y = ballotBytes (headerShape s)} (omega arith))
 
   pub tape-piece : (c n : ℕ) → c ≡ conditionalIn s t → n ≡ fitting (c + 0) (length (t .tapes)) → take n (t .tapes) ≡ piecesOf s t .tapes
   unfolding piecesOf pieceOf
   tape-piece c n h e = ap (λ (x : ℕ). take x (t .tapes))
       (e ∙ ap (λ (x : ℕ). fitting x (length (t .tapes))) {x = c + 0} {y = conditionalIn s t} (omega arith))
 
-  pub wires-piece : (i g n : ℕ) → i ≡ ballotBytes (shapeOf s) → g ≡ s .gates → n
+  pub wires-piece : (i g n : ℕ) → i ≡ ballotBytes (headerShape s) → g ≡ s .gates → n
       ≡ fitting (i + g) (length (t .wires)) → take n (t .wires) ≡ piecesOf s t .wires
   unfolding piecesOf pieceOf
   wires-piece i g n h k e =
       ap (λ (x : ℕ). take x (t .wires))
-      (e ∙ ap (λ (x : ℕ). fitting x (length (t .wires))) {x = i + g} {y = ballotBytes (shapeOf s) + s .gates}
+      (e ∙ ap (λ (x : ℕ). fitting x (length (t .wires))) {x = i + g} {y = ballotBytes (headerShape s) + s .gates}
       (omega arith))
 
   pub board-piece : (c n : ℕ) → c ≡ conditionalIn s t → n ≡ fitting (c + s .candidates) (length (t .boards))
@@ -117,10 +117,10 @@ pub record TestedSoFar (ss : List JuryHeader) (t : Tables) (j : ℕ) (left : Lis
   pub inside : Inside at t
 
 pub tested-start : (ss : List JuryHeader) (l b m ws bs : List ℕ) → length ss ≤ 8
-    → TestedSoFar ss (lent l b m ws bs) 0 ss start (replicate 8 0)
+    → TestedSoFar ss (tablesOf l b m ws bs) 0 ss start (replicate 8 0)
 unfolding eightOf
 tested-start ss l b m ws bs few =
-    let t = lent l b m ws bs in
+    let t = tablesOf l b m ws bs in
     record {
       reasons = refl;
       marksUp = upto-start (oneOf (λ (s : JuryHeader) (p : Tables). 0)) (oneOf marks) (padding ss) ss t
@@ -171,14 +171,14 @@ tested-as ss t j j′ left left′ at at′ conditional e₀ e₁ e₂ k = rw (e
 pub rest-is : (a : ℕ) (xs : List ℕ) → take (length xs - a) (drop a xs) ≡ drop a xs
 rest-is a xs = take-all (length xs - a) (drop a xs) (omega (arith, length-drop a xs))
 
-pub lent-same : (l l′ b b′ m m′ w w′ o o′ : List ℕ) → l ≡ l′ → b ≡ b′ → m ≡ m′ → w ≡ w′ → o ≡ o′ → lent l b m w o ≡ lent l′ b′ m′ w′ o′
+pub lent-same : (l l′ b b′ m m′ w w′ o o′ : List ℕ) → l ≡ l′ → b ≡ b′ → m ≡ m′ → w ≡ w′ → o ≡ o′ → tablesOf l b m w o ≡ tablesOf l′ b′ m′ w′ o′
 lent-same l l′ b b′ m m′ w w′ o o′ e₀ e₁ e₂ e₃ e₄ = λ x. record { lists = e₀ x; ballots = e₁ x; tapes = e₂ x; wires = e₃ x; boards = e₄ x }
 
 -- an accepted list has as many gates as its header says, and its own C
-pub stated-size : (s : JuryHeader) (t : Tables) (size : Size) → TestPassed (shapeOf s) (piecesOf s t .lists) size
+pub stated-size : (s : JuryHeader) (t : Tables) (size : Size) → TestPassed (headerShape s) (piecesOf s t .lists) size
     → (size .gates ≡ s .gates) × (size .conditional ≡ conditionalIn s t)
 unfolding piecesOf conditionalIn sizeOf
 stated-size s t size k =
-    let list = accepted-list (ballotBytes (shapeOf s)) (s .candidates) (listOf s t) (size .gates) (size .conditional) (k .tests) in
-    let limits = bounds (shapeOf s) (k .within) in
+    let list = accepted-list (ballotBytes (headerShape s)) (s .candidates) (listOf s t) (size .gates) (size .conditional) (k .tests) in
+    let limits = bounds (headerShape s) (k .within) in
     (list .gates-are ∙ list-fits s t (omega (arith, list .enough, limits .k-least)) .1, list .conditional-are)

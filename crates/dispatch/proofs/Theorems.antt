@@ -21,7 +21,7 @@ use Rattle.jury.specs.Shape.{ballotBytes}
 use Rattle.jury.specs.Reason.{Reason, reasonAt, unless, firstOf}
 use Rattle.tally.specs.Answer.{refused, accepted, outcome, hasNumberIn, Size, sizeOf}
 use Rattle.tally.specs.Run.{RunResult, runResult, runResultAfter}
-use Rattle.tally.specs.Hiding.{closingBytes, Hidden}
+use Rattle.tally.specs.Hiding.{closingBytes, RunsHide}
 use Rattle.tally.proofs.Hiding.{run-answer, run-board, board-tells-no-more}
 use Rattle.tally.specs.Write.{writeOutcome}
 use Rattle.tally.specs.SaysWhoWins.{SaysWhoWins}
@@ -32,7 +32,7 @@ use Rattle.tally.proofs.TestReasons.{never}
 use Rattle.tally.proofs.RunReasons.{outcome-refused, ran-by}
 use Rattle.tally.proofs.Demands.{run-lengths, three-demands}
 use Rattle.dispatch_rounds.specs.declared.header.JuryHeader.{JuryHeader}
-use Rattle.dispatch_rounds.specs.Tables.{Tables, lent, shapeOf, listOf, conditionalIn, piecesOf, behind, through}
+use Rattle.dispatch_rounds.specs.Tables.{Tables, tablesOf, headerShape, listOf, conditionalIn, piecesOf, behind, through}
 use Rattle.dispatch_rounds.specs.Reasons.{reasonsOf, atJury, juryReasons}
 use Rattle.dispatch.specs.Call.{Call, juriesIn}
 use Rattle.dispatch.specs.Reasons.{dispatchReasons}
@@ -40,47 +40,49 @@ use Rattle.dispatch_rounds.specs.Rounds.{eightOf, roundsFor}
 use Rattle.dispatch.specs.Result.{runBoard, zeroWires, DispatchResult, dispatchResultAfter, dispatchResult}
 use Rattle.dispatch.specs.inner.Rounds.{wireBytes}
 use Rattle.dispatch.specs.NoIdleRound.{juryAt, AllDone, NoIdleRound}
-use Rattle.dispatch.specs.Theorems.{tablesFrom, piecesAt, runAt, RunsAt, jury, pieces, piecesAfter, RoundsExact, RoundsOfCall, AcceptedJury, EachJury, FirstRefused, JuriesFit, QuantumFits, AcceptedAsAll, Refusals, DispatchMemory, Untouched, Dispatching}
+use Rattle.dispatch.specs.Theorems.{tablesFrom, piecesAt, runAt, RunsAt, jury, pieces, piecesAfter, RoundsExact, RoundsOfCall, AcceptedJury, EachJury, FirstRefused, JuriesFit, GatesPerRoundFit, AcceptedAsAll, Refusals, DispatchMemory, Untouched, Dispatching}
 use Rattle.dispatch_rounds.proofs.Pieces.{oneOf, piece-fits}
 use Rattle.dispatch_rounds.proofs.Passed.{Passed, jury-passed, first-accepted}
 use Rattle.dispatch_rounds.proofs.MidRound.{padding}
-use Rattle.dispatch.proofs.Whole.{result-by, bad-count, bad-quantum, by-juries, wires-start, wires-emptied, wires-room}
+use Rattle.dispatch.proofs.Whole.{result-by, bad-count, bad-per-round, by-juries, wires-start, wires-emptied, wires-room}
 
 -- rounding up
-rounds-most : (gates quantum r : ℕ) → 1 ≤ quantum → (roundsFor gates quantum ≤ r) ↔ (gates ≤ r * quantum)
+rounds-most : (gates gatesPerRound r : ℕ) → 1 ≤ gatesPerRound → (roundsFor gates gatesPerRound ≤ r) ↔ (gates ≤ r * gatesPerRound)
 unfolding roundsFor
-rounds-most gates quantum r h =
-    let iff = div-lt-iff-lt-mul {k = quantum} {x = gates + (quantum - 1)} {y = suc r} h in (
-      λ (p : (gates + (quantum - 1)) / quantum ≤ r). let q : gates + (quantum - 1) < suc r * quantum =
-          iff .0 (omega arith) in omega (arith, suc-mul r quantum),
-      λ (p : gates ≤ r * quantum). let q : (gates + (quantum - 1)) / quantum < suc r =
-          iff .1 (omega (arith, suc-mul r quantum)) in omega arith,
+rounds-most gates gatesPerRound r h =
+    let iff = div-lt-iff-lt-mul {k = gatesPerRound} {x = gates + (gatesPerRound - 1)} {y = suc r} h in (
+      λ (p : (gates + (gatesPerRound - 1)) / gatesPerRound ≤ r). let q : gates + (gatesPerRound - 1) < suc r * gatesPerRound =
+          iff .0 (omega arith) in omega (arith, suc-mul r gatesPerRound),
+      λ (p : gates ≤ r * gatesPerRound). let q : (gates + (gatesPerRound - 1)) / gatesPerRound < suc r =
+          iff .1 (omega (arith, suc-mul r gatesPerRound)) in omega arith,
     )
 
 exact : RoundsExact
 exact =
     record {
-      finished = λ (gates quantum r : ℕ) (h : 1 ≤ quantum).
-          let iff = rounds-most gates quantum r h in (
-            λ (p : min (r * quantum) gates ≡ gates). iff .1 (omega arith),
-            λ (p : roundsFor gates quantum ≤ r). let q : gates ≤ r * quantum = iff .0 p in omega arith,
+      finished = λ (gates gatesPerRound r : ℕ) (h : 1 ≤ gatesPerRound).
+          let iff = rounds-most gates gatesPerRound r h in (
+            λ (p : min (r * gatesPerRound) gates ≡ gates). iff .1 (omega arith),
+            λ (p : roundsFor gates gatesPerRound ≤ r). let q : gates ≤ r * gatesPerRound = iff .0 p in omega arith,
           );
-      given = λ (gates quantum r : ℕ) (h : 1 ≤ quantum).
-          let iff = rounds-most gates quantum r h in (
-            λ (p : min (r * quantum) gates < min (suc r * quantum) gates). below gates quantum r (iff .0) (omega arith),
-            λ (p : r < roundsFor gates quantum). let q : r * quantum < gates = above gates quantum r (iff .1) p in
-                omega (arith, suc-mul r quantum),
+      given = λ (gates gatesPerRound r : ℕ) (h : 1 ≤ gatesPerRound).
+          let iff = rounds-most gates gatesPerRound r h in (
+            λ (p : min (r * gatesPerRound) gates < min (suc r * gatesPerRound) gates). below gates gatesPerRound r (iff .0) (omega arith),
+            λ (p : r < roundsFor gates gatesPerRound). let q : r * gatesPerRound < gates = above gates gatesPerRound r (iff .1) p in
+                omega (arith, suc-mul r gatesPerRound),
           );
     }
   where
-    below : (gates quantum r : ℕ) → (roundsFor gates quantum ≤ r → gates ≤ r * quantum) → r * quantum < gates → r < roundsFor gates quantum
-    below gates quantum r f p = not-most (roundsFor gates quantum) r (λ q. let z : gates ≤ r * quantum = f q in omega arith)
+    below : (gates gatesPerRound r : ℕ) → (roundsFor gates gatesPerRound ≤ r → gates ≤ r * gatesPerRound) → r * gatesPerRound < gates
+        → r < roundsFor gates gatesPerRound
+    below gates gatesPerRound r f p = not-most (roundsFor gates gatesPerRound) r (λ q. let z : gates ≤ r * gatesPerRound = f q in omega arith)
       where
         not-most : (a b : ℕ) → (a ≤ b → ⊥) → b < a
         not-most a b g = omega (arith, g)
 
-    above : (gates quantum r : ℕ) → (gates ≤ r * quantum → roundsFor gates quantum ≤ r) → r < roundsFor gates quantum → r * quantum < gates
-    above gates quantum r f p = not-most gates (r * quantum) (λ q. let z : roundsFor gates quantum ≤ r = f q in omega arith)
+    above : (gates gatesPerRound r : ℕ) → (gates ≤ r * gatesPerRound → roundsFor gates gatesPerRound ≤ r) → r < roundsFor gates gatesPerRound
+        → r * gatesPerRound < gates
+    above gates gatesPerRound r f p = not-most gates (r * gatesPerRound) (λ q. let z : roundsFor gates gatesPerRound ≤ r = f q in omega arith)
       where
         not-most : (a b : ℕ) → (a ≤ b → ⊥) → b < a
         not-most a b g = omega (arith, g)
@@ -109,7 +111,7 @@ no-reason c o e = sym (reason-is (firstOf (dispatchReasons c)) c) ∙ e
 
 juries-pass : (c : Call) → dispatchResult c .reason ≡ none → firstOf (juryReasons 0 (juriesIn c) (c .tables)) ≡ none
 unfolding dispatchReasons
-juries-pass c e = go (leb 1 (c .count) && leb (c .count) 8) (leb 1 (c .quantum) && leb (c .quantum) 65536) (no-reason c none e)
+juries-pass c e = go (leb 1 (c .count) && leb (c .count) 8) (leb 1 (c .gatesPerRound) && leb (c .gatesPerRound) 65536) (no-reason c none e)
   where
     go : (a b : Bool) → firstOf (unless a 19 ∷ unless b 20 ∷ juryReasons 0 (juriesIn c) (c .tables)) ≡ none
         → firstOf (juryReasons 0 (juriesIn c) (c .tables)) ≡ none
@@ -129,7 +131,7 @@ run-accepted : (ss : List JuryHeader) (t : Tables) (j : ℕ) → firstOf (reason
 run-accepted ss t j e =
     let p = piecesAt j ss t in
     let k = jury-passed (juryAt j ss) (tablesFrom j ss t) e .passed in
-    run-answer (shapeOf (juryAt j ss)) (p .lists) (p .ballots) (p .wires) (p .boards) (p .tapes) k (p .tapes) (k .mask)
+    run-answer (headerShape (juryAt j ss)) (p .lists) (p .ballots) (p .wires) (p .boards) (p .tapes) k (p .tapes) (k .mask)
 
 number-at : (f : JuryHeader → Tables → ℕ) (rest : Tables → List ℕ) (j : ℕ) (ss : List JuryHeader) (t : Tables) → j
     < length ss → getD (through (oneOf f) rest ss t) j 0 ≡ f (juryAt j ss) (piecesAt j ss t)
@@ -144,18 +146,18 @@ ran-long : (s : JuryHeader) (t : Tables) → firstOf (reasonsOf s t) ≡ none �
 unfolding runBoard
 ran-long s t e =
     let p = piecesOf s t in
-    run-lengths (shapeOf s) (p .lists) (p .ballots) (p .tapes) (p .wires) (p .boards) .1 ∙ jury-passed s t e .boardLong
+    run-lengths (headerShape s) (p .lists) (p .ballots) (p .tapes) (p .wires) (p .boards) .1 ∙ jury-passed s t e .boardLong
 
 -- jury j's piece of the boards
 board-at : (i j : ℕ) (ss : List JuryHeader) (t : Tables) (w : List ℕ) → firstOf (juryReasons i ss t) ≡ none → j < length ss
-    → piecesAt j ss (lent (t .lists) (t .ballots) (t .tapes) w
+    → piecesAt j ss (tablesOf (t .lists) (t .ballots) (t .tapes) w
     (through runBoard (λ (t : Tables). t .boards) ss t)) .boards ≡ runBoard (juryAt j ss) (piecesAt j ss t)
 unfolding through tablesFrom behind conditionalIn listOf
 board-at i j [] t w e h = absurd (omega arith)
 board-at i zero (s ∷ ss) t w e h = first-board s ss t w (first-accepted i s ss t e .0)
   where
     first-board : (s : JuryHeader) (ss : List JuryHeader) (t : Tables) (w : List ℕ) → firstOf (reasonsOf s t) ≡ none
-        → piecesOf s (lent (t .lists) (t .ballots) (t .tapes) w
+        → piecesOf s (tablesOf (t .lists) (t .ballots) (t .tapes) w
         (runBoard s (piecesOf s t) ++ through runBoard (λ (t : Tables). t .boards) ss (behind s t))) .boards
         ≡ runBoard s (piecesOf s t)
     first-board s ss t w a =
@@ -174,62 +176,62 @@ board-at i (suc j) (s ∷ ss) t w e h =
     let cut : drop n (b ++ rest) ≡ rest = drop-at b rest n long in
     let later = behind s t in
     ap (λ (x : List ℕ). piecesAt j ss
-    (lent (later .lists) (later .ballots) (later .tapes) (drop (ballotBytes (shapeOf s) + s .gates) w)
+    (tablesOf (later .lists) (later .ballots) (later .tapes) (drop (ballotBytes (headerShape s) + s .gates) w)
     x) .boards) cut
-    ∙ board-at (suc i) j ss (behind s t) (drop (ballotBytes (shapeOf s) + s .gates) w) (a .1) (omega arith)
+    ∙ board-at (suc i) j ss (behind s t) (drop (ballotBytes (headerShape s) + s .gates) w) (a .1) (omega arith)
 
 -- zeros in place of a jury's wires
 zeros-long : (s : JuryHeader) (t : Tables) → firstOf (reasonsOf s t) ≡ none → length (zeroWires s (piecesOf s t))
-    ≡ ballotBytes (shapeOf s) + s .gates
+    ≡ ballotBytes (headerShape s) + s .gates
 zeros-long s t e = length-replicate {A = ℕ} (length (piecesOf s t .wires)) 0 ∙ jury-passed s t e .wiresLong
 
 -- jury j's piece of the wire table
 wires-at : (i j : ℕ) (ss : List JuryHeader) (t : Tables) (o : List ℕ) → firstOf (juryReasons i ss t) ≡ none → j < length ss
-    → piecesAt j ss (lent (t .lists) (t .ballots) (t .tapes) (through zeroWires (λ (t : Tables). t .wires) ss t)
+    → piecesAt j ss (tablesOf (t .lists) (t .ballots) (t .tapes) (through zeroWires (λ (t : Tables). t .wires) ss t)
     o) .wires ≡ zeroWires (juryAt j ss) (piecesAt j ss t)
 unfolding through tablesFrom behind conditionalIn listOf
 wires-at i j [] t o e h = absurd (omega arith)
 wires-at i zero (s ∷ ss) t o e h = first-wires s ss t o (first-accepted i s ss t e .0)
   where
     first-wires : (s : JuryHeader) (ss : List JuryHeader) (t : Tables) (o : List ℕ) → firstOf (reasonsOf s t) ≡ none
-        → piecesOf s (lent (t .lists) (t .ballots) (t .tapes)
+        → piecesOf s (tablesOf (t .lists) (t .ballots) (t .tapes)
         (zeroWires s (piecesOf s t) ++ through zeroWires (λ (t : Tables). t .wires) ss (behind s t)) o) .wires
         ≡ zeroWires s (piecesOf s t)
     first-wires s ss t o a =
         unfold piecesOf in
-        (let n = ballotBytes (shapeOf s) + s .gates in
+        (let n = ballotBytes (headerShape s) + s .gates in
         let z = zeroWires s (piecesOf s t) in
         let rest = through zeroWires (λ (t : Tables). t .wires) ss (behind s t) in
         let long : length z ≡ n = zeros-long s t a in
         piece-fits n (z ++ rest) (omega (arith, length-append z rest)) ∙ take-at z rest n long)
 wires-at i (suc j) (s ∷ ss) t o e h =
     let a = first-accepted i s ss t e in
-    let n = ballotBytes (shapeOf s) + s .gates in
+    let n = ballotBytes (headerShape s) + s .gates in
     let later = behind s t in
     let rest = through zeroWires (λ (t : Tables). t .wires) ss (behind s t) in
     let cut : drop n (zeroWires s (piecesOf s t) ++ rest) ≡ rest = drop-at (zeroWires s (piecesOf s t)) rest n (zeros-long s t (a .0)) in
     let left = drop (conditionalIn s t + s .candidates) o in
-    ap (λ (x : List ℕ). piecesAt j ss (lent (later .lists) (later .ballots) (later .tapes) x left) .wires) cut
+    ap (λ (x : List ℕ). piecesAt j ss (tablesOf (later .lists) (later .ballots) (later .tapes) x left) .wires) cut
     ∙ wires-at (suc i) j ss (behind s t) left (a .1) (omega arith)
 
 -- what follows the pieces of all juries
 wires-behind : (i : ℕ) (ss : List JuryHeader) (t : Tables) (o : List ℕ) → firstOf (juryReasons i ss t) ≡ none
-    → tablesFrom (length ss) ss (lent (t .lists) (t .ballots) (t .tapes)
+    → tablesFrom (length ss) ss (tablesOf (t .lists) (t .ballots) (t .tapes)
     (through zeroWires (λ (t : Tables). t .wires) ss t) o) .wires ≡ tablesFrom (length ss) ss t .wires
 unfolding through tablesFrom behind conditionalIn listOf
 wires-behind i [] t o e = refl
 wires-behind i (s ∷ ss) t o e =
     let a = first-accepted i s ss t e in
-    let n = ballotBytes (shapeOf s) + s .gates in
+    let n = ballotBytes (headerShape s) + s .gates in
     let later = behind s t in
     let rest = through zeroWires (λ (t : Tables). t .wires) ss (behind s t) in
     let cut : drop n (zeroWires s (piecesOf s t) ++ rest) ≡ rest = drop-at (zeroWires s (piecesOf s t)) rest n (zeros-long s t (a .0)) in
     let left = drop (conditionalIn s t + s .candidates) o in
-    ap (λ (x : List ℕ). tablesFrom (length ss) ss (lent (later .lists) (later .ballots) (later .tapes) x left) .wires) cut
+    ap (λ (x : List ℕ). tablesFrom (length ss) ss (tablesOf (later .lists) (later .ballots) (later .tapes) x left) .wires) cut
     ∙ wires-behind (suc i) ss (behind s t) left (a .1)
 
 boards-behind : (i : ℕ) (ss : List JuryHeader) (t : Tables) (w : List ℕ) → firstOf (juryReasons i ss t) ≡ none
-    → tablesFrom (length ss) ss (lent (t .lists) (t .ballots) (t .tapes) w
+    → tablesFrom (length ss) ss (tablesOf (t .lists) (t .ballots) (t .tapes) w
     (through runBoard (λ (t : Tables). t .boards) ss t)) .boards ≡ tablesFrom (length ss) ss t .boards
 unfolding through tablesFrom behind conditionalIn listOf
 boards-behind i [] t w e = refl
@@ -239,8 +241,8 @@ boards-behind i (s ∷ ss) t w e =
     let later = behind s t in
     let rest = through runBoard (λ (t : Tables). t .boards) ss (behind s t) in
     let cut : drop n (runBoard s (piecesOf s t) ++ rest) ≡ rest = drop-at (runBoard s (piecesOf s t)) rest n (ran-long s t (a .0)) in
-    let left = drop (ballotBytes (shapeOf s) + s .gates) w in
-    ap (λ (x : List ℕ). tablesFrom (length ss) ss (lent (later .lists) (later .ballots) (later .tapes) left x) .boards) cut
+    let left = drop (ballotBytes (headerShape s) + s .gates) w in
+    ap (λ (x : List ℕ). tablesFrom (length ss) ss (tablesOf (later .lists) (later .ballots) (later .tapes) left x) .boards) cut
     ∙ boards-behind (suc i) ss (behind s t) left (a .1)
 
 module _ (c : Call) (j : ℕ) (e : dispatchResult c .reason ≡ none) (h : j < length (juriesIn c)) where
@@ -261,15 +263,15 @@ module _ (c : Call) (j : ℕ) (e : dispatchResult c .reason ≡ none) (h : j < l
       record {
         rounds =
             ap (λ (r : DispatchResult). getD (r .rounds) j 0) is-after
-            ∙ number-at (λ (s : JuryHeader) (p : Tables). roundsFor (s .gates) (c .quantum)) (padding qs) j qs t h;
+            ∙ number-at (λ (s : JuryHeader) (p : Tables). roundsFor (s .gates) (c .gatesPerRound)) (padding qs) j qs t h;
         runs = run-accepted qs t j accepts;
         emptied =
             ap (λ (r : DispatchResult). piecesAt j qs
-            (lent (t .lists) (t .ballots) (t .tapes) (r .wires) (dispatchResult c .boards)) .wires) is-after
+            (tablesOf (t .lists) (t .ballots) (t .tapes) (r .wires) (dispatchResult c .boards)) .wires) is-after
             ∙ wires-at 0 j qs t (dispatchResult c .boards) (juries-pass c e) h;
         board =
             ap (λ (r : DispatchResult). piecesAt j qs
-            (lent (t .lists) (t .ballots) (t .tapes) (dispatchResult c .wires) (r .boards)) .boards) is-after
+            (tablesOf (t .lists) (t .ballots) (t .tapes) (dispatchResult c .wires) (r .boards)) .boards) is-after
             ∙ board-at 0 j qs t (dispatchResult c .wires) (juries-pass c e) h;
       }
 
@@ -281,7 +283,7 @@ module _ (c : Call) (j : ℕ) (e : dispatchResult c .reason ≡ none) (h : j < l
   board-by =
       let s = juryAt j (juriesIn c) in
       let p = piecesAt j (juriesIn c) (c .tables) in
-      run-board (shapeOf s) (p .lists) (p .ballots) (p .wires) (p .boards) (p .tapes) (passed .passed) (p .tapes) (passed .passed .mask)
+      run-board (headerShape s) (p .lists) (p .ballots) (p .wires) (p .boards) (p .tapes) (passed .passed) (p .tapes) (passed .passed .mask)
 
 same-board : (l l′ b b′ m m′ : List ℕ) (k k′ : ℕ) → l ≡ l′ → b ≡ b′ → m ≡ m′ → k ≡ k′
     → boardOf (wiresOf b (gatesOf l)) (gatesOf l) k m ≡ boardOf (wiresOf b′ (gatesOf l′)) (gatesOf l′) k′ m′
@@ -369,7 +371,7 @@ refusals : Refusals
 refusals =
     record {
       named = λ (c : Call) (r : Reason) e.
-          name c r (leb 1 (c .count) && leb (c .count) 8) (leb 1 (c .quantum) && leb (c .quantum) 65536) refl refl
+          name c r (leb 1 (c .count) && leb (c .count) 8) (leb 1 (c .gatesPerRound) && leb (c .gatesPerRound) 65536) refl refl
           (no-reason c (some r) e);
       no-rounds = no-rounds;
     }
@@ -387,7 +389,7 @@ refusals =
         let outcome : runAt k qs t .answer ≡ refused q =
         unfold runResultAfter reasonsOf in
         (ap (λ (x : RunResult). x .answer)
-        (ran-by (shapeOf s) (p .lists) (p .ballots) (p .tapes) (p .wires) (p .boards) (some q) (f .bad))) in
+        (ran-by (headerShape s) (p .lists) (p .ballots) (p .tapes) (p .wires) (p .boards) (some q) (f .bad))) in
         let place : r .place ≡ 0 + k = unfold reasonAt in (ap (λ (x : Reason). x .place) (f .named)) in
         let here : k ≡ r .place = omega arith in
         record {
@@ -399,36 +401,36 @@ refusals =
         }
 
     name : (c : Call) (r : Reason) (a b : Bool) → (leb 1 (c .count) && leb (c .count) 8) ≡ a
-        → (leb 1 (c .quantum) && leb (c .quantum) 65536) ≡ b → firstOf (dispatchReasons c) ≡ some r
-        → ((¬ JuriesFit c) × (r ≡ reasonAt 19 0)) ⊎ (JuriesFit c × (¬ QuantumFits c) × (r ≡ reasonAt 20 0))
-        ⊎ (JuriesFit c × QuantumFits c × FirstRefused (juriesIn c) (c .tables) r)
+        → (leb 1 (c .gatesPerRound) && leb (c .gatesPerRound) 65536) ≡ b → firstOf (dispatchReasons c) ≡ some r
+        → ((¬ JuriesFit c) × (r ≡ reasonAt 19 0)) ⊎ (JuriesFit c × (¬ GatesPerRoundFit c) × (r ≡ reasonAt 20 0))
+        ⊎ (JuriesFit c × GatesPerRoundFit c × FirstRefused (juriesIn c) (c .tables) r)
     name c r false b p q e = inl (outside 1 (c .count) 8 p, same-reason r (reasonAt 19 0) (sym e ∙ bad-count c p))
     name c r true false p q e =
-        inr (inl (between 1 (c .count) 8 p, outside 1 (c .quantum) 65536 q, same-reason r (reasonAt 20 0) (sym e ∙ bad-quantum c p q)))
+        inr (inl (between 1 (c .count) 8 p, outside 1 (c .gatesPerRound) 65536 q, same-reason r (reasonAt 20 0) (sym e ∙ bad-per-round c p q)))
     name c r true true p q e =
         inr (inr (
           between 1 (c .count) 8 p,
-          between 1 (c .quantum) 65536 q,
+          between 1 (c .gatesPerRound) 65536 q,
           of-run (juriesIn c) (c .tables) r (found-at 0 (juriesIn c) (c .tables) r (sym (by-juries c p q) ∙ e)),
         ))
 
 -- a call is accepted if all its juries are
 accepted-as-all : AcceptedAsAll
 accepted-as-all c = (
-  λ e. let f = limits (leb 1 (c .count) && leb (c .count) 8) (leb 1 (c .quantum) && leb (c .quantum) 65536) refl
+  λ e. let f = limits (leb 1 (c .count) && leb (c .count) 8) (leb 1 (c .gatesPerRound) && leb (c .gatesPerRound) 65536) refl
       refl (no-reason c none e) in
       (f .0, f .1, λ (j : ℕ) h. run-accepted (juriesIn c) (c .tables) j (accepted-at 0 j (juriesIn c) (c .tables) (juries-pass c e) h)),
   λ h. back (dispatchResult c .reason) refl h,
 )
   where
-    limits : (a b : Bool) → (leb 1 (c .count) && leb (c .count) 8) ≡ a → (leb 1 (c .quantum) && leb (c .quantum) 65536) ≡ b
-        → firstOf (dispatchReasons c) ≡ none → JuriesFit c × QuantumFits c
+    limits : (a b : Bool) → (leb 1 (c .count) && leb (c .count) 8) ≡ a → (leb 1 (c .gatesPerRound) && leb (c .gatesPerRound) 65536) ≡ b
+        → firstOf (dispatchReasons c) ≡ none → JuriesFit c × GatesPerRoundFit c
     limits false b p q e = let f = sym (bad-count c p) ∙ e in let z : _≡_ {A = ℕ} 0 1 = cc in absurd (omega arith)
-    limits true false p q e = let f = sym (bad-quantum c p q) ∙ e in let z : _≡_ {A = ℕ} 0 1 = cc in absurd (omega arith)
-    limits true true p q e = (between 1 (c .count) 8 p, between 1 (c .quantum) 65536 q)
+    limits true false p q e = let f = sym (bad-per-round c p q) ∙ e in let z : _≡_ {A = ℕ} 0 1 = cc in absurd (omega arith)
+    limits true true p q e = (between 1 (c .count) 8 p, between 1 (c .gatesPerRound) 65536 q)
 
     back : (o : Option Reason) → dispatchResult c .reason ≡ o
-        → JuriesFit c × QuantumFits c × ((j : ℕ) → j < length (juriesIn c) → RunsAt j (juriesIn c) (c .tables))
+        → JuriesFit c × GatesPerRoundFit c × ((j : ℕ) → j < length (juriesIn c) → RunsAt j (juriesIn c) (c .tables))
         → dispatchResult c .reason ≡ none
     back none e h = e
     back (some r) e h =
@@ -464,7 +466,7 @@ module _ (c : Call) (j : ℕ) (a : AcceptedJury c j) where
   abbrev its : ℕ → ℕ
   its i = getD (dispatchResult c .rounds) i 0
 
-  least : 1 ≤ c .quantum
+  least : 1 ≤ c .gatesPerRound
   least = accepted-as-all c .0 (a .accepts) .1 .0
 
   found : (i : ℕ) × (i < suc (length (juriesIn c) - 1)) × ((k : ℕ) → k < suc (length (juriesIn c) - 1) → its k ≤ its i)
@@ -473,28 +475,28 @@ module _ (c : Call) (j : ℕ) (a : AcceptedJury c j) where
   longest-among : found .0 < length (juriesIn c)
   longest-among = omega (arith, found .1, a .among)
 
-  takes : (i : ℕ) → i < length (juriesIn c) → its i ≡ roundsFor (jury c i .gates) (c .quantum)
+  takes : (i : ℕ) → i < length (juriesIn c) → its i ≡ roundsFor (jury c i .gates) (c .gatesPerRound)
   takes i h = each-jury c i (a .accepts) h .rounds
 
   most : (i : ℕ) → i < length (juriesIn c) → its i ≤ its (found .0)
   most i h = found .2 i (omega (arith, h))
 
-  all-done : AllDone (c .quantum) (its (found .0)) (juriesIn c)
-  all-done i h = rounds-most (jury c i .gates) (c .quantum) (its (found .0)) least .0 (omega (arith, takes i h, most i h))
+  all-done : AllDone (c .gatesPerRound) (its (found .0)) (juriesIn c)
+  all-done i h = rounds-most (jury c i .gates) (c .gatesPerRound) (its (found .0)) least .0 (omega (arith, takes i h, most i h))
 
-  none-idle : NoIdleRound (c .quantum) (its (found .0)) (juriesIn c)
+  none-idle : NoIdleRound (c .gatesPerRound) (its (found .0)) (juriesIn c)
   none-idle r h = (
     found .0,
     longest-among,
-    exact .given (jury c (found .0) .gates) (c .quantum) r least .1
+    exact .given (jury c (found .0) .gates) (c .gatesPerRound) r least .1
         (omega (arith, h, takes (found .0) longest-among)),
   )
 
-  no-other : (n : ℕ) → AllDone (c .quantum) n (juriesIn c) → NoIdleRound (c .quantum) n (juriesIn c) → n ≡ its (found .0)
+  no-other : (n : ℕ) → AllDone (c .gatesPerRound) n (juriesIn c) → NoIdleRound (c .gatesPerRound) n (juriesIn c) → n ≡ its (found .0)
   no-other n done idle =
       ⊎-elim
       (λ (l : n < its (found .0)).
-      let few = rounds-most (jury c (found .0) .gates) (c .quantum) n least .1 (done (found .0) longest-among) in
+      let few = rounds-most (jury c (found .0) .gates) (c .gatesPerRound) n least .1 (done (found .0) longest-among) in
       absurd (omega (arith, l, few, takes (found .0) longest-among)))
       (λ (l : its (found .0) ≤ n).
       ⊎-elim (λ (k : its (found .0) < n). let g = idle (its (found .0)) k in absurd (omega (arith, g .2, all-done (g .0) (g .1))))
@@ -590,7 +592,7 @@ memory c =
 
 -- what follows all pieces after a call that leaves d
 abbrev left : List JuryHeader → Tables → DispatchResult → Tables
-left qs t d = tablesFrom (length qs) qs (lent (t .lists) (t .ballots) (t .tapes) (d .wires) (d .boards))
+left qs t d = tablesFrom (length qs) qs (tablesOf (t .lists) (t .ballots) (t .tapes) (d .wires) (d .boards))
 
 -- none of it changes
 untouched : (c : Call) → Untouched c
@@ -619,35 +621,35 @@ untouched c = by (firstOf (dispatchReasons c)) refl
 
 -- demand 3 for two juries, by their runs
 hidden : (s s′ : JuryHeader) (p q : Tables) (x y : List ℕ)
-    → runResult (shapeOf s) (p .lists) (p .ballots) (p .tapes) (p .wires) (p .boards) .answer ≡ accepted (sizeOf (gatesOf (p .lists)))
-    → runResult (shapeOf s′) (q .lists) (q .ballots) (q .tapes) (q .wires) (q .boards) .answer ≡ accepted (sizeOf (gatesOf (q .lists)))
-    → x ≡ runBoard s p → y ≡ runBoard s′ q → s ≡ s′ → p .lists ≡ q .lists → closingBytes (shapeOf s) x ≡ closingBytes (shapeOf s) y
-    → Hidden (shapeOf s) (p .lists) (p .ballots) (q .ballots) (p .wires) (q .wires) (p .boards) (q .boards)
+    → runResult (headerShape s) (p .lists) (p .ballots) (p .tapes) (p .wires) (p .boards) .answer ≡ accepted (sizeOf (gatesOf (p .lists)))
+    → runResult (headerShape s′) (q .lists) (q .ballots) (q .tapes) (q .wires) (q .boards) .answer ≡ accepted (sizeOf (gatesOf (q .lists)))
+    → x ≡ runBoard s p → y ≡ runBoard s′ q → s ≡ s′ → p .lists ≡ q .lists → closingBytes (headerShape s) x ≡ closingBytes (headerShape s) y
+    → RunsHide (headerShape s) (p .lists) (p .ballots) (q .ballots) (p .wires) (q .wires) (p .boards) (q .boards)
 unfolding runBoard
 hidden s s′ p q x y runs runs′ e f st list closing =
-    let first : runResult (shapeOf s) (p .lists) (q .ballots) (q .tapes) (q .wires) (q .boards) .answer
+    let first : runResult (headerShape s) (p .lists) (q .ballots) (q .tapes) (q .wires) (q .boards) .answer
     ≡ accepted (sizeOf (gatesOf (p .lists))) =
-    subst (λ (z : JuryHeader). runResult (shapeOf z) (p .lists) (q .ballots) (q .tapes) (q .wires)
+    subst (λ (z : JuryHeader). runResult (headerShape z) (p .lists) (q .ballots) (q .tapes) (q .wires)
     (q .boards) .answer ≡ accepted (sizeOf (gatesOf (p .lists)))) (sym st)
-    (subst (λ (l : List ℕ). runResult (shapeOf s′) l (q .ballots) (q .tapes) (q .wires) (q .boards) .answer
+    (subst (λ (l : List ℕ). runResult (headerShape s′) l (q .ballots) (q .tapes) (q .wires) (q .boards) .answer
     ≡ accepted (sizeOf (gatesOf l))) (sym list) runs′) in
-    let same : y ≡ runResult (shapeOf s) (p .lists) (q .ballots) (q .tapes) (q .wires) (q .boards) .board =
-    f ∙ ap (λ (l : List ℕ). runResult (shapeOf s′) l (q .ballots) (q .tapes) (q .wires) (q .boards) .board) (sym list)
-    ∙ ap (λ (z : JuryHeader). runResult (shapeOf z) (p .lists) (q .ballots) (q .tapes) (q .wires) (q .boards) .board) (sym st) in
-    let ends : closingBytes (shapeOf s) (runResult (shapeOf s) (p .lists) (p .ballots) (p .tapes) (p .wires) (p .boards) .board)
-    ≡ closingBytes (shapeOf s) (runResult (shapeOf s) (p .lists) (q .ballots) (q .tapes) (q .wires) (q .boards) .board) =
-    sym (ap (closingBytes (shapeOf s)) e) ∙ closing ∙ ap (closingBytes (shapeOf s)) same in
-    board-tells-no-more (shapeOf s) (p .lists) (p .ballots) (q .ballots) (p .tapes) (q .tapes) (p .wires) (q .wires)
+    let same : y ≡ runResult (headerShape s) (p .lists) (q .ballots) (q .tapes) (q .wires) (q .boards) .board =
+    f ∙ ap (λ (l : List ℕ). runResult (headerShape s′) l (q .ballots) (q .tapes) (q .wires) (q .boards) .board) (sym list)
+    ∙ ap (λ (z : JuryHeader). runResult (headerShape z) (p .lists) (q .ballots) (q .tapes) (q .wires) (q .boards) .board) (sym st) in
+    let ends : closingBytes (headerShape s) (runResult (headerShape s) (p .lists) (p .ballots) (p .tapes) (p .wires) (p .boards) .board)
+    ≡ closingBytes (headerShape s) (runResult (headerShape s) (p .lists) (q .ballots) (q .tapes) (q .wires) (q .boards) .board) =
+    sym (ap (closingBytes (headerShape s)) e) ∙ closing ∙ ap (closingBytes (headerShape s)) same in
+    board-tells-no-more (headerShape s) (p .lists) (p .ballots) (q .ballots) (p .tapes) (q .tapes) (p .wires) (q .wires)
     (p .boards) (q .boards) _ _ runs first ends .2
 
 -- demand 2 for a jury, by its run
 accuracy : (c : Call) (j : ℕ) (table : List ℕ) (size : Size) → EachJury c j
-    → writeOutcome (shapeOf (jury c j)) table ≡ accepted size
-    → pieces c j .lists ≡ listIn (shapeOf (jury c j)) size table
-    → let s = shapeOf (jury c j) in SaysWhoWins s (pieces c j .ballots) (closingBytes s (piecesAfter c j .boards))
+    → writeOutcome (headerShape (jury c j)) table ≡ accepted size
+    → pieces c j .lists ≡ listIn (headerShape (jury c j)) size table
+    → let s = headerShape (jury c j) in SaysWhoWins s (pieces c j .ballots) (closingBytes s (piecesAfter c j .boards))
 unfolding runBoard
 accuracy c j table size each wrote own =
-    let s = shapeOf (jury c j) in
+    let s = headerShape (jury c j) in
     let p = pieces c j in
     let h = subst (λ (l : List ℕ). runResult s l (p .ballots) (p .tapes) (p .wires) (p .boards) .answer
     ≡ accepted (sizeOf (gatesOf (p .lists)))) own (each .runs) in
@@ -674,8 +676,8 @@ dispatching =
                 ∙ same-board _ _ _ _ _ _ _ _ (inputs .list) (inputs .ballots) (inputs .tape)
                 (ap (λ (z : JuryHeader). z .candidates) (inputs .header))
                 ∙ sym (y .board ∙ board-by c′ i (a′ .accepts) (a′ .among));
-            rounds = λ (same : c .quantum ≡ c′ .quantum).
-                x .rounds ∙ ap (λ (z : JuryHeader). roundsFor (z .gates) (c .quantum)) (inputs .header)
+            rounds = λ (same : c .gatesPerRound ≡ c′ .gatesPerRound).
+                x .rounds ∙ ap (λ (z : JuryHeader). roundsFor (z .gates) (c .gatesPerRound)) (inputs .header)
                 ∙ ap (roundsFor (jury c′ i .gates)) same ∙ sym (y .rounds);
           };
       accuracy = λ (c : Call) (j : ℕ) table size a wrote own. accuracy c j table size (each c j a) wrote own;

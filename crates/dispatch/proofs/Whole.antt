@@ -20,14 +20,14 @@ use Rattle.jury.specs.Reason.{Reason, reasonAt, unless, firstOf}
 use Rattle.tally.specs.Run.{RunResult, runResultAfter}
 use Rattle.tally.proofs.RunReasons.{ran-by}
 use Rattle.dispatch_rounds.specs.declared.header.JuryHeader.{JuryHeader}
-use Rattle.dispatch_rounds.specs.Tables.{Tables, shapeOf, conditionalIn, piecesOf, behind, through}
+use Rattle.dispatch_rounds.specs.Tables.{Tables, headerShape, conditionalIn, piecesOf, behind, through}
 use Rattle.dispatch_rounds.specs.Reasons.{reasonsOf, juryReasons}
 use Rattle.dispatch.specs.Call.{Call, juriesIn}
 use Rattle.dispatch.specs.Reasons.{dispatchReasons}
 use Rattle.dispatch.specs.NoIdleRound.{juryAt, GetsGate}
 use Rattle.dispatch_rounds.specs.Rounds.{boardAfter, juryWires, juryBoard, juryShown, wiresGiven, boardsGiven, eightOf, BoardsLong, RoundState}
 use Rattle.dispatch.specs.Result.{runBoard, zeroWires, DispatchResult, dispatchResultAfter, dispatchResult}
-use Rattle.dispatch.specs.inner.Rounds.{wireBytes, mostGates, conditionalOf}
+use Rattle.dispatch.specs.inner.Rounds.{wireBytes, mostGates, pieceConditional}
 use Rattle.dispatch_rounds.proofs.Pieces.{eight-zeros}
 use Rattle.dispatch_rounds.proofs.Passed.{jury-passed, first-accepted}
 use Rattle.dispatch_rounds.proofs.JuryStates.{after-all, jury-wires-long, wires-before, board-before}
@@ -45,7 +45,7 @@ wires-start j [] t e = refl
 wires-start j (s ∷ ss) t e =
     let a = first-accepted j s ss t e in
     let p = jury-passed s t (a .0) in
-    let n = ballotBytes (shapeOf s) + s .gates in
+    let n = ballotBytes (headerShape s) + s .gates in
     ap (λ (x : List ℕ). x ++ through (juryWires 0) wiresLeft ss (behind s t)) (wires-before s (piecesOf s t) ∙ p .wiresAre)
     ∙ ap (λ (x : List ℕ). take n (t .wires) ++ x) (wires-start (suc j) ss (behind s t) (a .1))
     ∙ take-append-drop n (t .wires)
@@ -112,7 +112,7 @@ board-all given s t e h =
     let gs = gatesOf (p .lists) in
     ap (λ (n : ℕ). boardAfter (p .ballots) gs (s .candidates) (p .tapes) n (p .boards)) (min-eq-right h)
     ∙ after-all (p .ballots) gs (s .candidates) (p .tapes) (s .gates) (p .boards) (omega (arith, k .gates))
-    ∙ sym (ap (λ (r : RunResult). r .board) (ran-by (shapeOf s) (p .lists) (p .ballots) (p .tapes) (p .wires) (p .boards) none e))
+    ∙ sym (ap (λ (r : RunResult). r .board) (ran-by (headerShape s) (p .lists) (p .ballots) (p .tapes) (p .wires) (p .boards) none e))
 
 pub boards-end : (given j : ℕ) (ss : List JuryHeader) (t : Tables) → firstOf (juryReasons j ss t) ≡ none → mostGates ss ≤ given
     → boardsGiven given ss t ≡ through runBoard (λ (t : Tables). t .boards) ss t
@@ -132,7 +132,7 @@ wires-emptied given j (s ∷ ss) t e =
     let a = first-accepted j s ss t e in
     let k = jury-passed s t (a .0) in
     let p = piecesOf s t in
-    let n = ballotBytes (shapeOf s) + s .gates in
+    let n = ballotBytes (headerShape s) + s .gates in
     let m = wireBytes ss in
     let first = juryWires given s p in
     let rest = through (juryWires given) wiresLeft ss (behind s t) in
@@ -165,12 +165,12 @@ module _ (c : Call) where
   unfolding dispatchReasons unless firstOf
   bad-count e = rw e
 
-  pub bad-quantum : (leb 1 (c .count) && leb (c .count) 8) ≡ true → (leb 1 (c .quantum) && leb (c .quantum) 65536) ≡ false
+  pub bad-per-round : (leb 1 (c .count) && leb (c .count) 8) ≡ true → (leb 1 (c .gatesPerRound) && leb (c .gatesPerRound) 65536) ≡ false
       → firstOf (dispatchReasons c) ≡ some (reasonAt 20 0)
   unfolding dispatchReasons unless firstOf
-  bad-quantum e f = rw (e, f)
+  bad-per-round e f = rw (e, f)
 
-  pub by-juries : (leb 1 (c .count) && leb (c .count) 8) ≡ true → (leb 1 (c .quantum) && leb (c .quantum) 65536) ≡ true
+  pub by-juries : (leb 1 (c .count) && leb (c .count) 8) ≡ true → (leb 1 (c .gatesPerRound) && leb (c .gatesPerRound) 65536) ≡ true
       → firstOf (dispatchReasons c) ≡ firstOf (juryReasons 0 (juriesIn c) (c .tables))
   unfolding dispatchReasons unless firstOf
   by-juries e f = rw (e, f)
@@ -192,17 +192,17 @@ some-jury n (s ∷ ss) h =
     ⊎-elim (λ l. (0, omega arith, l))
     (λ l. let r = some-jury n ss (omega (arith, l)) in (suc (r .0), omega (arith, r .1), r .2)) (below-or-not n (s .gates))
 
-pub gets-gate : (quantum r : ℕ) (ss : List JuryHeader) → 1 ≤ quantum → r * quantum < mostGates ss
-    → (j : ℕ) × (j < length ss) × GetsGate quantum r ss j
-gets-gate quantum r ss h l =
-    let f = some-jury (r * quantum) ss l in (f .0, f .1, more (juryAt (f .0) ss .gates) (f .2))
+pub gets-gate : (gatesPerRound r : ℕ) (ss : List JuryHeader) → 1 ≤ gatesPerRound → r * gatesPerRound < mostGates ss
+    → (j : ℕ) × (j < length ss) × GetsGate gatesPerRound r ss j
+gets-gate gatesPerRound r ss h l =
+    let f = some-jury (r * gatesPerRound) ss l in (f .0, f .1, more (juryAt (f .0) ss .gates) (f .2))
   where
-    more : (gates : ℕ) → r * quantum < gates → min (r * quantum) gates < min (suc r * quantum) gates
-    more gates k = omega (arith, suc-mul r quantum)
+    more : (gates : ℕ) → r * gatesPerRound < gates → min (r * gatesPerRound) gates < min (suc r * gatesPerRound) gates
+    more gates k = omega (arith, suc-mul r gatesPerRound)
 
 -- before the first round
 pub state-start : (ss : List JuryHeader) (t : Tables) (conditional : List ℕ) → length ss ≤ 8 → firstOf (juryReasons 0 ss t) ≡ none
-    → conditional ≡ eightOf conditionalOf ss t → RoundState 0 ss t conditional (t .wires) (t .boards) (replicate 8 0)
+    → conditional ≡ eightOf pieceConditional ss t → RoundState 0 ss t conditional (t .wires) (t .boards) (replicate 8 0)
 state-start ss t conditional few e c =
     record {
       accepted = e;

@@ -5,11 +5,11 @@ use lib.ListN.{take}
 use Rattle.dispatch_rounds.specs.declared.header.JuryHeader.{JuryHeader}
 use Rattle.dispatch_rounds.specs.Tables.{Tables}
 
--- `quantum` is the most gates that a jury does in a round (S). Of the eight headers the first `count` are read.
+-- `gatesPerRound` is the most gates that a jury does in a round (S). Of the eight headers the first `count` are read.
 pub record Call : Type 0 where
   pub count : ℕ
   pub headers : List JuryHeader
-  pub quantum : ℕ
+  pub gatesPerRound : ℕ
   pub tables : Tables
 
 abbrev pub juriesIn : Call → List JuryHeader

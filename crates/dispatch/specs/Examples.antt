@@ -1,5 +1,5 @@
--- Demand 3 on two concrete calls: a jury of one has the board of a jury of the other, though ballots, masks, quanta
--- and the juries beside them differ. Each jury has one candidate, two grades and one ballot; the list is a stranger's,
+-- Demand 3 on two concrete calls: a jury of one has the board of a jury of the other, though ballots, masks, gates per
+-- round and the other juries differ. Each jury has one candidate, two grades and one ballot; the list is a stranger's,
 -- one gate that says whether wires 0 and 1 are both 1.
 use mathlib.Core.Path.{_≡_}
 use mathlib.Core.Option.{none}
@@ -8,7 +8,7 @@ use Prim.Native.Nat.{ℕ}
 use lib.ListN.{replicate}
 use Rattle.gates.specs.HidingExample.{oneGate}
 use Rattle.dispatch_rounds.specs.declared.header.JuryHeader.{JuryHeader}
-use Rattle.dispatch_rounds.specs.Tables.{lent}
+use Rattle.dispatch_rounds.specs.Tables.{tablesOf}
 use Rattle.dispatch.specs.Call.{Call}
 use Rattle.dispatch.specs.Result.{dispatchResult}
 
@@ -21,8 +21,8 @@ oneJury =
     record {
       count = 1;
       headers = replicate 8 oneHeader;
-      quantum = 1;
-      tables = lent oneGate (1 ∷ 0 ∷ []) (0 ∷ []) (9 ∷ 9 ∷ 9 ∷ 9 ∷ []) (9 ∷ 9 ∷ 9 ∷ []);
+      gatesPerRound = 1;
+      tables = tablesOf oneGate (1 ∷ 0 ∷ []) (0 ∷ []) (9 ∷ 9 ∷ 9 ∷ 9 ∷ []) (9 ∷ 9 ∷ 9 ∷ []);
     }
 
 -- After such a jury a second one, with the worse grade under this mask.
@@ -31,8 +31,8 @@ twoJuries mask =
     record {
       count = 2;
       headers = replicate 8 oneHeader;
-      quantum = 7;
-      tables = lent (oneGate ++ oneGate) (1 ∷ 0 ∷ 0 ∷ 1 ∷ []) (0 ∷ mask ∷ []) (9 ∷ 9 ∷ 9 ∷ 7 ∷ 7 ∷ 7 ∷ [])
+      gatesPerRound = 7;
+      tables = tablesOf (oneGate ++ oneGate) (1 ∷ 0 ∷ 0 ∷ 1 ∷ []) (0 ∷ mask ∷ []) (9 ∷ 9 ∷ 9 ∷ 7 ∷ 7 ∷ 7 ∷ [])
           (9 ∷ 9 ∷ 7 ∷ 7 ∷ []);
     }
 

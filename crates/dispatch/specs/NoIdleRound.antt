@@ -9,13 +9,14 @@ abbrev pub juryAt : ℕ → List JuryHeader → JuryHeader
 juryAt j ss = getD ss j (record { candidates = 0; grades = 0; ballots = 0; gates = 0 })
 
 -- Jury j has done more gates after round r than before it.
-abbrev pub GetsGate : (quantum r : ℕ) → List JuryHeader → ℕ → Type 0
-GetsGate quantum r ss j = min (r * quantum) (juryAt j ss .gates) < min (suc r * quantum) (juryAt j ss .gates)
+abbrev pub GetsGate : (gatesPerRound r : ℕ) → List JuryHeader → ℕ → Type 0
+GetsGate gatesPerRound r ss j =
+    min (r * gatesPerRound) (juryAt j ss .gates) < min (suc r * gatesPerRound) (juryAt j ss .gates)
 
--- `done` rounds, counted from 0, of a quantum of at least 1.
-abbrev pub NoIdleRound : (quantum done : ℕ) → List JuryHeader → Type 0
-NoIdleRound quantum done ss = (r : ℕ) → r < done → (j : ℕ) × (j < length ss) × GetsGate quantum r ss j
+-- In each of `done` rounds, counted from 0, some jury gets a gate; a round gives a jury at least one gate.
+abbrev pub NoIdleRound : (gatesPerRound done : ℕ) → List JuryHeader → Type 0
+NoIdleRound gatesPerRound done ss = (r : ℕ) → r < done → (j : ℕ) × (j < length ss) × GetsGate gatesPerRound r ss j
 
 -- After `done` rounds every jury has all its gates.
-abbrev pub AllDone : (quantum done : ℕ) → List JuryHeader → Type 0
-AllDone quantum done ss = (j : ℕ) → j < length ss → juryAt j ss .gates ≤ done * quantum
+abbrev pub AllDone : (gatesPerRound done : ℕ) → List JuryHeader → Type 0
+AllDone gatesPerRound done ss = (j : ℕ) → j < length ss → juryAt j ss .gates ≤ done * gatesPerRound

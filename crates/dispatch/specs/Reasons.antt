@@ -9,11 +9,11 @@ use Rattle.dispatch.specs.Call.{Call, juriesIn}
 use Rattle.dispatch.specs.declared.verdict.JuriesVerdict.{JuriesVerdict}
 use Rattle.dispatch.specs.declared.verdict.JuriesVerdict.the-variants.{Accepted, Refused}
 
--- All of them: 19 for the number of juries, 20 for the quantum, then those of the juries.
+-- All of them: 19 for the number of juries, 20 for the gates per round, then those of the juries.
 unfoldable pub dispatchReasons : Call → List (Option Reason)
 dispatchReasons c =
     unless (leb 1 (c .count) && leb (c .count) 8) 19
-    ∷ unless (leb 1 (c .quantum) && leb (c .quantum) 65536) 20
+    ∷ unless (leb 1 (c .gatesPerRound) && leb (c .gatesPerRound) 65536) 20
     ∷ juryReasons 0 (juriesIn c) (c .tables)
 
 -- The number and place of each case of the program's enum.

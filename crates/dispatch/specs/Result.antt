@@ -6,14 +6,14 @@ use lib.ListN.{length, replicate}
 use Rattle.jury.specs.Reason.{Reason, firstOf}
 use Rattle.tally.specs.Run.{runResult}
 use Rattle.dispatch_rounds.specs.declared.header.JuryHeader.{JuryHeader}
-use Rattle.dispatch_rounds.specs.Tables.{Tables, shapeOf, through}
+use Rattle.dispatch_rounds.specs.Tables.{Tables, headerShape, through}
 use Rattle.dispatch.specs.Call.{Call, juriesIn}
 use Rattle.dispatch.specs.Reasons.{dispatchReasons}
 use Rattle.dispatch_rounds.specs.Rounds.{eightOf, roundsFor}
 
 -- The board that an undivided run leaves on a jury's pieces.
 unfoldable pub runBoard : JuryHeader → Tables → List ℕ
-runBoard s p = runResult (shapeOf s) (p .lists) (p .ballots) (p .tapes) (p .wires) (p .boards) .board
+runBoard s p = runResult (headerShape s) (p .lists) (p .ballots) (p .tapes) (p .wires) (p .boards) .board
 
 -- Zeros, as many as it has wires.
 abbrev pub zeroWires : JuryHeader → Tables → List ℕ
@@ -34,7 +34,8 @@ dispatchResultAfter (some r) c =
 dispatchResultAfter none c =
     record {
       reason = none;
-      rounds = eightOf (λ (s : JuryHeader) (p : Tables). roundsFor (s .gates) (c .quantum)) (juriesIn c) (c .tables);
+      rounds = eightOf (λ (s : JuryHeader) (p : Tables). roundsFor (s .gates) (c .gatesPerRound)) (juriesIn c)
+          (c .tables);
       wires = through zeroWires (λ (t : Tables). t .wires) (juriesIn c) (c .tables);
       boards = through runBoard (λ (t : Tables). t .boards) (juriesIn c) (c .tables);
     }

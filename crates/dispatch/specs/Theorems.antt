@@ -11,12 +11,12 @@ use Rattle.jury.specs.Reason.{Reason, reasonAt}
 use Rattle.tally.specs.Answer.{refused, accepted, outcome, Size, sizeOf}
 use Rattle.tally.specs.Write.{writeOutcome}
 use Rattle.tally.specs.Run.{RunResult, runResult}
-use Rattle.tally.specs.Hiding.{closingBytes, Hidden}
+use Rattle.tally.specs.Hiding.{closingBytes, RunsHide}
 use Rattle.tally.specs.SaysWhoWins.{SaysWhoWins}
 use Rattle.tally.specs.Memory.{Lent, KeepsMemory}
 use Rattle.tally.specs.Demands.{listIn}
 use Rattle.dispatch_rounds.specs.declared.header.JuryHeader.{JuryHeader}
-use Rattle.dispatch_rounds.specs.Tables.{Tables, lent, shapeOf, piecesOf, behind}
+use Rattle.dispatch_rounds.specs.Tables.{Tables, tablesOf, headerShape, piecesOf, behind}
 use Rattle.dispatch_rounds.specs.Rounds.{roundsFor}
 use Rattle.dispatch.specs.Call.{Call, juriesIn}
 use Rattle.dispatch.specs.Result.{runBoard, dispatchResult}
@@ -36,7 +36,7 @@ piecesAt j ss t = piecesOf (juryAt j ss) (tablesFrom j ss t)
 abbrev pub runAt : ℕ → List JuryHeader → Tables → RunResult
 runAt j ss t =
     let p = piecesAt j ss t in
-    runResult (shapeOf (juryAt j ss)) (p .lists) (p .ballots) (p .tapes) (p .wires) (p .boards)
+    runResult (headerShape (juryAt j ss)) (p .lists) (p .ballots) (p .tapes) (p .wires) (p .boards)
 
 -- Such a run is accepted.
 abbrev pub RunsAt : ℕ → List JuryHeader → Tables → Type 0
@@ -46,7 +46,7 @@ RunsAt j ss t = runAt j ss t .answer ≡ accepted (sizeOf (gatesOf (piecesAt j s
 abbrev pub tablesAfter : Call → Tables
 tablesAfter c =
     let t = c .tables in
-    lent (t .lists) (t .ballots) (t .tapes) (dispatchResult c .wires) (dispatchResult c .boards)
+    tablesOf (t .lists) (t .ballots) (t .tapes) (dispatchResult c .wires) (dispatchResult c .boards)
 
 -- Jury j of a call: its header, its pieces as they are lent, and its pieces after the call.
 abbrev pub jury : Call → ℕ → JuryHeader
@@ -61,10 +61,10 @@ piecesAfter c j = piecesAt j (juriesIn c) (tablesAfter c)
 -- The number of rounds: after r rounds a jury has done all its gates exactly if r is at least that number, and the
 -- next round gives it a gate exactly if r is below it.
 pub record RoundsExact : Type 0 where
-  pub finished : (gates quantum r : ℕ) → 1 ≤ quantum
-      → (min (r * quantum) gates ≡ gates) ↔ (roundsFor gates quantum ≤ r)
-  pub given : (gates quantum r : ℕ) → 1 ≤ quantum
-      → (min (r * quantum) gates < min (suc r * quantum) gates) ↔ (r < roundsFor gates quantum)
+  pub finished : (gates gatesPerRound r : ℕ) → 1 ≤ gatesPerRound
+      → (min (r * gatesPerRound) gates ≡ gates) ↔ (roundsFor gates gatesPerRound ≤ r)
+  pub given : (gates gatesPerRound r : ℕ) → 1 ≤ gatesPerRound
+      → (min (r * gatesPerRound) gates < min (suc r * gatesPerRound) gates) ↔ (r < roundsFor gates gatesPerRound)
 
 -- Jury j of an accepted call.
 pub record AcceptedJury (c : Call) (j : ℕ) : Type 0 where
@@ -73,7 +73,7 @@ pub record AcceptedJury (c : Call) (j : ℕ) : Type 0 where
 
 -- What holds for such a jury, whatever the other juries are.
 pub record EachJury (c : Call) (j : ℕ) : Type 0 where
-  pub rounds : getD (dispatchResult c .rounds) j 0 ≡ roundsFor (jury c j .gates) (c .quantum)
+  pub rounds : getD (dispatchResult c .rounds) j 0 ≡ roundsFor (jury c j .gates) (c .gatesPerRound)
   -- an undivided run on its pieces is accepted, and leaves the same board
   pub runs : RunsAt j (juriesIn c) (c .tables)
   -- its wires are emptied
@@ -88,9 +88,9 @@ pub record RoundsOfCall (c : Call) : Type 0 where
   pub among : longest < length (juriesIn c)
   pub most : (j : ℕ) → j < length (juriesIn c)
       → getD (dispatchResult c .rounds) j 0 ≤ getD (dispatchResult c .rounds) longest 0
-  pub all-done : AllDone (c .quantum) (getD (dispatchResult c .rounds) longest 0) (juriesIn c)
-  pub none-idle : NoIdleRound (c .quantum) (getD (dispatchResult c .rounds) longest 0) (juriesIn c)
-  pub no-other : (n : ℕ) → AllDone (c .quantum) n (juriesIn c) → NoIdleRound (c .quantum) n (juriesIn c)
+  pub all-done : AllDone (c .gatesPerRound) (getD (dispatchResult c .rounds) longest 0) (juriesIn c)
+  pub none-idle : NoIdleRound (c .gatesPerRound) (getD (dispatchResult c .rounds) longest 0) (juriesIn c)
+  pub no-other : (n : ℕ) → AllDone (c .gatesPerRound) n (juriesIn c) → NoIdleRound (c .gatesPerRound) n (juriesIn c)
       → n ≡ getD (dispatchResult c .rounds) longest 0
 
 -- Jury j of one call and jury i of another agree in header, list, ballots and tape.
@@ -100,11 +100,12 @@ pub record SameInputs (c c′ : Call) (j i : ℕ) : Type 0 where
   pub ballots : pieces c j .ballots ≡ pieces c′ i .ballots
   pub tape : pieces c j .tapes ≡ pieces c′ i .tapes
 
--- They have the same board, whatever else is lent and whatever the two quanta; with equal quanta they take equally
--- many rounds.
+-- They have the same board, whatever else the two calls are lent, and however many gates their rounds have. If both
+-- calls have equally many gates per round, the two juries take equally many rounds.
 pub record SameJury (c c′ : Call) (j i : ℕ) : Type 0 where
   pub board : piecesAfter c j .boards ≡ piecesAfter c′ i .boards
-  pub rounds : c .quantum ≡ c′ .quantum → getD (dispatchResult c .rounds) j 0 ≡ getD (dispatchResult c′ .rounds) i 0
+  pub rounds : c .gatesPerRound ≡ c′ .gatesPerRound
+      → getD (dispatchResult c .rounds) j 0 ≡ getD (dispatchResult c′ .rounds) i 0
 
 -- The reason r is that of the first jury that is refused: its place is that jury, runs on the pieces of all juries
 -- before it are accepted, and a run on its own pieces is refused with the number of r.
@@ -115,26 +116,26 @@ pub record FirstRefused (ss : List JuryHeader) (t : Tables) (r : Reason) : Type 
   pub number : r .number ≡ its .number
   pub run : runAt (r .place) ss t .answer ≡ refused its
 
--- One to eight juries, and a quantum of 1 to 65,536 gates.
+-- One to eight juries, and 1 to 65,536 gates per round.
 abbrev pub JuriesFit : Call → Type 0
 JuriesFit c = (1 ≤ c .count) × (c .count ≤ 8)
 
-abbrev pub QuantumFits : Call → Type 0
-QuantumFits c = (1 ≤ c .quantum) × (c .quantum ≤ 65536)
+abbrev pub GatesPerRoundFit : Call → Type 0
+GatesPerRoundFit c = (1 ≤ c .gatesPerRound) × (c .gatesPerRound ≤ 65536)
 
 -- A call is accepted iff both numbers fit and an undivided run on each jury's pieces is accepted.
 abbrev pub AcceptedAsAll : Type 0
 AcceptedAsAll =
     (c : Call) → (dispatchResult c .reason ≡ none)
-    ↔ (JuriesFit c × QuantumFits c × ((j : ℕ) → j < length (juriesIn c) → RunsAt j (juriesIn c) (c .tables)))
+    ↔ (JuriesFit c × GatesPerRoundFit c × ((j : ℕ) → j < length (juriesIn c) → RunsAt j (juriesIn c) (c .tables)))
 
--- A refusal is 19 at place 0 if the number of juries does not fit, else 20 at place 0 if the quantum does not, else the
--- reason of the first jury that is refused. It answers no rounds.
+-- A refusal is 19 at place 0 if the number of juries does not fit, else 20 at place 0 if the gates per round do not,
+-- else the reason of the first jury that is refused. It answers no rounds.
 pub record Refusals : Type 0 where
   pub named : (c : Call) (r : Reason) → dispatchResult c .reason ≡ some r
       → ((¬ JuriesFit c) × (r ≡ reasonAt 19 0))
-      ⊎ (JuriesFit c × (¬ QuantumFits c) × (r ≡ reasonAt 20 0))
-      ⊎ (JuriesFit c × QuantumFits c × FirstRefused (juriesIn c) (c .tables) r)
+      ⊎ (JuriesFit c × (¬ GatesPerRoundFit c) × (r ≡ reasonAt 20 0))
+      ⊎ (JuriesFit c × GatesPerRoundFit c × FirstRefused (juriesIn c) (c .tables) r)
   pub no-rounds : (c : Call) (r : Reason) → dispatchResult c .reason ≡ some r → dispatchResult c .rounds ≡ replicate 8 0
 
 -- Demand 1. The call may write to two tables. It empties each jury's piece of the wires (`EachJury`), not the whole
@@ -164,13 +165,13 @@ pub record Dispatching : Type 0 where
   pub same : (c c′ : Call) (j i : ℕ) → AcceptedJury c j → AcceptedJury c′ i → SameInputs c c′ j i → SameJury c c′ j i
   -- demand 2, for a jury whose list is the one that the core writes for its shape, into any table
   pub accuracy : (c : Call) (j : ℕ) (table : List ℕ) (size : Size) → AcceptedJury c j
-      → writeOutcome (shapeOf (jury c j)) table ≡ accepted size
-      → pieces c j .lists ≡ listIn (shapeOf (jury c j)) size table
-      → let s = shapeOf (jury c j) in SaysWhoWins s (pieces c j .ballots) (closingBytes s (piecesAfter c j .boards))
+      → writeOutcome (headerShape (jury c j)) table ≡ accepted size
+      → pieces c j .lists ≡ listIn (headerShape (jury c j)) size table
+      → let s = headerShape (jury c j) in SaysWhoWins s (pieces c j .ballots) (closingBytes s (piecesAfter c j .boards))
   -- demand 3, for two juries with one shape and one list whose boards end with the same closing bytes
   pub hiding : (c c′ : Call) (j i : ℕ) → AcceptedJury c j → AcceptedJury c′ i
       → jury c j ≡ jury c′ i → pieces c j .lists ≡ pieces c′ i .lists
-      → let s = shapeOf (jury c j) in closingBytes s (piecesAfter c j .boards)
+      → let s = headerShape (jury c j) in closingBytes s (piecesAfter c j .boards)
       ≡ closingBytes s (piecesAfter c′ i .boards)
       → let p = pieces c j in let q = pieces c′ i in
-      Hidden s (p .lists) (p .ballots) (q .ballots) (p .wires) (q .wires) (p .boards) (q .boards)
+      RunsHide s (p .lists) (p .ballots) (q .ballots) (p .wires) (q .wires) (p .boards) (q .boards)

@@ -9,19 +9,19 @@ ghost use mathlib.Core.Bool.{_&&_};
 ghost use Prim.Native.Nat.{_≤_, max};
 ghost use lib.Dec.{leb};
 ghost use lib.ListN.{take};
-ghost use Rattle.dispatch_rounds.specs.Tables.{Tables, lent};
+ghost use Rattle.dispatch_rounds.specs.Tables.{Tables, tablesOf};
 ghost use Rattle.dispatch.specs.Reasons.{verdictReason};
 ghost use Rattle.dispatch_rounds.specs.Rounds.{eightOf, roundsFor};
 ghost use Rattle.dispatch.specs.Result.{DispatchResult, dispatchResult};
-ghost use Rattle.dispatch.specs.inner.Rounds.{Ready, RoundsSmall, Finished, mostGates};
+ghost use Rattle.dispatch.specs.inner.Rounds.{Ready, RoundsSmall, RoundsFinished, mostGates};
 
 pub const LEAST_JURIES: usize = 1;
 
 pub const MOST_JURIES: usize = 8;
 
-pub const LEAST_QUANTUM: usize = 1;
+pub const LEAST_GATES_PER_ROUND: usize = 1;
 
-pub const MOST_QUANTUM: usize = 65536;
+pub const MOST_GATES_PER_ROUND: usize = 65536;
 
 // The answer of a call: its verdict, and how many rounds each jury took, 0 past the last jury and all 0 on a refusal.
 pub struct Dispatched {
@@ -59,17 +59,18 @@ fn most_gates(count: usize, headers: [JuryHeader; 8]) -> usize
 }
 
 // How many rounds each jury takes. No other jury changes that.
-fn rounds_of(count: usize, headers: [JuryHeader; 8], quantum: usize) -> [usize; 8]
-    requires { ⌜ RoundsSmall count headers quantum ⌝ }
+fn rounds_of(count: usize, headers: [JuryHeader; 8], gates_per_round: usize) -> [usize; 8]
+    requires { ⌜ RoundsSmall count headers «gates_per_round» ⌝ }
     ensures { λ r.
         ⌜ ((t : Tables)
-        → r ≡ eightOf (λ (s : JuryHeader) (p : Tables). roundsFor (s .gates) quantum) (take count headers) t) ⌝ }
+        → r ≡ eightOf (λ (s : JuryHeader) (p : Tables). roundsFor (s .gates) «gates_per_round»)
+        (take count headers) t) ⌝ }
 {
     let mut rounds = [0usize; 8];
     let mut j = 0;
     while j < count {
         let header = headers[j];
-        rounds[j] = (header.gates + (quantum - 1)) / quantum;
+        rounds[j] = (header.gates + (gates_per_round - 1)) / gates_per_round;
         j += 1;
     }
     rounds
@@ -80,7 +81,7 @@ fn run_rounds(
     count: usize,
     headers: [JuryHeader; 8],
     conditional: [usize; 8],
-    quantum: usize,
+    gates_per_round: usize,
     lists: &[u32],
     ballots: &[u8],
     tapes: &[u8],
@@ -90,28 +91,28 @@ fn run_rounds(
     requires { ⌜ Ready (record {
       count = count;
       headers = headers;
-      quantum = quantum;
-      tables = lent (now lists) (now ballots) (now tapes) (now wires) (now boards);
+      gatesPerRound = «gates_per_round»;
+      tables = tablesOf (now lists) (now ballots) (now tapes) (now wires) (now boards);
     }) conditional ⌝ }
     ensures { λ _.
-        ⌜ Finished (record {
+        ⌜ RoundsFinished (record {
           count = count;
           headers = headers;
-          quantum = quantum;
-          tables = lent (now (lists .entry)) (now (ballots .entry)) (now (tapes .entry)) (now (wires .entry))
+          gatesPerRound = «gates_per_round»;
+          tables = tablesOf (now (lists .entry)) (now (ballots .entry)) (now (tapes .entry)) (now (wires .entry))
               (now (boards .entry));
         }) conditional (now (wires .exit)) (now (boards .exit)) ⌝ }
 {
     let most = most_gates(count, headers);
     let mut shown = [0usize; 8];
     let mut done = 0;
-    while done * quantum < most {
+    while done * gates_per_round < most {
         let after = round(
             count,
             headers,
             conditional,
             done,
-            quantum,
+            gates_per_round,
             shown,
             lists,
             ballots,
@@ -124,12 +125,12 @@ fn run_rounds(
     }
 }
 
-// Runs up to eight juries in rounds, in each of which a jury does at most `quantum` gates. Their pieces follow each
-// other in the five tables; headers past the number of juries are not read. In the end the wires are emptied.
+// Runs up to eight juries in rounds. The juries' pieces follow each other in the five tables; headers past the number
+// of juries are not read. In the end the wires are emptied.
 pub fn dispatch(
     count: usize,
     headers: [JuryHeader; 8],
-    quantum: usize,
+    gates_per_round: usize,
     lists: &[u32],
     ballots: &[u8],
     tapes: &[u8],
@@ -147,8 +148,8 @@ pub fn dispatch(
         (dispatchResult (record {
           count = count;
           headers = headers;
-          quantum = quantum;
-          tables = lent (now (lists .entry)) (now (ballots .entry)) (now (tapes .entry)) (now (wires .entry))
+          gatesPerRound = «gates_per_round»;
+          tables = tablesOf (now (lists .entry)) (now (ballots .entry)) (now (tapes .entry)) (now (wires .entry))
               (now (boards .entry));
         })) ⌝ }
 {
@@ -161,7 +162,7 @@ pub fn dispatch(
             rounds: [0usize; 8],
         };
     }
-    if !is_between(LEAST_QUANTUM, quantum, MOST_QUANTUM) {
+    if !is_between(LEAST_GATES_PER_ROUND, gates_per_round, MOST_GATES_PER_ROUND) {
         return Dispatched {
             verdict: JuriesVerdict::Refused {
                 reason: Refusal::GatesPerRound,
@@ -184,7 +185,7 @@ pub fn dispatch(
         count,
         headers,
         conditional,
-        quantum,
+        gates_per_round,
         lists,
         ballots,
         tapes,
@@ -194,6 +195,6 @@ pub fn dispatch(
     basics::table::empty(&mut wires[..end]);
     Dispatched {
         verdict,
-        rounds: rounds_of(count, headers, quantum),
+        rounds: rounds_of(count, headers, gates_per_round),
     }
 }

@@ -10,7 +10,7 @@ ghost use mathlib.Core.Path.{_≡_};
 ghost use Prim.Native.Nat.{_+_, _*_, _≤_};
 ghost use lib.ListN.{take};
 ghost use Rattle.tally.specs.Answer.{outcomeOf};
-ghost use Rattle.dispatch_rounds.specs.Tables.{lent, fitting};
+ghost use Rattle.dispatch_rounds.specs.Tables.{tablesOf, fitting};
 ghost use Rattle.dispatch_rounds.specs.Reasons.{atJury};
 ghost use Rattle.dispatch.specs.Reasons.{verdictReason};
 ghost use Rattle.dispatch.specs.inner.Rounds.{refusalIn, JuryTested, TestsFound};
@@ -46,7 +46,8 @@ fn test_jury(
     boards: &[u8],
 ) -> Answer
     ensures { λ r.
-        ⌜ JuryTested header (lent (now (lists .entry)) (now (ballots .entry)) (now (tapes .entry)) (now (wires .entry))
+        ⌜ JuryTested header
+        (tablesOf (now (lists .entry)) (now (ballots .entry)) (now (tapes .entry)) (now (wires .entry))
         (now (boards .entry))) (outcomeOf r) ⌝ }
 {
     let shape = Shape {
@@ -106,7 +107,7 @@ pub(crate) fn test_juries(
 ) -> Tests
     requires { ⌜ count ≤ 8 ⌝ }
     ensures { λ r.
-        ⌜ TestsFound (take count headers) (lent (now (lists .entry)) (now (ballots .entry)) (now (tapes .entry))
+        ⌜ TestsFound (take count headers) (tablesOf (now (lists .entry)) (now (ballots .entry)) (now (tapes .entry))
         (now (wires .entry)) (now (boards .entry))) r ⌝ }
 {
     let mut conditional = [0usize; 8];

@@ -14,7 +14,7 @@ use Rattle.jury.specs.Shape.{ballotBytes}
 use Rattle.jury.specs.Reason.{firstOf}
 use Rattle.dispatch_rounds.specs.declared.header.JuryHeader.{JuryHeader}
 use Rattle.dispatch_rounds.specs.declared.header.Places.{Places}
-use Rattle.dispatch_rounds.specs.Tables.{Tables, lent, shapeOf, conditionalIn, piecesOf, behind, through}
+use Rattle.dispatch_rounds.specs.Tables.{Tables, tablesOf, headerShape, conditionalIn, piecesOf, behind, through}
 use Rattle.dispatch_rounds.specs.Reasons.{juryReasons}
 use Rattle.dispatch_rounds.specs.Rounds.{juryWires, juryBoard, juryShown, wiresGiven, boardsGiven, eightOf, BoardsLong, RoundState}
 use Rattle.dispatch_rounds.specs.inner.State.{placesAfter, JuryState}
@@ -24,14 +24,14 @@ use Rattle.dispatch_rounds.proofs.JuryStates.{jury-wires-long}
 
 -- the tables from these places on
 abbrev pub from : Places → Tables → Tables
-from at t = lent (drop (at .lists) (t .lists)) (drop (at .ballots) (t .ballots)) (drop (at .tapes) (t .tapes))
+from at t = tablesOf (drop (at .lists) (t .lists)) (drop (at .ballots) (t .ballots)) (drop (at .tapes) (t .tapes))
     (drop (at .wires) (t .wires)) (drop (at .boards) (t .boards))
 
 pub from-after : (at : Places) (s : JuryHeader) (t : Tables) → behind s (from at t)
     ≡ from (placesAfter at s (conditionalIn s (from at t))) t
 unfolding behind
 from-after at s t =
-    let i = ballotBytes (shapeOf s) in
+    let i = ballotBytes (headerShape s) in
     let c = conditionalIn s (from at t) in
     let e₀ = drop-drop (4 * s .gates) (at .lists) (t .lists) in
     let e₁ = drop-drop i (at .ballots) (t .ballots) in
@@ -90,11 +90,11 @@ abbrev pub start : Places
 start = record { lists = 0; ballots = 0; tapes = 0; wires = 0; boards = 0 }
 
 pub mid-start : (given next : ℕ) (ss : List JuryHeader) (l b m ws bs conditional wires boards shown : List ℕ)
-    → RoundState given ss (lent l b m ws bs) conditional wires boards shown
-    → Mid ss (lent l b m ws bs) given next conditional 0 ss start wires boards shown
+    → RoundState given ss (tablesOf l b m ws bs) conditional wires boards shown
+    → Mid ss (tablesOf l b m ws bs) given next conditional 0 ss start wires boards shown
 unfolding wiresGiven boardsGiven eightOf
 mid-start given next ss l b m ws bs conditional wires boards shown s =
-    let t = lent l b m ws bs in
+    let t = tablesOf l b m ws bs in
     let c = s .conditionalAre in
     record {
       wiresUp = upto-start (juryWires given) (juryWires next) (λ (t : Tables). t .wires) ss t wires (s .wiresAre);
@@ -135,20 +135,20 @@ module _ (ss : List JuryHeader) (t : Tables) (given next : ℕ) (conditional : L
   pub mid-mark : (d : ℕ) → getD conditional j d ≡ conditionalIn s (from at t)
   mid-mark d = upto-read marks marks (padding ss) s left (from at t) j conditional conditional (m .marksUp) d ∙ mid-passed .marked
 
-  wires-long : length (juryWires given s (piecesOf s (from at t))) ≡ ballotBytes (shapeOf s) + s .gates
+  wires-long : length (juryWires given s (piecesOf s (from at t))) ≡ ballotBytes (headerShape s) + s .gates
   wires-long =
       let p = mid-passed in
       jury-wires-long s (piecesOf s (from at t)) given (p .gates) (omega (arith, p .wiresLong, p .ballotsLong)) ∙ p .wiresLong
 
-  pub mid-wires : take (ballotBytes (shapeOf s) + s .gates) (drop (at .wires) wires) ≡ juryWires given s (piecesOf s (from at t))
+  pub mid-wires : take (ballotBytes (headerShape s) + s .gates) (drop (at .wires) wires) ≡ juryWires given s (piecesOf s (from at t))
   mid-wires =
       upto-part (juryWires given) (juryWires next) (λ (t : Tables). t .wires) s left (from at t) (at .wires)
-      (ballotBytes (shapeOf s) + s .gates) wires (wiresGiven next ss t) (m .wiresUp) wires-long
+      (ballotBytes (headerShape s) + s .gates) wires (wiresGiven next ss t) (m .wiresUp) wires-long
 
-  pub mid-wires-room : at .wires + (ballotBytes (shapeOf s) + s .gates) ≤ length wires
+  pub mid-wires-room : at .wires + (ballotBytes (headerShape s) + s .gates) ≤ length wires
   mid-wires-room =
       upto-room (juryWires given) (juryWires next) (λ (t : Tables). t .wires) s left (from at t) (at .wires)
-      (ballotBytes (shapeOf s) + s .gates) wires (wiresGiven next ss t) (m .wiresUp) wires-long
+      (ballotBytes (headerShape s) + s .gates) wires (wiresGiven next ss t) (m .wiresUp) wires-long
 
   pub mid-boards : take (conditionalIn s (from at t) + s .candidates) (drop (at .boards) boards)
       ≡ juryBoard given s (piecesOf s (from at t))
@@ -172,16 +172,16 @@ module _ (ss : List JuryHeader) (t : Tables) (given next : ℕ) (conditional : L
       record { run = p .run; some-gate = p .some-gate; gates = p .gates; wiresAre = refl; boardIs = refl; count = refl }
 
   -- after its turn
-  pub mid-next : (q r : List ℕ) (v : ℕ) → JuryState next s (piecesOf s (from at t)) q r v → length q ≡ ballotBytes (shapeOf s) + s .gates
+  pub mid-next : (q r : List ℕ) (v : ℕ) → JuryState next s (piecesOf s (from at t)) q r v → length q ≡ ballotBytes (headerShape s) + s .gates
       → length r ≡ conditionalIn s (from at t) + s .candidates
       → Mid ss t given next conditional (suc j) left (placesAfter at s (conditionalIn s (from at t)))
-      (take (at .wires) wires ++ (q ++ drop (ballotBytes (shapeOf s) + s .gates) (drop (at .wires) wires)))
+      (take (at .wires) wires ++ (q ++ drop (ballotBytes (headerShape s) + s .gates) (drop (at .wires) wires)))
       (take (at .boards) boards ++ (r ++ drop (conditionalIn s (from at t) + s .candidates) (drop (at .boards) boards)))
       (set shown j v)
   mid-next q r v st lq lr =
       let here = from at t in
       let e = from-after at s t in
-      let n = ballotBytes (shapeOf s) + s .gates in
+      let n = ballotBytes (headerShape s) + s .gates in
       let c = conditionalIn s here in
       let at′ = placesAfter at s c in
       record {
@@ -248,15 +248,15 @@ spliced-long n a xs q h l =
 -- the same jury under other names for its pieces
 pub jury-as : (given : ℕ) (s : JuryHeader) (p : Tables) (l b m w o w′ o′ : List ℕ) (n n′ : ℕ) → l ≡ p .lists → b
     ≡ p .ballots → m ≡ p .tapes → w ≡ w′ → o ≡ o′ → n ≡ n′
-    → JuryState given s p w′ o′ n′ → JuryState given s (lent l b m (p .wires) (p .boards)) w o n
+    → JuryState given s p w′ o′ n′ → JuryState given s (tablesOf l b m (p .wires) (p .boards)) w o n
 jury-as given s p l b m w o w′ o′ n n′ e₀ e₁ e₂ e₃ e₄ e₅ j = rw (e₀, e₁, e₂, e₃, e₄, e₅) j
 
 pub jury-back : (given : ℕ) (s : JuryHeader) (p : Tables) (l b m w o : List ℕ) (n : ℕ) → l ≡ p .lists → b ≡ p .ballots → m ≡ p .tapes
-    → JuryState given s (lent l b m (p .wires) (p .boards)) w o n → JuryState given s p w o n
+    → JuryState given s (tablesOf l b m (p .wires) (p .boards)) w o n → JuryState given s p w o n
 jury-back given s p l b m w o n e₀ e₁ e₂ j =
-    subst (λ (x : List ℕ). JuryState given s (lent (p .lists) (p .ballots) x (p .wires) (p .boards)) w o n) e₂
-    (subst (λ (x : List ℕ). JuryState given s (lent (p .lists) x m (p .wires) (p .boards)) w o n) e₁
-    (subst (λ (x : List ℕ). JuryState given s (lent x b m (p .wires) (p .boards)) w o n) e₀ j))
+    subst (λ (x : List ℕ). JuryState given s (tablesOf (p .lists) (p .ballots) x (p .wires) (p .boards)) w o n) e₂
+    (subst (λ (x : List ℕ). JuryState given s (tablesOf (p .lists) x m (p .wires) (p .boards)) w o n) e₁
+    (subst (λ (x : List ℕ). JuryState given s (tablesOf x b m (p .wires) (p .boards)) w o n) e₀ j))
 
 -- the same point of a round under other names
 pub mid-as : (ss : List JuryHeader) (t : Tables) (given next : ℕ) (conditional : List ℕ) (j j′ : ℕ)

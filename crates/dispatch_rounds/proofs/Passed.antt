@@ -20,7 +20,7 @@ use Rattle.basics.proofs.Flags.{true-T}
 use Rattle.tally.specs.Answer.{sizeOf}
 use Rattle.tally.proofs.RunReasons.{RunPassed, run-passed, run-ready}
 use Rattle.dispatch_rounds.specs.declared.header.JuryHeader.{JuryHeader}
-use Rattle.dispatch_rounds.specs.Tables.{Tables, shapeOf, pieceOf, listOf, conditionalIn, piecesOf, behind}
+use Rattle.dispatch_rounds.specs.Tables.{Tables, headerShape, pieceOf, listOf, conditionalIn, piecesOf, behind}
 use Rattle.dispatch_rounds.specs.Reasons.{reasonsOf, atJury, juryReasons}
 use Rattle.dispatch_rounds.proofs.Pieces.{piece-fits, full-fits, some-fits}
 
@@ -36,26 +36,26 @@ first-accepted j s ss t e = go (firstOf (reasonsOf s t)) refl e
     go (some r) p q = unfold atJury firstOf in (let z : _≡_ {A = ℕ} 0 1 = cc in absurd (omega arith))
 
 pub record Passed (s : JuryHeader) (t : Tables) : Type 0 where
-  pub passed : RunPassed (shapeOf s) (piecesOf s t .lists) (piecesOf s t .ballots) (piecesOf s t .tapes)
+  pub passed : RunPassed (headerShape s) (piecesOf s t .lists) (piecesOf s t .ballots) (piecesOf s t .tapes)
       (piecesOf s t .wires) (piecesOf s t .boards)
   pub run : RunReady (piecesOf s t .ballots) (piecesOf s t .lists) (s .candidates) (piecesOf s t .tapes)
       (piecesOf s t .wires) (piecesOf s t .boards)
-  pub within-limits : T (withinLimits (shapeOf s))
+  pub within-limits : T (withinLimits (headerShape s))
   pub some-gate : 1 ≤ s .gates
   pub few-gates : s .gates ≤ 1048576
   pub gates : length (gatesOf (piecesOf s t .lists)) ≡ s .gates
   pub inLists : 4 * s .gates ≤ length (t .lists)
-  pub inBallots : ballotBytes (shapeOf s) ≤ length (t .ballots)
+  pub inBallots : ballotBytes (headerShape s) ≤ length (t .ballots)
   pub inTapes : conditionalIn s t ≤ length (t .tapes)
-  pub inWires : ballotBytes (shapeOf s) + s .gates ≤ length (t .wires)
+  pub inWires : ballotBytes (headerShape s) + s .gates ≤ length (t .wires)
   pub inBoards : conditionalIn s t + s .candidates ≤ length (t .boards)
   pub listIs : piecesOf s t .lists ≡ take (4 * s .gates) (t .lists)
-  pub ballotsAre : piecesOf s t .ballots ≡ take (ballotBytes (shapeOf s)) (t .ballots)
+  pub ballotsAre : piecesOf s t .ballots ≡ take (ballotBytes (headerShape s)) (t .ballots)
   pub tapeIs : piecesOf s t .tapes ≡ take (conditionalIn s t) (t .tapes)
-  pub wiresAre : piecesOf s t .wires ≡ take (ballotBytes (shapeOf s) + s .gates) (t .wires)
+  pub wiresAre : piecesOf s t .wires ≡ take (ballotBytes (headerShape s) + s .gates) (t .wires)
   pub boardIs : piecesOf s t .boards ≡ take (conditionalIn s t + s .candidates) (t .boards)
-  pub ballotsLong : length (piecesOf s t .ballots) ≡ ballotBytes (shapeOf s)
-  pub wiresLong : length (piecesOf s t .wires) ≡ ballotBytes (shapeOf s) + s .gates
+  pub ballotsLong : length (piecesOf s t .ballots) ≡ ballotBytes (headerShape s)
+  pub wiresLong : length (piecesOf s t .wires) ≡ ballotBytes (headerShape s) + s .gates
   pub boardLong : length (piecesOf s t .boards) ≡ conditionalIn s t + s .candidates
   pub marked : conditionalCount (gatesOf (piecesOf s t .lists)) ≡ conditionalIn s t
 
@@ -74,13 +74,13 @@ pub jury-passed : (s : JuryHeader) (t : Tables) → firstOf (reasonsOf s t) ≡ 
 unfolding reasonsOf piecesOf conditionalIn
 jury-passed s t e =
     let p = piecesOf s t in
-    let k = run-passed (shapeOf s) (p .lists) (p .ballots) (p .tapes) (p .wires) (p .boards) e in
+    let k = run-passed (headerShape s) (p .lists) (p .ballots) (p .tapes) (p .wires) (p .boards) e in
     let size = sizeOf (gatesOf (p .lists)) in
-    let list = accepted-list (ballotBytes (shapeOf s)) (s .candidates) (p .lists) (size .gates) (size .conditional) (k .test .tests) in
-    let limits = bounds (shapeOf s) (k .test .within) in
+    let list = accepted-list (ballotBytes (headerShape s)) (s .candidates) (p .lists) (size .gates) (size .conditional) (k .test .tests) in
+    let limits = bounds (headerShape s) (k .test .within) in
     let some : 1 ≤ length (gatesOf (listOf s t)) = omega (arith, list .enough, limits .k-least) in
     let fits = list-fits s t some in
-    let i = ballotBytes (shapeOf s) in
+    let i = ballotBytes (headerShape s) in
     let c = conditionalIn s t in
     let wires : length (pieceOf (i + s .gates) (t .wires)) ≡ i + s .gates = omega (arith, k .wiresLength, fits .1) in
     let inBallots : i ≤ length (t .ballots) = full-fits i (t .ballots) (k .ballotsPassed .size) in
@@ -89,8 +89,8 @@ jury-passed s t e =
     let inBoards : c + s .candidates ≤ length (t .boards) = full-fits (c + s .candidates) (t .boards) (k .boardLength) in
     record {
       passed = k;
-      run = run-ready (shapeOf s) (p .lists) (p .ballots) (p .tapes) (p .wires) (p .boards) k;
-      within-limits = true-T (withinLimits (shapeOf s)) (k .test .within);
+      run = run-ready (headerShape s) (p .lists) (p .ballots) (p .tapes) (p .wires) (p .boards) k;
+      within-limits = true-T (withinLimits (headerShape s)) (k .test .within);
       some-gate = omega (arith, fits .1);
       few-gates = omega (arith, list .few, fits .1);
       gates = fits .1;

@@ -5,12 +5,12 @@ use Prim.Native.Nat.{ℕ, suc}
 use Rattle.jury.specs.Reason.{Reason, reasonAt, firstOf}
 use Rattle.tally.specs.Run.{runReasons}
 use Rattle.dispatch_rounds.specs.declared.header.JuryHeader.{JuryHeader}
-use Rattle.dispatch_rounds.specs.Tables.{Tables, shapeOf, piecesOf, behind}
+use Rattle.dispatch_rounds.specs.Tables.{Tables, headerShape, piecesOf, behind}
 
 -- The first jury's reasons are those of a run on its pieces.
 unfoldable pub reasonsOf : JuryHeader → Tables → List (Option Reason)
 reasonsOf s t =
-    runReasons (shapeOf s) (piecesOf s t .lists) (piecesOf s t .ballots) (piecesOf s t .tapes) (piecesOf s t .wires)
+    runReasons (headerShape s) (piecesOf s t .lists) (piecesOf s t .ballots) (piecesOf s t .tapes) (piecesOf s t .wires)
     (piecesOf s t .boards)
 
 -- A jury's reason keeps its number, and has the jury as its place.

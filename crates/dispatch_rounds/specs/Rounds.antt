@@ -73,4 +73,4 @@ pub record RoundState (given : ℕ) (ss : List JuryHeader) (t : Tables) (conditi
 
 -- How many rounds a jury of G gates takes: G divided by S, rounded up.
 unfoldable pub roundsFor : ℕ → ℕ → ℕ
-roundsFor gates quantum = (gates + (quantum - 1)) / quantum
+roundsFor gates gatesPerRound = (gates + (gatesPerRound - 1)) / gatesPerRound

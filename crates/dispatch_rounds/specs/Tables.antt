@@ -17,8 +17,8 @@ pub record Tables : Type 0 where
   pub wires : List ℕ
   pub boards : List ℕ
 
-abbrev pub lent : List ℕ → List ℕ → List ℕ → List ℕ → List ℕ → Tables
-lent lists ballots tapes wires boards = record {
+abbrev pub tablesOf : List ℕ → List ℕ → List ℕ → List ℕ → List ℕ → Tables
+tablesOf lists ballots tapes wires boards = record {
   lists = lists;
   ballots = ballots;
   tapes = tapes;
@@ -26,8 +26,8 @@ lent lists ballots tapes wires boards = record {
   boards = boards;
 }
 
-abbrev pub shapeOf : JuryHeader → Shape
-shapeOf s = record { candidates = s .candidates; grades = s .grades; ballots = s .ballots }
+abbrev pub headerShape : JuryHeader → Shape
+headerShape s = record { candidates = s .candidates; grades = s .grades; ballots = s .ballots }
 
 -- The length of a piece of n elements where m are left: n if they fit, else 0.
 unfoldable pub fitting : ℕ → ℕ → ℕ
@@ -49,21 +49,21 @@ conditionalIn s t = conditionalCount (gatesOf (listOf s t))
 -- The first jury's pieces: 4G numbers, I ballot bytes, C tape bytes, I + G wires and C + k board bytes.
 unfoldable pub piecesOf : JuryHeader → Tables → Tables
 piecesOf s t =
-    lent
+    tablesOf
     (listOf s t)
-    (pieceOf (ballotBytes (shapeOf s)) (t .ballots))
+    (pieceOf (ballotBytes (headerShape s)) (t .ballots))
     (pieceOf (conditionalIn s t) (t .tapes))
-    (pieceOf (ballotBytes (shapeOf s) + s .gates) (t .wires))
+    (pieceOf (ballotBytes (headerShape s) + s .gates) (t .wires))
     (pieceOf (conditionalIn s t + s .candidates) (t .boards))
 
 -- The rest of the tables after these pieces, where the next jury's begin.
 unfoldable pub behind : JuryHeader → Tables → Tables
 behind s t =
-    lent
+    tablesOf
     (drop (4 * s .gates) (t .lists))
-    (drop (ballotBytes (shapeOf s)) (t .ballots))
+    (drop (ballotBytes (headerShape s)) (t .ballots))
     (drop (conditionalIn s t) (t .tapes))
-    (drop (ballotBytes (shapeOf s) + s .gates) (t .wires))
+    (drop (ballotBytes (headerShape s) + s .gates) (t .wires))
     (drop (conditionalIn s t + s .candidates) (t .boards))
 
 -- A table made of one piece for each jury, in order, then what follows the last.

@@ -1,5 +1,4 @@
-// A round: each unfinished jury, in order, does up to `quantum` gates (the S of request 2.8, `gates_per_round` in the
-// header for C).
+// A round: each unfinished jury, in order, does up to `gates_per_round` gates, the S of request 2.8.
 use crate::header::JuryHeader;
 use crate::header::Places;
 ghost use mathlib.Core.Path.{_≡_};
@@ -8,7 +7,7 @@ ghost use mathlib.Core.List.{List, _++_};
 ghost use Prim.Native.Nat.{ℕ, suc, _+_, _*_, _≤_};
 ghost use lib.Dec.{eqb};
 ghost use lib.ListN.{length, take, drop};
-ghost use Rattle.dispatch_rounds.specs.Tables.{lent};
+ghost use Rattle.dispatch_rounds.specs.Tables.{tablesOf};
 ghost use Rattle.dispatch_rounds.specs.Rounds.{RoundState};
 ghost use Rattle.dispatch_rounds.specs.inner.State.{JuryState, TurnReady, RoundReady};
 
@@ -27,12 +26,12 @@ fn load(given: usize, ballots: &[u8], wires: &mut [u8])
     }
 }
 
-// One jury's share of a round, on its own pieces: its next gates, at most `quantum` of them. With the last gate it
-// puts the closing bytes on the board. Answers the number of shown bits.
+// One jury's part of a round, on its own pieces: its next gates, at most `gates_per_round` of them. With its last gate
+// it puts the closing bytes on the board. Answers how many bits the jury has shown so far.
 fn turn(
     header: JuryHeader,
     given: usize,
-    quantum: usize,
+    gates_per_round: usize,
     shown: usize,
     list: &[u32],
     ballots: &[u8],
@@ -40,11 +39,13 @@ fn turn(
     wires: &mut [u8],
     board: &mut [u8],
 ) -> usize
-    requires { ⌜ TurnReady given quantum header (now list) (now ballots) (now tape) (now wires) (now board) shown ⌝ }
+    requires { ⌜
+        TurnReady given «gates_per_round» header (now list) (now ballots) (now tape) (now wires) (now board) shown
+        ⌝ }
     ensures { λ r.
-        ⌜ ((ws bs : List ℕ) → let p = lent (now (list .entry)) (now (ballots .entry)) (now (tape .entry)) ws bs in
+        ⌜ ((ws bs : List ℕ) → let p = tablesOf (now (list .entry)) (now (ballots .entry)) (now (tape .entry)) ws bs in
         JuryState given header p (now (wires .entry)) (now (board .entry)) shown
-        → JuryState (given + quantum) header p (now (wires .exit)) (now (board .exit)) r) ⌝ }
+        → JuryState (given + «gates_per_round») header p (now (wires .exit)) (now (board .exit)) r) ⌝ }
 {
     let gates = header.gates;
     if gates <= given {
@@ -52,7 +53,7 @@ fn turn(
     }
     load(given, ballots, wires);
     let inputs = ballots.len();
-    if gates - given <= quantum {
+    if gates - given <= gates_per_round {
         let last = gates::step::step(inputs, list, given, gates, tape, shown, wires, board);
         gates::step::close(header.candidates, wires, last, board);
         return last;
@@ -61,7 +62,7 @@ fn turn(
         inputs,
         list,
         given,
-        given + quantum,
+        given + gates_per_round,
         tape,
         shown,
         wires,
@@ -77,7 +78,7 @@ pub fn round(
     headers: [JuryHeader; 8],
     conditional: [usize; 8],
     done: usize,
-    quantum: usize,
+    gates_per_round: usize,
     before: [usize; 8],
     lists: &[u32],
     ballots: &[u8],
@@ -85,15 +86,18 @@ pub fn round(
     wires: &mut [u8],
     boards: &mut [u8],
 ) -> [usize; 8]
-    requires { ⌜ RoundReady count headers done quantum (now lists) (now ballots) (now tapes) conditional (now wires)
+    requires { ⌜ RoundReady count headers done «gates_per_round» (now lists) (now ballots) (now tapes) conditional
+        (now wires)
         (now boards) before ⌝ }
     ensures { λ r.
-        ⌜ ((ws bs : List ℕ) → let t = lent (now (lists .entry)) (now (ballots .entry)) (now (tapes .entry)) ws bs in
-        RoundState (done * quantum) (take count headers) t conditional (now (wires .entry)) (now (boards .entry)) before
-        → RoundState (suc done * quantum) (take count headers) t conditional (now (wires .exit)) (now (boards .exit))
+        ⌜ ((ws bs : List ℕ) → let t = tablesOf (now (lists .entry)) (now (ballots .entry)) (now (tapes .entry)) ws bs in
+        RoundState (done * «gates_per_round») (take count headers) t conditional (now (wires .entry))
+        (now (boards .entry)) before
+        → RoundState (suc done * «gates_per_round») (take count headers) t conditional (now (wires .exit))
+        (now (boards .exit))
         r) ⌝ }
 {
-    let given = done * quantum;
+    let given = done * gates_per_round;
     let mut shown = before;
     let mut at = Places {
         lists: 0,
@@ -119,7 +123,7 @@ pub fn round(
         shown[j] = turn(
             header,
             given,
-            quantum,
+            gates_per_round,
             shown[j],
             &lists[l..l_end],
             &ballots[b..b_end],

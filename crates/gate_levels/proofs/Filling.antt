@@ -1,15 +1,15 @@
 -- Levels gate by gate: doing a gate and then the rest is doing all that was left.
 -- Assumes nothing.
 use mathlib.Core.Path.{_≡_, _∙_, refl, sym, ap, subst}
-use mathlib.Core.Bool.{Bool, true, false, cond, _&&_}
+use mathlib.Core.Bool.{Bool, true, false, cond}
 use mathlib.Core.List.{List, [], _∷_, _++_}
 use Prim.Native.Nat.{ℕ, suc, _+_, _-_, _*_, _≤_, _<_, max}
 use native.Mathlib.Nat.{add-suc}
 use native.Mathlib.Omega.{arith}
-use lib.Dec.{ltb, eqb}
+use lib.Dec.{ltb}
 use lib.ListN.{length, getD, take, drop, length-append, drop-of-length-le}
 use lib.Seq.{getD-take, take-all, length-take-le, getD-append-seam}
-use borrow.Author.Tests.{ltb-false, eqb-true, eq-eqb}
+use borrow.Author.Tests.{ltb-false}
 use Rattle.gates.specs.Kind.{conditionalOf}
 use Rattle.gates.specs.Gate.{Gate, gatesOf}
 use Rattle.gates.specs.inner.Step.{gateAt}
@@ -19,29 +19,14 @@ use Rattle.gates.proofs.Table.{length-gates, gates-from}
 use Rattle.gates.proofs.Reading.{gate-numbers}
 use Rattle.gates.proofs.Counting.{mark-at-most-one}
 use Rattle.gates.proofs.Laws.{AllGood, all-good}
-use Rattle.gate_levels.specs.Levels.{wireLevel, gateLevel, levelsFrom, levelsOf, largest, roundsOf}
+use Rattle.gate_levels.specs.Levels.{wireLevel, gateLevel, levelsFrom, levelsOf, roundsOf}
 use Rattle.gate_levels.specs.inner.Filling.{LevelReady}
-use Rattle.gate_levels.specs.Compared.{sameNumbers, compared}
+use Rattle.gate_levels.specs.Compared.{compared}
 use Rattle.gate_levels.specs.declared.level.Compared.the-variants.{Own, Other}
 use Rattle.gates.proofs.Reading.{Below, operands-below}
-use Rattle.gate_levels.proofs.Laws.{levels-keep, gate-level-same, largest-most, largest-more, gate-most}
-
--- lists of the same numbers
-pub same-refl : (xs : List ℕ) → sameNumbers xs xs ≡ true
-unfolding sameNumbers
-same-refl [] = refl
-same-refl (x ∷ xs) = rw (eq-eqb x x refl) (same-refl xs)
-
-pub same-true : (xs ys : List ℕ) → sameNumbers xs ys ≡ true → xs ≡ ys
-unfolding sameNumbers
-same-true [] [] e = refl
-same-true [] (y ∷ ys) e = let z : _≡_ {A = ℕ} 0 1 = cc in absurd (omega arith)
-same-true (x ∷ xs) [] e = let z : _≡_ {A = ℕ} 0 1 = cc in absurd (omega arith)
-same-true (x ∷ xs) (y ∷ ys) e = go (eqb x y) refl e (same-true xs ys)
-  where
-    go : (b : Bool) → eqb x y ≡ b → (b && sameNumbers xs ys) ≡ true → (sameNumbers xs ys ≡ true → xs ≡ ys) → x ∷ xs ≡ y ∷ ys
-    go true f e rest = rw (eqb-true x y f, rest e)
-    go false f e rest = let z : _≡_ {A = ℕ} 0 1 = cc in absurd (omega arith)
+use Rattle.basics.specs.Lists.{maximum, sameNumbers}
+use Rattle.basics.proofs.Same.{same-refl, same-true}
+use Rattle.gate_levels.proofs.Laws.{levels-keep, gate-level-same, maximum-most, maximum-more, gate-most}
 
 module _ (inputs : ℕ) (table : List ℕ) where
   -- The gates from g on are left.
@@ -50,12 +35,12 @@ module _ (inputs : ℕ) (table : List ℕ) where
     pub long : length levels ≡ length (gatesOf table)
     pub rest : levelsFrom inputs (take g levels) (drop g (gatesOf table)) ≡ levelsOf inputs (gatesOf table)
     pub good : AllGood (inputs + g) (drop g (gatesOf table))
-    pub most-is : most ≡ largest (take g levels)
-    pub small : largest (take g levels) ≤ g
+    pub most-is : most ≡ maximum (take g levels)
+    pub small : maximum (take g levels) ≤ g
 
   pub left-start : (levels : List ℕ) → firstBad inputs 0 (gatesOf table) ≡ Nowhere → length levels
       ≡ length (gatesOf table) → Left levels 0 0
-  unfolding levelsOf largest
+  unfolding levelsOf maximum
   left-start levels good long =
       record {
         order = omega arith;
@@ -94,7 +79,7 @@ module _ (inputs : ℕ) (table : List ℕ) where
           c-below = below .c-below;
           small = λ (i : ℕ) m.
               let e = getD-take g levels i 0 m in
-              omega (arith, largest-most (take g levels) i, left .small);
+              omega (arith, maximum-most (take g levels) i, left .small);
           few = omega arith;
         }
 
@@ -119,14 +104,14 @@ module _ (inputs : ℕ) (table : List ℕ) where
       pub left-turn : (levels′ : List ℕ) (most′ g′ : ℕ) → length levels′ ≡ length levels → take (suc g) levels′
           ≡ take g levels ++ (v ∷ []) → most′ ≡ max most v → g′ ≡ suc g → Left levels′ most′ g′
       left-turn levels′ most′ g′ long taken m e =
-          let more = largest-more (take g levels) v in
+          let more = maximum-more (take g levels) v in
           rw e (record {
             order = omega arith;
             long = long ∙ left .long;
             rest = ap (λ (l : List ℕ). levelsFrom inputs l (drop (suc g) (gatesOf table))) taken ∙ (unfold later in rest-after);
             good = subst (λ (n : ℕ). AllGood n (drop (suc g) (gatesOf table))) (sym (add-suc inputs g)) (unfold later in good-here .1);
-            most-is = m ∙ ap (λ (n : ℕ). max n v) (left .most-is) ∙ sym more ∙ ap largest (sym taken);
-            small = omega (arith, ap largest taken, left .small, gate-most inputs (take g levels) x, mark-at-most-one (x .kind), own);
+            most-is = m ∙ ap (λ (n : ℕ). max n v) (left .most-is) ∙ sym more ∙ ap maximum (sym taken);
+            small = omega (arith, ap maximum taken, left .small, gate-most inputs (take g levels) x, mark-at-most-one (x .kind), own);
           })
 
       -- a table with another number here is not the list's
@@ -156,7 +141,7 @@ module _ (inputs : ℕ) (table : List ℕ) where
       let none : drop g (gatesOf table) ≡ [] = drop-of-length-le (gatesOf table) {i = g} h in
       let all : take g levels ≡ levels = take-all g levels (omega (arith, left .long)) in
       let e : levels ≡ levelsOf inputs (gatesOf table) = sym all ∙ sym (ap (levelsFrom inputs (take g levels)) none) ∙ left .rest in
-      (e, left .most-is ∙ ap largest (all ∙ e))
+      (e, left .most-is ∙ ap maximum (all ∙ e))
 
   pub own-levels : (levels : List ℕ) (most g : ℕ) → Left levels most g → length (gatesOf table) ≤ g → (rounds : ℕ)
       → rounds ≡ most → Own rounds ≡ compared inputs (gatesOf table) levels

@@ -16,7 +16,8 @@ use Rattle.gates.specs.Board.{conditionalCount}
 use Rattle.gates.proofs.Reading.{Below, operands-below}
 use Rattle.gates.proofs.Counting.{count-cons}
 use Rattle.gates.proofs.Laws.{AllGood}
-use Rattle.gate_levels.specs.Levels.{wireLevel, gateLevel, levelsFrom, levelsOf, largest, roundsOf}
+use Rattle.basics.specs.Lists.{maximum}
+use Rattle.gate_levels.specs.Levels.{wireLevel, gateLevel, levelsFrom, levelsOf, roundsOf}
 
 -- Levels that are there stay, and each gate adds one.
 pub levels-keep : (inputs : ℕ) (ls : List ℕ) (gs : List Gate) (i : ℕ) → i < length ls → getD (levelsFrom inputs ls gs) i 0 ≡ getD ls i 0
@@ -94,42 +95,42 @@ unfolding gateLevel
 operand-levels inputs ls g = record { a-level = omega arith; b-level = omega arith; c-level = omega arith }
 
 -- The largest level is at least each of them, and one of them if there are any.
-pub largest-most : (ls : List ℕ) (i : ℕ) → getD ls i 0 ≤ largest ls
-unfolding largest
-largest-most [] i = omega arith
-largest-most (l ∷ ls) zero = omega arith
-largest-most (l ∷ ls) (suc i) = omega (arith, largest-most ls i)
+pub maximum-most : (ls : List ℕ) (i : ℕ) → getD ls i 0 ≤ maximum ls
+unfolding maximum
+maximum-most [] i = omega arith
+maximum-most (l ∷ ls) zero = omega arith
+maximum-most (l ∷ ls) (suc i) = omega (arith, maximum-most ls i)
 
-pub largest-append : (ls ms : List ℕ) → largest (ls ++ ms) ≡ max (largest ls) (largest ms)
-unfolding largest
-largest-append [] ms = omega arith
-largest-append (l ∷ ls) ms = omega (arith, largest-append ls ms)
+pub maximum-append : (ls ms : List ℕ) → maximum (ls ++ ms) ≡ max (maximum ls) (maximum ms)
+unfolding maximum
+maximum-append [] ms = omega arith
+maximum-append (l ∷ ls) ms = omega (arith, maximum-append ls ms)
 
-pub largest-more : (ls : List ℕ) (l : ℕ) → largest (ls ++ (l ∷ [])) ≡ max (largest ls) l
-unfolding largest
-largest-more ls l = omega (arith, largest-append ls (l ∷ []))
+pub maximum-more : (ls : List ℕ) (l : ℕ) → maximum (ls ++ (l ∷ [])) ≡ max (maximum ls) l
+unfolding maximum
+maximum-more ls l = omega (arith, maximum-append ls (l ∷ []))
 
 -- No wire is deeper than the largest level, so a gate raises it by at most its mark.
-pub wire-most : (inputs : ℕ) (ls : List ℕ) (x : ℕ) → wireLevel inputs ls x ≤ largest ls
+pub wire-most : (inputs : ℕ) (ls : List ℕ) (x : ℕ) → wireLevel inputs ls x ≤ maximum ls
 unfolding wireLevel
 wire-most inputs ls x = go (ltb x inputs)
   where
-    go : (b : Bool) → cond b 0 (getD ls (x - inputs) 0) ≤ largest ls
+    go : (b : Bool) → cond b 0 (getD ls (x - inputs) 0) ≤ maximum ls
     go true = omega arith
-    go false = largest-most ls (x - inputs)
+    go false = maximum-most ls (x - inputs)
 
-pub gate-most : (inputs : ℕ) (ls : List ℕ) (g : Gate) → gateLevel inputs ls g ≤ largest ls + cond (conditionalOf (g .kind)) 1 0
+pub gate-most : (inputs : ℕ) (ls : List ℕ) (g : Gate) → gateLevel inputs ls g ≤ maximum ls + cond (conditionalOf (g .kind)) 1 0
 unfolding gateLevel
 gate-most inputs ls g = omega (arith, wire-most inputs ls (g .a), wire-most inputs ls (g .b), wire-most inputs ls (g .c))
 
-pub largest-from : (inputs : ℕ) (ls : List ℕ) (gs : List Gate) → largest (levelsFrom inputs ls gs) ≤ largest ls + conditionalCount gs
+pub maximum-from : (inputs : ℕ) (ls : List ℕ) (gs : List Gate) → maximum (levelsFrom inputs ls gs) ≤ maximum ls + conditionalCount gs
 unfolding levelsFrom
-largest-from inputs ls [] = omega arith
-largest-from inputs ls (g ∷ gs) =
+maximum-from inputs ls [] = omega arith
+maximum-from inputs ls (g ∷ gs) =
     let v = gateLevel inputs ls g in
-    omega (arith, largest-from inputs (ls ++ (v ∷ [])) gs, largest-more ls v, gate-most inputs ls g, count-cons g gs)
+    omega (arith, maximum-from inputs (ls ++ (v ∷ [])) gs, maximum-more ls v, gate-most inputs ls g, count-cons g gs)
 
 -- R is at most C.
 pub rounds-most : (inputs : ℕ) (gs : List Gate) → roundsOf inputs gs ≤ conditionalCount gs
-unfolding roundsOf levelsOf largest
-rounds-most inputs gs = omega (arith, largest-from inputs [] gs)
+unfolding roundsOf levelsOf maximum
+rounds-most inputs gs = omega (arith, maximum-from inputs [] gs)

@@ -5,6 +5,7 @@ use Prim.Native.Nat.{ℕ, _+_, _-_, max}
 use lib.Dec.{ltb}
 use lib.ListN.{getD}
 use Rattle.gates.specs.Kind.{conditionalOf}
+use Rattle.basics.specs.Lists.{maximum}
 use Rattle.gates.specs.Gate.{Gate}
 
 -- The level of wire x, given the levels ls of the gates so far. An input has level 0.
@@ -28,9 +29,5 @@ unfoldable pub levelsOf : ℕ → List Gate → List ℕ
 levelsOf inputs gs = levelsFrom inputs [] gs
 
 -- The rounds R of a list: its largest level.
-unfoldable pub largest : List ℕ → ℕ
-largest [] = 0
-largest (l ∷ ls) = max l (largest ls)
-
 unfoldable pub roundsOf : ℕ → List Gate → ℕ
-roundsOf inputs gs = largest (levelsOf inputs gs)
+roundsOf inputs gs = maximum (levelsOf inputs gs)

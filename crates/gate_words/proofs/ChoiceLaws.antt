@@ -5,8 +5,8 @@ use Prim.Native.Nat.{ℕ, zero, suc, _+_, _<_}
 use native.Mathlib.Omega.{arith}
 use Rattle.gates.proofs.Laws.{Holds, mux-zero, mux-one}
 use Rattle.gate_words.specs.Gates.{andOf, orOf, muxOf}
-use Rattle.gate_words.specs.Word.{ones, number}
-use Rattle.gate_words.specs.Choice.{choose, masked, chain, chainEnd, anyOf}
+use Rattle.gate_words.specs.Word.{onesAt, number}
+use Rattle.gate_words.specs.Choice.{choose, masked, chainOf, chainEnd, anyOf}
 use Rattle.gate_words.proofs.Numbers.{Binary, number-none, number-more, ones-none, ones-more}
 use Rattle.gate_words.proofs.GateValues.{holds-first, holds-rest, and-is, or-is}
 use Rattle.gate_words.proofs.ChoiceSteps.{chain-next}
@@ -53,8 +53,8 @@ module _ (W : ℕ → ℕ) (b : Binary W) where
       omega (arith, r, number-more W n 1 w, holds-first W n (andOf f x) (masked f (x + 1) w) h ∙ and-is W b f x)
 
   -- a chain of "or" is 1 exactly if one of its wires is
-  pub any-one : (n s at d m : ℕ) → 0 < W s + ones W at d m → Holds W n (anyOf n s at d m) → W (chainEnd n s m) ≡ 1
-  unfolding chain
+  pub any-one : (n s at d m : ℕ) → 0 < W s + onesAt W at d m → Holds W n (anyOf n s at d m) → W (chainEnd n s m) ≡ 1
+  unfolding chainOf
   any-one n s at d zero p h = unfold chainEnd in (omega (arith, b s, ones-none W at d))
   any-one n s at d (suc m) p h =
       let g = holds-first W n (orOf s at) (anyOf (n + 1) n (at + d) d m) h ∙ or-is W b s at in
@@ -62,8 +62,8 @@ module _ (W : ℕ → ℕ) (b : Binary W) where
       (holds-rest W n (orOf s at) (anyOf (n + 1) n (at + d) d m) h) in
       sym (ap W (chain-next n s m)) ∙ r
 
-  pub any-zero : (n s at d m : ℕ) → W s + ones W at d m ≡ 0 → Holds W n (anyOf n s at d m) → W (chainEnd n s m) ≡ 0
-  unfolding chain
+  pub any-zero : (n s at d m : ℕ) → W s + onesAt W at d m ≡ 0 → Holds W n (anyOf n s at d m) → W (chainEnd n s m) ≡ 0
+  unfolding chainOf
   any-zero n s at d zero p h = unfold chainEnd in (omega arith)
   any-zero n s at d (suc m) p h =
       let g = holds-first W n (orOf s at) (anyOf (n + 1) n (at + d) d m) h ∙ or-is W b s at in

@@ -7,7 +7,7 @@ use native.Mathlib.Nat.{add-zero}
 use native.Mathlib.Omega.{arith}
 use lib.ListN.{length}
 use Rattle.gate_words.specs.Gates.{gate, andOf, muxOf}
-use Rattle.gate_words.specs.Choice.{choose, masked, chain, chainEnd}
+use Rattle.gate_words.specs.Choice.{choose, masked, chainOf, chainEnd}
 use Rattle.basics.proofs.Arithmetic.{count-down}
 
 -- digits that are left count down
@@ -36,16 +36,16 @@ unfolding masked
 length-masked f x zero = refl
 length-masked f x (suc w) = ap suc (length-masked f (x + 1) w)
 
-pub length-chain : (kind n s at d m : ℕ) → length (chain kind n s at d m) ≡ m
-unfolding chain
+pub length-chain : (kind n s at d m : ℕ) → length (chainOf kind n s at d m) ≡ m
+unfolding chainOf
 length-chain kind n s at d zero = refl
 length-chain kind n s at d (suc m) = ap suc (length-chain kind (n + 1) n (at + d) d m)
 
-pub chain-step : (kind n s at d m : ℕ) → 0 < m → chain kind n s at d m ≡ (gate kind s at 0 ∷ []) ++ chain kind (n + 1) n (at + d) d (m - 1)
-chain-step kind n s at d m h = ap (chain kind n s at d) (count-down m h) ∙ first (m - 1)
+pub chain-step : (kind n s at d m : ℕ) → 0 < m → chainOf kind n s at d m ≡ (gate kind s at 0 ∷ []) ++ chainOf kind (n + 1) n (at + d) d (m - 1)
+chain-step kind n s at d m h = ap (chainOf kind n s at d) (count-down m h) ∙ first (m - 1)
   where
-    first : (m : ℕ) → chain kind n s at d (suc m) ≡ (gate kind s at 0 ∷ []) ++ chain kind (n + 1) n (at + d) d m
-    first m = unfold chain in refl
+    first : (m : ℕ) → chainOf kind n s at d (suc m) ≡ (gate kind s at 0 ∷ []) ++ chainOf kind (n + 1) n (at + d) d m
+    first m = unfold chainOf in refl
 
 -- nothing is left
 pub choose-none : (f x y i n : ℕ) → n ≤ i → choose f x y (n - i) ≡ []
@@ -56,8 +56,8 @@ pub masked-none : (f x i n : ℕ) → n ≤ i → masked f x (n - i) ≡ []
 unfolding masked
 masked-none f x i n h = let e : n - i ≡ 0 = omega arith in rw e
 
-pub chain-none : (kind n s at d m : ℕ) → m ≤ 0 → chain kind n s at d m ≡ []
-unfolding chain
+pub chain-none : (kind n s at d m : ℕ) → m ≤ 0 → chainOf kind n s at d m ≡ []
+unfolding chainOf
 chain-none kind n s at d m h = let e : m ≡ 0 = omega arith in rw e
 
 -- the end of a chain is the end of the chain after its first gate

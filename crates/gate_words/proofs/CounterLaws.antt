@@ -8,9 +8,9 @@ use native.Mathlib.Omega.{arith}
 use borrow.Author.Tests.{eq-eqb, ne-eqb}
 use Rattle.gates.proofs.Laws.{Holds, holds-append}
 use Rattle.gate_words.specs.Gates.{copyOf, xorOf}
-use Rattle.gate_words.specs.Word.{ones, number}
+use Rattle.gate_words.specs.Word.{onesAt, number}
 use Rattle.gate_words.specs.Adder.{fullAdder}
-use Rattle.gate_words.specs.Choice.{chain, chainEnd, parity}
+use Rattle.gate_words.specs.Choice.{chainOf, chainEnd, parity}
 use Rattle.gate_words.specs.Counter.{level, adders, levelSum, countLevels, countDigitsAs, countDigits, counter, countSize, Countable}
 use Rattle.gate_words.proofs.Numbers.{Binary, ones-none, ones-more, number-one, number-more}
 use Rattle.gate_words.proofs.GateValues.{holds-first, holds-rest, copy-is, xor-is}
@@ -45,22 +45,22 @@ sum-next n s m e = go (adders m e) refl
 module _ (W : ℕ → ℕ) (b : Binary W) where
   -- a level of one adder
   one-adder : (n s m e k : ℕ) → adders m e ≡ 1 → W (n + 1) + 2 * W (n + 2) ≡ k → W (levelSum n s m e) + 2
-      * ones W (n + 2) 3 (adders m e) ≡ k
+      * onesAt W (n + 2) 3 (adders m e) ≡ k
   one-adder n s m e k p f =
       let place : n + 3 * 0 + 1 ≡ n + 1 = omega arith in
       rw (sum-some n s m e 0 p, place, p) (omega (arith, ones-more W (n + 2) 3 0, ones-none W (n + 2 + 3) 3))
 
   -- "ones of the bits = sum + 2 × ones of the carries"
   pub level-law : (n s at d e m : ℕ) → e ≤ 1 → Holds W n (level n s at d e m)
-      → W (levelSum n s m e) + 2 * ones W (n + 2) 3 (adders m e) ≡ W s + ones W at d m + e
+      → W (levelSum n s m e) + 2 * onesAt W (n + 2) 3 (adders m e) ≡ W s + onesAt W at d m + e
   unfolding level
   level-law n s at d zero zero l h = unfold adders in (rw (sum-none n s 0 0 refl, ones-none W (n + 2) 3, ones-none W at d) (omega arith))
   level-law n s at d (suc zero) zero l h =
-      one-adder n s 0 1 (W s + ones W at d 0 + 1) (unfold adders in refl)
+      one-adder n s 0 1 (W s + onesAt W at d 0 + 1) (unfold adders in refl)
       (omega (arith, increment-law W b n s h, ones-none W at d))
   level-law n s at d (suc (suc e)) zero l h = absurd (omega arith)
   level-law n s at d e (suc zero) l h =
-      one-adder n s 1 e (W s + ones W at d 1 + e) (unfold adders in (omega arith))
+      one-adder n s 1 e (W s + onesAt W at d 1 + e) (unfold adders in (omega arith))
       (omega (arith, half-law W b n s at e l h, ones-more W at d 0, ones-none W (at + d) d))
   level-law n s at d e (suc (suc m)) l h =
       let rest = level (n + 3) (n + 1) (at + d + d) d e m in
@@ -74,16 +74,16 @@ module _ (W : ℕ → ℕ) (b : Binary W) where
         f,
         r,
         ap W (sum-next n s m e),
-        ap (ones W (n + 2) 3) (two-more m e),
+        ap (onesAt W (n + 2) 3) (two-more m e),
         ones-more W (n + 2) 3 (adders m e),
-        ap (λ (k : ℕ). ones W k 3 (adders m e)) place,
+        ap (λ (k : ℕ). onesAt W k 3 (adders m e)) place,
         ones-more W at d (suc m),
         ones-more W (at + d) d m,
       )
 
   -- the digits of a count: the levels start at n, and the copies of their sums at q
   pub count-law : (n at d m x r q : ℕ) → Countable m x r → Holds W n (countLevels n at d m x r) → Holds W q (countDigits n at m x r)
-      → number W q 1 (suc r) ≡ ones W at d m + x
+      → number W q 1 (suc r) ≡ onesAt W at d m + x
   unfolding countLevels countDigitsAs
   count-law n at d m x zero q k h g =
       rw (k .0, k .1) (omega (
@@ -113,12 +113,12 @@ module _ (W : ℕ → ℕ) (b : Binary W) where
         number-more W q 1 (suc r),
         holds-first W q (copyOf (levelSum n at (m - 1) e)) digits g,
         copy-is W b (levelSum n at (m - 1) e),
-        ap (ones W at d) first,
+        ap (onesAt W at d) first,
         ones-more W at d (m - 1),
       )
 
   pub counter-law : (n at d m x r : ℕ) → Countable m x r → Holds W n (counter n at d m x r)
-      → number W (n + countSize m x r) 1 (suc r) ≡ ones W at d m + x
+      → number W (n + countSize m x r) 1 (suc r) ≡ onesAt W at d m + x
   unfolding counter
   counter-law n at d m x r k h =
       let p = holds-append W n (countLevels n at d m x r) (countDigits n at m x r) h in
@@ -126,8 +126,8 @@ module _ (W : ℕ → ℕ) (b : Binary W) where
       (subst (λ (z : ℕ). Holds W z (countDigits n at m x r)) (ap (λ (z : ℕ). n + z) (length-count n at d m x r)) (p .1))
 
   -- a chain of sums modulo 2
-  pub parity-law : (n s at d m : ℕ) → Holds W n (parity n s at d m) → W (chainEnd n s m) ≡ (W s + ones W at d m) % 2
-  unfolding chain
+  pub parity-law : (n s at d m : ℕ) → Holds W n (parity n s at d m) → W (chainEnd n s m) ≡ (W s + onesAt W at d m) % 2
+  unfolding chainOf
   parity-law n s at d zero h = unfold chainEnd in (omega (arith, b s, ones-none W at d))
   parity-law n s at d (suc m) h =
       let g = holds-first W n (xorOf s at) (parity (n + 1) n (at + d) d m) h ∙ xor-is W b s at in

@@ -10,7 +10,7 @@ use lib.ListN.{length, length-append}
 use Rattle.gates.specs.Gate.{Gate}
 use Rattle.gates.proofs.Laws.{Holds, AllGood, holds-append, mux-zero, mux-one}
 use Rattle.gate_words.specs.Gates.{orOf, xorOf, muxOf}
-use Rattle.gate_words.specs.Word.{ones, number, Below}
+use Rattle.gate_words.specs.Word.{onesAt, number, Below}
 use Rattle.gate_words.specs.Choice.{anyOf, chainEnd}
 use Rattle.gate_words.specs.Comparison.{differences, above}
 use Rattle.gate_words.specs.Halves.{anyOfHalves, unequalHalves, unequalSpan, unequalAt, aboveHalves, highUnequalAt, compareHalves, compareSpan, aboveAt, unequalCut, compareCut}
@@ -254,7 +254,7 @@ joined {e₁} {s₁} {a₁} {c₁} {e₀} {s₀} {a₀} {c₀} {e} {s} {a} {c} t
 
 module _ (W : ℕ → ℕ) (b : Binary W) where
   -- words are equal exactly if no digit differs
-  differ-none : (n x y w : ℕ) → number W x 1 w ≡ number W y 1 w → Holds W n (differences x y w) → ones W n 1 w ≡ 0
+  differ-none : (n x y w : ℕ) → number W x 1 w ≡ number W y 1 w → Holds W n (differences x y w) → onesAt W n 1 w ≡ 0
   unfolding differences
   differ-none n x y zero e h = ones-none W n 1
   differ-none n x y (suc w) e h =
@@ -265,7 +265,7 @@ module _ (W : ℕ → ℕ) (b : Binary W) where
       let r = differ-none (n + 1) (x + 1) (y + 1) w (omega (arith, b x, b y)) (holds-rest W n (xorOf x y) rest h) in
       omega (arith, g, r, mx, my, e, b x, b y, ones-more W n 1 w)
 
-  same-none : (n x y w : ℕ) → ones W n 1 w ≡ 0 → Holds W n (differences x y w) → number W x 1 w ≡ number W y 1 w
+  same-none : (n x y w : ℕ) → onesAt W n 1 w ≡ 0 → Holds W n (differences x y w) → number W x 1 w ≡ number W y 1 w
   unfolding differences
   same-none n x y zero e h = omega (arith, number-none W x 1, number-none W y 1)
   same-none n x y (suc w) e h =
@@ -286,7 +286,7 @@ module _ (W : ℕ → ℕ) (b : Binary W) where
   half-one : (d n x y w : ℕ) → number W x 1 (suc w) ≢ number W y 1 (suc w) → Holds W d (differences x y (suc w))
       → Holds W n (anyOf n d (d + 1) 1 w) → W (chainEnd n d w) ≡ 1
   half-one d n x y w e g h =
-      any-one W b n d (d + 1) 1 w (positive (ones W d 1 (suc w)) (W d + ones W (d + 1) 1 w) (ones-more W d 1 w)
+      any-one W b n d (d + 1) 1 w (positive (onesAt W d 1 (suc w)) (W d + onesAt W (d + 1) 1 w) (ones-more W d 1 w)
       (λ z. e (same-none d x y (suc w) z g))) h
 
   -- words in two parts
@@ -426,16 +426,16 @@ module _ (W : ℕ → ℕ) (b : Binary W) where
       parts-same x y l h e px py q = rw (← e) (high-same x y (suc l) (suc h) (rw (px, py) q))
 
   -- whether words differ, on its own
-  ones-parts : (at l h : ℕ) → ones W at 1 (l + h) ≡ ones W at 1 l + ones W (at + l) 1 h
+  ones-parts : (at l h : ℕ) → onesAt W at 1 (l + h) ≡ onesAt W at 1 l + onesAt W (at + l) 1 h
   ones-parts at zero h = rw (zero-add h, add-zero at) (omega (arith, ones-none W at 1))
   ones-parts at (suc l) h =
       let place : at + suc l ≡ at + 1 + l = omega arith in
       rw (suc-add l h, place) (omega (arith, ones-more W at 1 (l + h), ones-more W at 1 l, ones-parts (at + 1) l h))
 
-  pub any-halves-zero : (n s at l h : ℕ) → W s + ones W at 1 (l + h) ≡ 0 → Holds W n (anyOfHalves n s at l h) → W (chainEnd n s (l + h)) ≡ 0
+  pub any-halves-zero : (n s at l h : ℕ) → W s + onesAt W at 1 (l + h) ≡ 0 → Holds W n (anyOfHalves n s at l h) → W (chainEnd n s (l + h)) ≡ 0
   any-halves-zero n s at l zero e g =
       ap (λ (i : ℕ). W (chainEnd n s i)) (add-zero l)
-      ∙ any-zero W b n s at 1 l (omega (arith, ap (ones W at 1) (add-zero l))) (unfold anyOfHalves in g)
+      ∙ any-zero W b n s at 1 l (omega (arith, ap (onesAt W at 1) (add-zero l))) (unfold anyOfHalves in g)
   any-halves-zero n s at l (suc h) e g =
       let i = cut-any n s at l h g in
       let p = ones-parts at l (suc h) in
@@ -446,25 +446,25 @@ module _ (W : ℕ → ℕ) (b : Binary W) where
       ∙ or-is W b (chainEnd (n + l) (at + l) h) (chainEnd n s l) in
       ap W (end-more n s l h) ∙ omega arith
 
-  pub any-halves-one : (n s at l h : ℕ) → 0 < W s + ones W at 1 (l + h) → Holds W n (anyOfHalves n s at l h) → W (chainEnd n s (l + h)) ≡ 1
+  pub any-halves-one : (n s at l h : ℕ) → 0 < W s + onesAt W at 1 (l + h) → Holds W n (anyOfHalves n s at l h) → W (chainEnd n s (l + h)) ≡ 1
   any-halves-one n s at l zero e g =
       ap (λ (i : ℕ). W (chainEnd n s i)) (add-zero l)
-      ∙ any-one W b n s at 1 l (omega (arith, ap (ones W at 1) (add-zero l))) (unfold anyOfHalves in g)
+      ∙ any-one W b n s at 1 l (omega (arith, ap (onesAt W at 1) (add-zero l))) (unfold anyOfHalves in g)
   any-halves-one n s at l (suc h) e g =
       let i = cut-any n s at l h g in
       let lo = chainEnd n s l in
       let hi = chainEnd (n + l) (at + l) h in
       let o = holds-first W (n + l + h) (orOf hi lo) [] (i .2) ∙ or-is W b hi lo in
       ap W (end-more n s l h) ∙ ⊎-elim
-      (λ (z : 0 < W s + ones W at 1 l). omega (arith, any-one W b n s at 1 l z (i .0), b hi))
-      (λ (z : W s + ones W at 1 l ≤ 0).
+      (λ (z : 0 < W s + onesAt W at 1 l). omega (arith, any-one W b n s at 1 l z (i .0), b hi))
+      (λ (z : W s + onesAt W at 1 l ≤ 0).
       omega (
         arith,
         b lo,
         any-one W b (n + l) (at + l) (at + l + 1) 1 h
             (omega (arith, ones-parts at l (suc h), ones-more W (at + l) 1 h)) (i .1),
       ))
-      (some-or-none (W s + ones W at 1 l))
+      (some-or-none (W s + onesAt W at 1 l))
 
   pub unequal-halves-zero : (n x y l h : ℕ) → number W x 1 (suc (l + h)) ≡ number W y 1 (suc (l + h))
       → Holds W n (unequalHalves n x y l h) → W (unequalAt n (l + h)) ≡ 0
@@ -478,7 +478,7 @@ module _ (W : ℕ → ℕ) (b : Binary W) where
   unequal-halves-one n x y l h e g =
       let u = cut-unequal n x y l h g in
       any-halves-one (n + suc (l + h)) n (n + 1) l h
-      (positive (ones W n 1 (suc (l + h))) (W n + ones W (n + 1) 1 (l + h)) (ones-more W n 1 (l + h))
+      (positive (onesAt W n 1 (suc (l + h))) (W n + onesAt W (n + 1) 1 (l + h)) (ones-more W n 1 (l + h))
       (λ z. e (same-none n x y (suc (l + h)) z (u .0)))) (u .1)
 
 -- a word that is cut keeps all its digits

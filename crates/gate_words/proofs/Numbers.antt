@@ -4,7 +4,7 @@ use mathlib.Core.Path.{_≡_, _∙_, refl, ap}
 use Prim.Native.Nat.{ℕ, zero, suc, _+_, _*_, _^_, _≤_, _<_}
 use native.Mathlib.Nat.{pow-succ', zero-add, add-zero, suc-add, mul-assoc}
 use native.Mathlib.Omega.{arith}
-use Rattle.gate_words.specs.Word.{ones, number}
+use Rattle.gate_words.specs.Word.{onesAt, number}
 
 -- every wire is a bit
 abbrev pub Binary : (ℕ → ℕ) → Type 0
@@ -39,10 +39,10 @@ pub number-more : (W : ℕ → ℕ) (at d w : ℕ) → number W at d (suc w) ≡
 unfolding number
 number-more W at d w = refl
 
-pub ones-none : (W : ℕ → ℕ) (at d : ℕ) → ones W at d 0 ≡ 0
-unfolding ones
+pub ones-none : (W : ℕ → ℕ) (at d : ℕ) → onesAt W at d 0 ≡ 0
+unfolding onesAt
 ones-none W at d = refl
 
-pub ones-more : (W : ℕ → ℕ) (at d m : ℕ) → ones W at d (suc m) ≡ W at + ones W (at + d) d m
-unfolding ones
+pub ones-more : (W : ℕ → ℕ) (at d m : ℕ) → onesAt W at d (suc m) ≡ W at + onesAt W (at + d) d m
+unfolding onesAt
 ones-more W at d m = refl

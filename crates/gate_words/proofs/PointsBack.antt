@@ -16,7 +16,7 @@ use Rattle.gates.proofs.Laws.{AllGood, good-none, good-one, good-two, good-thre
 use Rattle.gate_words.specs.Gates.{constant, copyOf, notOf, andOf, orOf, xorOf, muxOf}
 use Rattle.gate_words.specs.Word.{Below}
 use Rattle.gate_words.specs.Adder.{fullAdder, halfAdder, increment}
-use Rattle.gate_words.specs.Choice.{choose, masked, chain}
+use Rattle.gate_words.specs.Choice.{choose, masked, chainOf}
 use Rattle.gate_words.specs.Comparison.{firstDigit, compareWords, differences, above}
 use Rattle.gate_words.specs.Counter.{level, adders, levelSum, countLevels, countDigitsAs, countDigits, counter, countSize, Countable}
 use Rattle.gate_words.proofs.Places.{below-more, below-first}
@@ -90,16 +90,16 @@ unfolding masked
 masked-good n f x zero hf hx = tt
 masked-good n f x (suc w) hf hx = (good-and n f x hf (omega arith), masked-good (suc n) f (x + 1) w (omega arith) (omega arith))
 
-pub chain-good : (n kind s at d m : ℕ) → kind < 8 → operandsOf kind ≡ 2 → s < n → Below n at d m → AllGood n (chain kind n s at d m)
-unfolding chain
+pub chain-good : (n kind s at d m : ℕ) → kind < 8 → operandsOf kind ≡ 2 → s < n → Below n at d m → AllGood n (chainOf kind n s at d m)
+unfolding chainOf
 chain-good n kind s at d zero k e hs bl = tt
 chain-good n kind s at d (suc m) k e hs bl = (
   good-two n kind s at k e hs (bl .0),
-  next n (chain kind (n + 1) n (at + d) d m)
+  next n (chainOf kind (n + 1) n (at + d) d m)
       (chain-good (n + 1) kind n (at + d) d m k e (omega arith) (below-more n (n + 1) (at + d) d m (omega arith) (bl .1))),
 )
 
-pub any-good : (n s at d m : ℕ) → s < n → Below n at d m → AllGood n (chain 5 n s at d m)
+pub any-good : (n s at d m : ℕ) → s < n → Below n at d m → AllGood n (chainOf 5 n s at d m)
 any-good n s at d m hs bl = chain-good n 5 s at d m (omega arith) (operand-counts .5) hs bl
 
 pub first-digit-good : (n x y : ℕ) → x < n → y < n → AllGood n (firstDigit n x y)

@@ -14,7 +14,7 @@ use Rattle.gates.specs.Gate.{Gate}
 use Rattle.gates.proofs.Laws.{Holds, AllGood, holds-append, operand-counts, mux-zero, mux-one}
 use Rattle.gate_words.specs.Gates.{andOf, orOf, xorOf, muxOf}
 use Rattle.gate_words.specs.Word.{number}
-use Rattle.gate_words.specs.Choice.{chain, allOf, chainEnd}
+use Rattle.gate_words.specs.Choice.{chainOf, allOf, chainEnd}
 use Rattle.gate_words.specs.Comparison.{differences}
 use Rattle.gate_words.specs.Reach.{carryBit, carries, carriesBy, highReach, reachHalves, reach, reachLast, reachSpan}
 use Rattle.gate_words.proofs.Numbers.{Binary, number-none, number-more}
@@ -281,7 +281,7 @@ module _ (W : ℕ → ℕ) (b : Binary W) where
   -- all digits differ exactly if the words add up to all ones
   all-one : (n s f x y w : ℕ) → Holds W f (differences x y w) → Holds W n (allOf n s f 1 w) → W (chainEnd n s w) ≡ 1
       → (W s ≡ 1) × (number W x 1 w + number W y 1 w + 1 ≡ 2 ^ w)
-  unfolding chain differences
+  unfolding chainOf differences
   all-one n s f x y zero g h e = unfold chainEnd number in (e, omega arith)
   all-one n s f x y (suc w) g h e =
       let differ = differences (x + 1) (y + 1) w in
@@ -295,7 +295,7 @@ module _ (W : ℕ → ℕ) (b : Binary W) where
 
   all-zero : (n s f x y w : ℕ) → Holds W f (differences x y w) → Holds W n (allOf n s f 1 w) → W (chainEnd n s w)
       ≡ 0 → W s ≡ 1 → number W x 1 w + number W y 1 w + 1 ≡ 2 ^ w → ⊥
-  unfolding chain differences
+  unfolding chainOf differences
   all-zero n s f x y zero g h e o q = unfold chainEnd in omega arith
   all-zero n s f x y (suc w) g h e o q =
       let differ = differences (x + 1) (y + 1) w in

@@ -10,7 +10,7 @@ use lib.ListN.{length}
 use Rattle.basics.proofs.Arithmetic.{count-down}
 use Rattle.gates.proofs.Laws.{Holds, AllGood, holds-append}
 use Rattle.gate_words.specs.Gates.{copyOf, notOf, xorOf}
-use Rattle.gate_words.specs.Word.{ones, number, Below}
+use Rattle.gate_words.specs.Word.{onesAt, number, Below}
 use Rattle.gate_words.specs.Rows.{xorRows}
 use Rattle.gate_words.specs.Counter.{level, adders, levelSum, countLevels, countDigitsAs, Countable}
 use Rattle.gate_words.proofs.Numbers.{Binary, number-none, number-more, ones-none, ones-more}
@@ -62,7 +62,7 @@ module _ (W : ℕ → ℕ) (b : Binary W) where
 
   -- rows that have no 1 in common have as many ones as both together
   pub ones-both : (z x dx y dy m : ℕ) → ((i : ℕ) → i < m → W (z + i * 1) ≡ W (x + i * dx) + W (y + i * dy))
-      → ones W z 1 m ≡ ones W x dx m + ones W y dy m
+      → onesAt W z 1 m ≡ onesAt W x dx m + onesAt W y dy m
   ones-both z x dx y dy zero h = omega (arith, ones-none W z 1, ones-none W x dx, ones-none W y dy)
   ones-both z x dx y dy (suc m) h =
       let pz : z + 0 * 1 ≡ z = omega arith in
@@ -78,7 +78,7 @@ module _ (W : ℕ → ℕ) (b : Binary W) where
 
   -- one digit more
   carried : (n at d m x r : ℕ) → 0 < m → Holds W n (countLevels n at d m x (suc r))
-      → (W (levelSum n at (m - 1) (x % 2)) + 2 * (ones W (n + 2) 3 (adders (m - 1) (x % 2)) + x / 2) ≡ ones W at d m + x)
+      → (W (levelSum n at (m - 1) (x % 2)) + 2 * (onesAt W (n + 2) 3 (adders (m - 1) (x % 2)) + x / 2) ≡ onesAt W at d m + x)
       × Holds W (n + 3 * adders (m - 1) (x % 2)) (countLevels (n + 3 * adders (m - 1) (x % 2)) (n + 2) 3 (adders (m - 1) (x % 2)) (x / 2) r)
   unfolding countLevels
   carried n at d m x r k h =
@@ -89,7 +89,7 @@ module _ (W : ℕ → ℕ) (b : Binary W) where
       let p = holds-append W n lev rest h in
       let f = level-law W b n at (at + d) d e (m - 1) (omega arith) (p .0) in
       let first : m ≡ suc (m - 1) = omega arith in (
-        omega (arith, f, ap (ones W at d) first, ones-more W at d (m - 1)),
+        omega (arith, f, ap (onesAt W at d) first, ones-more W at d (m - 1)),
         subst (λ (z : ℕ). Holds W z rest)
             (ap (λ (z : ℕ). n + z) (length-level n at (at + d) d e (m - 1) (omega arith))) (p .1),
       )
@@ -101,14 +101,14 @@ module _ (W : ℕ → ℕ) (b : Binary W) where
 
   -- a count's low digits are copied and its top digit is complemented: they describe the count
   pub copied-law : (n at d m x r q : ℕ) → Countable m x r → Holds W n (countLevels n at d m x r)
-      → Holds W q (countDigitsAs 2 3 n at m x r) → Told q r (ones W at d m + x)
+      → Holds W q (countDigitsAs 2 3 n at m x r) → Told q r (onesAt W at d m + x)
   unfolding countDigitsAs
   copied-law n at d m x zero q k h g =
       let e = holds-first W q (notOf at) [] g ∙ not-is W b at in
       let z = ap W (add-zero q) in
       let k₀ = k .0 in
       let k₁ = k .1 in
-      let o = ap (ones W at d) k₀ ∙ ones-more W at d 0 in
+      let o = ap (onesAt W at d) k₀ ∙ ones-more W at d 0 in
       record {
         short = λ i. omega (arith, e, z, o, ones-none W (at + d) d, number-none W q 1, b at);
         long =
@@ -131,7 +131,7 @@ module _ (W : ℕ → ℕ) (b : Binary W) where
 
   -- its low digits are complemented and its top digit is copied: they describe what the count plus one lacks to the
   -- next power
-  pub complemented-law : (n at d m x r q total : ℕ) → Countable m x r → total + 1 + (ones W at d m + x) ≡ 2 ^ suc r
+  pub complemented-law : (n at d m x r q total : ℕ) → Countable m x r → total + 1 + (onesAt W at d m + x) ≡ 2 ^ suc r
       → Holds W n (countLevels n at d m x r) → Holds W q (countDigitsAs 3 2 n at m x r)
       → Told q r total
   unfolding countDigitsAs
@@ -140,7 +140,7 @@ module _ (W : ℕ → ℕ) (b : Binary W) where
       let z = ap W (add-zero q) in
       let k₀ = k .0 in
       let k₁ = k .1 in
-      let o = ap (ones W at d) k₀ ∙ ones-more W at d 0 in
+      let o = ap (onesAt W at d) k₀ ∙ ones-more W at d 0 in
       let two = pow-succ' 2 0 in
       record {
         short = λ i. omega (arith, e, z, o, ones-none W (at + d) d, number-none W q 1);
@@ -153,7 +153,7 @@ module _ (W : ℕ → ℕ) (b : Binary W) where
       let digits = countDigitsAs 3 2 (n + 3 * t) (n + 2) t (x / 2) r in
       let c = carried n at d m x r (k .0) h in
       let c₀ = c .0 in
-      let half : total / 2 + 1 + (ones W (n + 2) 3 t + x / 2) ≡ 2 ^ suc r = omega (arith, b s, pow-succ' 2 (suc r)) in
+      let half : total / 2 + 1 + (onesAt W (n + 2) 3 t + x / 2) ≡ 2 ^ suc r = omega (arith, b s, pow-succ' 2 (suc r)) in
       let a = complemented-law (n + 3 * t) (n + 2) 3 t (x / 2) r (q + 1) (total / 2) (k .1) half (c .1)
       (holds-rest W q (notOf s) digits g) in
       let e = holds-first W q (notOf s) digits g ∙ not-is W b s in

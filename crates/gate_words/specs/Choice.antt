@@ -16,9 +16,9 @@ masked f x (suc w) = andOf f x ∷ masked f (x + 1) w
 
 -- A chain of m gates of a kind with two operands, the first being wire n. It takes the wires s and `at`; each next
 -- gate takes the wire of the gate before and the next of the wires, d apart.
-unfoldable pub chain : ℕ → ℕ → ℕ → ℕ → ℕ → ℕ → List Gate
-chain kind n s at d zero = []
-chain kind n s at d (suc m) = gate kind s at 0 ∷ chain kind (n + 1) n (at + d) d m
+unfoldable pub chainOf : ℕ → ℕ → ℕ → ℕ → ℕ → ℕ → List Gate
+chainOf kind n s at d zero = []
+chainOf kind n s at d (suc m) = gate kind s at 0 ∷ chainOf kind (n + 1) n (at + d) d m
 
 -- The last wire of a chain: s itself if it has no gate.
 unfoldable pub chainEnd : ℕ → ℕ → ℕ → ℕ
@@ -27,12 +27,12 @@ chainEnd n s (suc m) = n + m
 
 -- Whether the wire s or one of m wires is 1.
 abbrev pub anyOf : ℕ → ℕ → ℕ → ℕ → ℕ → List Gate
-anyOf n s at d m = chain 5 n s at d m
+anyOf n s at d m = chainOf 5 n s at d m
 
 -- Whether the wire s and all of m wires are 1.
 abbrev pub allOf : ℕ → ℕ → ℕ → ℕ → ℕ → List Gate
-allOf n s at d m = chain 4 n s at d m
+allOf n s at d m = chainOf 4 n s at d m
 
 -- The sum modulo 2 of the wire s and m wires.
 abbrev pub parity : ℕ → ℕ → ℕ → ℕ → ℕ → List Gate
-parity n s at d m = chain 6 n s at d m
+parity n s at d m = chainOf 6 n s at d m

@@ -2,9 +2,9 @@
 use Prim.Native.Nat.{ℕ, zero, suc, _+_, _*_, _<_}
 
 -- The number of ones among m wires: at, at + d, at + 2 d, and so on.
-unfoldable pub ones : (ℕ → ℕ) → ℕ → ℕ → ℕ → ℕ
-ones W at d zero = 0
-ones W at d (suc m) = W at + ones W (at + d) d m
+unfoldable pub onesAt : (ℕ → ℕ) → ℕ → ℕ → ℕ → ℕ
+onesAt W at d zero = 0
+onesAt W at d (suc m) = W at + onesAt W (at + d) d m
 
 -- What w wires are as a binary number, lowest digit first.
 unfoldable pub number : (ℕ → ℕ) → ℕ → ℕ → ℕ → ℕ

@@ -5,7 +5,7 @@ ghost use mathlib.Core.Path.{_≡_};
 ghost use Prim.Native.Nat.{_+_, _<_};
 ghost use Rattle.gate_words.specs.Limits.{writerLimit};
 ghost use Rattle.gate_words.specs.Writing.{Wrote};
-ghost use Rattle.gate_words.specs.Choice.{choose, masked, chain};
+ghost use Rattle.gate_words.specs.Choice.{choose, masked, chainOf};
 ghost use Rattle.gate_words.specs.Choice.{chainEnd, anyOf, allOf, parity};
 ghost use Rattle.gate_words.specs.inner.Ready.{WordReady, WordsReady, WiresReady, ChainReady};
 
@@ -58,7 +58,7 @@ impl Writer {
     ) -> Writer
         requires { ⌜ ChainReady self kind first stride count ⌝ }
         ensures { λ r. ⌜
-            Wrote self (now (table .entry)) (chain kind (self .wire) s first stride count) (now (table .exit)) r
+            Wrote self (now (table .entry)) (chainOf kind (self .wire) s first stride count) (now (table .exit)) r
             ⌝ }
     {
         let mut w = self;

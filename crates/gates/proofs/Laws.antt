@@ -9,7 +9,7 @@ use native.Mathlib.Omega.{arith}
 use lib.Dec.{T, ltb, eqb, lt→ltb}
 use lib.ListN.{length, getD, length-append, length-drop, List·getD-append}
 use lib.Seq.{getD-drop, getD-append-seam}
-use Rattle.gates.specs.Open.Kind.{operandsOf, conditionalOf, valueOf, differ, choose}
+use Rattle.gates.specs.Open.Kind.{operandsOf, conditionalOf, valueOf, differ, chosen}
 use Rattle.gates.specs.Open.Gate.{Gate, gatesOf, numbersOf}
 use Rattle.gates.specs.Open.Wires.{wire, value, wiresOf, outputsOf}
 use Rattle.gates.specs.Open.Board.{Bits}
@@ -58,11 +58,11 @@ xor-value (suc zero) (suc (suc b)) c ha hb = absurd (omega arith)
 xor-value (suc (suc a)) b c ha hb = absurd (omega arith)
 
 pub mux-value-one : (b c : ℕ) → valueOf 7 1 b c ≡ b
-unfolding valueOf choose
+unfolding valueOf chosen
 mux-value-one b c = refl
 
 pub mux-value-zero : (b c : ℕ) → valueOf 7 0 b c ≡ c
-unfolding valueOf choose
+unfolding valueOf chosen
 mux-value-zero b c = refl
 
 -- Operand counts and marks of the kinds, as in the table.
@@ -189,7 +189,7 @@ length-outputs k ws h = omega (arith, length-drop (length ws - k) ws)
 
 -- Wires are bits if the inputs are.
 bit-value : (k a b c : ℕ) → k < 8 → a ≤ 1 → b ≤ 1 → c ≤ 1 → valueOf k a b c ≤ 1
-unfolding valueOf differ choose
+unfolding valueOf differ chosen
 bit-value k a b c h ha hb hc =
     each-kind (λ (k : ℕ). valueOf k a b c ≤ 1) (omega arith) (omega arith) ha (omega arith) (omega arith)
     (omega arith) (either (eqb a b) 0 1 (omega arith) (omega arith)) (either (eqb a 0) c b hc hb) k h

@@ -25,7 +25,7 @@ pub record Finished (ws : List ℕ) (gs : List Gate) (k : ℕ) (tape board : Lis
 
 -- What two boards of one list show of its inputs xs and ys. Shown bits and outputs depend on the wires, and the wires
 -- on inputs and list, never on a tape.
-pub record Hidden (gs : List Gate) (k : ℕ) (xs ys : List ℕ) : Type 0 where
+pub record InputsHidden (gs : List Gate) (k : ℕ) (xs ys : List ℕ) : Type 0 where
   -- under every mask tape both boards are finished
   pub first-board : (s : List ℕ) → MaskTape gs s → Finished (wiresOf xs gs) gs k s (boardOf (wiresOf xs gs) gs k s)
   pub second-board : (t : List ℕ) → MaskTape gs t → Finished (wiresOf ys gs) gs k t (boardOf (wiresOf ys gs) gs k t)
@@ -37,4 +37,4 @@ pub record Hidden (gs : List Gate) (k : ℕ) (xs ys : List ℕ) : Type 0 where
 abbrev pub BoardHidesInputs : Type 0
 BoardHidesInputs =
     (gs : List Gate) (k : ℕ) (xs ys : List ℕ) → k ≤ length gs
-    → outputsOf k (wiresOf xs gs) ≡ outputsOf k (wiresOf ys gs) → Hidden gs k xs ys
+    → outputsOf k (wiresOf xs gs) ≡ outputsOf k (wiresOf ys gs) → InputsHidden gs k xs ys

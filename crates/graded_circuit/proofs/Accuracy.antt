@@ -29,13 +29,13 @@ use Rattle.rule_judgment.proofs.Statements.{Precedes}
 use Rattle.rule_judgment.proofs.Order.{precedes-self, precedes-one-way}
 use Rattle.rule_judgment.proofs.Winners.{Unpreceded, judgment-length, byte-one, byte-zero}
 use Rattle.gate_words.specs.Gates.{constant}
-use Rattle.gate_words.specs.Word.{ones}
+use Rattle.gate_words.specs.Word.{onesAt}
 use Rattle.gate_words.proofs.Numbers.{Binary}
 use Rattle.gate_words.proofs.PointsBack.{good-constant}
 use Rattle.gate_words.proofs.GateValues.{constant-is, holds-first}
 use Rattle.graded_circuit.specs.declared.plan.Plan.{Plan}
-use Rattle.graded_circuit.specs.Plan.{planOf, Planned, bitsAt, apart}
-use Rattle.graded_circuit.specs.OwnList.{circuit, ownList}
+use Rattle.graded_circuit.specs.Plan.{planOf, Planned, bitsAt, ballotStride}
+use Rattle.graded_circuit.specs.OwnList.{circuit, ownGrading}
 use Rattle.graded_circuit.proofs.Planning.{planned}
 use Rattle.graded_circuit.proofs.SumLaws.{Sums}
 use Rattle.graded_circuit.proofs.MergeLaws.{Same, Rule}
@@ -48,8 +48,8 @@ use Rattle.basics.proofs.Flags.{never-true}
 module _ (W : ℕ → ℕ) (b : Binary W) (p : Plan) (f : Planned p) (two : 1 < p .candidates) (h : Holds W (p .inputs) (circuit p))
     (rows : List (List ℕ)) (long : length rows ≡ p .candidates)
     (row-is : (c : ℕ) → c < p .candidates → Row (p .ballots) (p .grades) (getD rows c []))
-    (counted : (c g : ℕ) → c < p .candidates → g < p .grades → ones W (bitsAt p c g) (apart p) (p .ballots) ≡ getD (getD rows c []) g 0)
-    (single : (c i : ℕ) → c < p .candidates → i < p .ballots → sum (tabulate (p .grades) (λ g. W (bitsAt p c g + i * apart p))) ≡ 1) where
+    (counted : (c g : ℕ) → c < p .candidates → g < p .grades → onesAt W (bitsAt p c g) (ballotStride p) (p .ballots) ≡ getD (getD rows c []) g 0)
+    (single : (c i : ℕ) → c < p .candidates → i < p .ballots → sum (tabulate (p .grades) (λ g. W (bitsAt p c g + i * ballotStride p))) ≡ 1) where
   some : 0 < p .grades
   some = omega (arith, f .d-least)
 
@@ -68,11 +68,11 @@ module _ (W : ℕ → ℕ) (b : Binary W) (p : Plan) (f : Planned p) (two : 1 < 
   sums c l = row-sums (p .ballots) (p .grades) (getD rows c []) some (row-is c l)
 
   -- the bits of a grade are what it adds to the sum
-  first-count : (c : ℕ) → c < p .candidates → ones W (bitsAt p c 0) (apart p) (p .ballots) ≡ upTo (getD rows c []) 0
+  first-count : (c : ℕ) → c < p .candidates → onesAt W (bitsAt p c 0) (ballotStride p) (p .ballots) ≡ upTo (getD rows c []) 0
   first-count c l = omega (arith, counted c 0 l some, running-next (getD rows c []) 0, running-start (getD rows c []))
 
   next-count : (c g : ℕ) → c < p .candidates → suc g < p .grades → upTo (getD rows c []) g
-      + ones W (bitsAt p c (suc g)) (apart p) (p .ballots) ≡ upTo (getD rows c []) (suc g)
+      + onesAt W (bitsAt p c (suc g)) (ballotStride p) (p .ballots) ≡ upTo (getD rows c []) (suc g)
   next-count c g l m = omega (arith, counted c (suc g) l m, running-next (getD rows c []) (suc g))
 
   judged-by : Final p f two W b h (λ c. upTo (getD rows c [])) (λ i j. Precedes (getD rows i []) (getD rows j []))
@@ -123,18 +123,18 @@ module _ (W : ℕ → ℕ) (b : Binary W) (p : Plan) (f : Planned p) (two : 1 < 
       (j .as-good i l)
 
 -- a single candidate, and two or more
-pub own-single : (s : Shape) → s .candidates ≡ 1 → ownList s ≡ constant 1 ∷ []
-unfolding ownList
+pub own-single : (s : Shape) → s .candidates ≡ 1 → ownGrading s ≡ constant 1 ∷ []
+unfolding ownGrading
 own-single s e = ap (λ (t : Bool). cond t (constant 1 ∷ []) (circuit (planOf s))) (eq-eqb (s .candidates) 1 e)
 
-own-circuit : (s : Shape) → 1 < s .candidates → ownList s ≡ circuit (planOf s)
-unfolding ownList
+own-circuit : (s : Shape) → 1 < s .candidates → ownGrading s ≡ circuit (planOf s)
+unfolding ownGrading
 own-circuit s h = ap (λ (t : Bool). cond t (constant 1 ∷ []) (circuit (planOf s))) (ne-eqb (s .candidates) 1 (λ e. omega arith))
 
 -- the own list is well-formed, and has a gate for each closing byte
 pub record Own (s : Shape) : Type 0 where
-  pub good : AllGood (ballotBytes s) (ownList s)
-  pub enough : s .candidates ≤ length (ownList s)
+  pub good : AllGood (ballotBytes s) (ownGrading s)
+  pub enough : s .candidates ≤ length (ownGrading s)
 
 enough-gates : (p : Plan) (f : Planned p) → 1 < p .candidates → p .candidates ≤ length (circuit p)
 enough-gates p f two = omega (arith, circuit-block p f two .long)
@@ -176,7 +176,7 @@ closing-from s xs gs enough h =
 -- Demand 2, about the definitions: for every shape within its limits and all accepted ballots, the last k wires of the
 -- own list are the closing bytes of full majority judgment.
 pub own-list-is-accurate : (s : Shape) (xs : List ℕ) → GradedBallots s xs
-    → outputsOf (s .candidates) (wiresOf xs (ownList s)) ≡ judgmentOf (countsOf s xs)
+    → outputsOf (s .candidates) (wiresOf xs (ownGrading s)) ≡ judgmentOf (countsOf s xs)
 unfolding planOf
 own-list-is-accurate s xs a = ⊎-elim many one (below-or-not 1 (s .candidates))
   where
@@ -190,7 +190,7 @@ own-list-is-accurate s xs a = ⊎-elim many one (below-or-not 1 (s .candidates))
         let q = sequenceOf (getD (countsOf s xs) 0 []) in
         ap (λ (i : ℕ). precedes (sequenceOf (getD (countsOf s xs) i [])) q) e ∙ never-true (precedes q q) (precedes-self q)
 
-    one : s .candidates ≤ 1 → outputsOf (s .candidates) (wiresOf xs (ownList s)) ≡ judgmentOf (countsOf s xs)
+    one : s .candidates ≤ 1 → outputsOf (s .candidates) (wiresOf xs (ownGrading s)) ≡ judgmentOf (countsOf s xs)
     one l =
         let k : s .candidates ≡ 1 = omega (arith, within s (a .within) .k-least) in
         let gs = constant 1 ∷ [] in
@@ -205,7 +205,7 @@ own-list-is-accurate s xs a = ⊎-elim many one (below-or-not 1 (s .candidates))
         ∙ sym (byte-one (countsOf s xs) 0 (omega (arith, counts-length s xs)) (only k))
         ∙ ap (λ (j : ℕ). getD (judgmentOf (countsOf s xs)) j 0) e)
 
-    many : 1 < s .candidates → outputsOf (s .candidates) (wiresOf xs (ownList s)) ≡ judgmentOf (countsOf s xs)
+    many : 1 < s .candidates → outputsOf (s .candidates) (wiresOf xs (ownGrading s)) ≡ judgmentOf (countsOf s xs)
     many l =
         let p = planOf s in
         let f = planned s (a .within) in
@@ -218,7 +218,7 @@ own-list-is-accurate s xs a = ⊎-elim many one (below-or-not 1 (s .candidates))
           long = ap length (counts-row s xs c h) ∙ length-tabulate (s .grades) (countOf s xs c);
           total = counts-sum s xs a c h;
         } in
-        let counted : (c g : ℕ) → c < s .candidates → g < s .grades → ones W (bitsAt p c g) (apart p) (p .ballots)
+        let counted : (c g : ℕ) → c < s .candidates → g < s .grades → onesAt W (bitsAt p c g) (ballotStride p) (p .ballots)
         ≡ getD (getD (countsOf s xs) c []) g 0 = λ c g hc hg. column s xs gs a c g hc hg
         ∙ sym (counts-at s xs c g hc hg) in
         ap (λ (l : List Gate). outputsOf (s .candidates) (wiresOf xs l)) (own-circuit s l)

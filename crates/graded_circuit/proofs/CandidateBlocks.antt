@@ -8,8 +8,8 @@ use Rattle.gates.proofs.Laws.{operand-counts}
 use Rattle.gate_words.specs.Word.{Below}
 use Rattle.gate_words.proofs.Places.{below-first}
 use Rattle.graded_circuit.specs.declared.plan.Plan.{Plan}
-use Rattle.graded_circuit.specs.Plan.{Planned, bitsAt, apart}
-use Rattle.graded_circuit.specs.RunningSums.{wordSpan, sumSize, worstSize, rowAt, rowApart, rows, levelsFrom, sumLevels, allLevels, worstLevels}
+use Rattle.graded_circuit.specs.Plan.{Planned, bitsAt, ballotStride}
+use Rattle.graded_circuit.specs.RunningSums.{wordSpan, sumSize, worstSize, rowAt, rowStride, rows, sumLevelsFrom, sumLevels, allLevels, worstLevels}
 use Rattle.graded_circuit.specs.Key.{keyWord, keyWords, worstWord, sumsAt, worstAt, candidate, keyOf, keySpan, candidateSpan}
 use Rattle.graded_circuit.proofs.Blocks.{Block, none-block, both-block, sized, from-wire, rows-block, levels-block, digits-block}
 use Rattle.graded_circuit.proofs.PlanFacts.{bits-below, first-countable, worst-countable}
@@ -36,8 +36,8 @@ module _ (p : Plan) (f : Planned p) where
 
   -- what the sum of a grade counts exists once its row does
   pub counted-below : (n m c g : ℕ) → p .inputs ≤ n → c < p .candidates → n + g * p .ballots ≤ m
-      → Below m (rowAt p n c g) (rowApart p g) (p .ballots)
-  unfolding rowAt rowApart
+      → Below m (rowAt p n c g) (rowStride p g) (p .ballots)
+  unfolding rowAt rowStride
   counted-below n m c zero h hc hm = bits-below p f m c 0 (omega (arith, zero-mul (p .ballots))) hc some-grades
   counted-below n m c (suc g) h hc hm =
       below-stride m (n + g * p .ballots) 1 (p .ballots) (omega (arith, suc-mul g (p .ballots), mul-one (p .ballots)))
@@ -50,22 +50,22 @@ module _ (p : Plan) (f : Planned p) where
       let m = n + g * p .ballots in
       sized (omega (arith, suc-mul t (p .ballots)))
       (both-block
-      (rows-block m (rowAt p n c g) (rowApart p g) (bitsAt p c (suc g)) (apart p) (p .ballots)
+      (rows-block m (rowAt p n c g) (rowStride p g) (bitsAt p c (suc g)) (ballotStride p) (p .ballots)
       (counted-below n m c g h hc (omega arith)) (bits-below p f m c (suc g) (omega arith) hc (omega arith)))
       (omega (arith, suc-mul g (p .ballots)))
       (next-rows-block n c (suc g) t h hc (omega arith)))
 
   pub sum-block : (n m c g : ℕ) → p .inputs ≤ n → c < p .candidates → n + g * p .ballots ≤ m
-      → Block (levelsFrom p m g) (sumLevels p n m c g) (sumSize p)
+      → Block (sumLevelsFrom p m g) (sumLevels p n m c g) (sumSize p)
   unfolding sumLevels
   sum-block n m c g h hc hm =
-      levels-block (levelsFrom p m g) (rowAt p n c g) (rowApart p g) (p .ballots) (p .offset) (p .digits)
-      (counted-below n (levelsFrom p m g) c g h hc (omega arith)) (first-countable p f)
+      levels-block (sumLevelsFrom p m g) (rowAt p n c g) (rowStride p g) (p .ballots) (p .offset) (p .digits)
+      (counted-below n (sumLevelsFrom p m g) c g h hc (omega arith)) (first-countable p f)
 
   pub all-levels-block : (n m c g t : ℕ) → p .inputs ≤ n → c < p .candidates → RowsBefore p n m (g + t)
-      → Block (levelsFrom p m g) (allLevels p n m c g t) (t * sumSize p)
+      → Block (sumLevelsFrom p m g) (allLevels p n m c g t) (t * sumSize p)
   unfolding allLevels
-  all-levels-block n m c g zero h hc hm = sized (sym (zero-mul (sumSize p))) (none-block (levelsFrom p m g))
+  all-levels-block n m c g zero h hc hm = sized (sym (zero-mul (sumSize p))) (none-block (sumLevelsFrom p m g))
   all-levels-block n m c g (suc t) h hc hm =
       sized (omega (arith, suc-mul t (sumSize p)))
       (both-block (sum-block n m c g h hc (hm g (omega arith))) (omega (arith, suc-mul g (sumSize p)))
@@ -74,21 +74,21 @@ module _ (p : Plan) (f : Planned p) where
   pub worst-levels-block : (m c : ℕ) → p .inputs ≤ m → c < p .candidates → Block m (worstLevels p m c) (worstSize p)
   unfolding worstLevels
   worst-levels-block m c h hc =
-      levels-block m (bitsAt p c (p .grades - 1)) (apart p) (p .ballots) (p .worst) (p .digits)
+      levels-block m (bitsAt p c (p .grades - 1)) (ballotStride p) (p .ballots) (p .worst) (p .digits)
       (bits-below p f m c (p .grades - 1) h hc (omega (arith, some-grades))) (worst-countable p f)
 
   pub key-word-block : (q n m c g : ℕ) → p .inputs ≤ n → c < p .candidates → n + g * p .ballots ≤ m
-      → levelsFrom p m (suc g) ≤ q → Block q (keyWord p n m c g) (wordSpan p)
+      → sumLevelsFrom p m (suc g) ≤ q → Block q (keyWord p n m c g) (wordSpan p)
   unfolding keyWord
   key-word-block q n m c g h hc hm hq =
       let e = suc-mul g (sumSize p) in
-      digits-block 2 3 (levelsFrom p m g) (rowAt p n c g) (p .ballots) (p .offset) (p .digits) q (omega arith)
+      digits-block 2 3 (sumLevelsFrom p m g) (rowAt p n c g) (p .ballots) (p .offset) (p .digits) q (omega arith)
       (operand-counts .2) (omega arith) (operand-counts .3)
-      (below-first q (rowAt p n c g) (rowApart p g) (p .ballots) (f .n-least)
+      (below-first q (rowAt p n c g) (rowStride p g) (p .ballots) (f .n-least)
       (counted-below n q c g h hc (omega arith))) (omega arith) (first-countable p f)
 
   pub key-words-block : (q n m c g t : ℕ) → p .inputs ≤ n → c < p .candidates → RowsBefore p n m (g + t)
-      → levelsFrom p m (g + t) ≤ q → Block q (keyWords p n m c g t) (t * wordSpan p)
+      → sumLevelsFrom p m (g + t) ≤ q → Block q (keyWords p n m c g t) (t * wordSpan p)
   unfolding keyWords
   key-words-block q n m c g zero h hc hm hq = sized (sym (zero-mul (wordSpan p))) (none-block q)
   key-words-block q n m c g (suc t) h hc hm hq =
@@ -104,7 +104,7 @@ module _ (p : Plan) (f : Planned p) where
   worst-word-block q m c h hc hq =
       digits-block 3 2 m (bitsAt p c (p .grades - 1)) (p .ballots) (p .worst) (p .digits) q (omega arith)
       (operand-counts .3) (omega arith) (operand-counts .2)
-      (below-first q (bitsAt p c (p .grades - 1)) (apart p) (p .ballots) (f .n-least)
+      (below-first q (bitsAt p c (p .grades - 1)) (ballotStride p) (p .ballots) (f .n-least)
       (bits-below p f q c (p .grades - 1) (omega arith) hc (omega (arith, some-grades)))) hq (worst-countable p f)
 
   pub candidate-block : (n c : ℕ) → p .inputs ≤ n → c < p .candidates → Block n (candidate p n c) (candidateSpan p)

@@ -7,14 +7,14 @@ use native.Mathlib.Omega.{arith}
 use lib.ListN.{length}
 use Rattle.basics.specs.Lists.{sum, tabulate}
 use Rattle.gates.proofs.Laws.{Holds}
-use Rattle.gate_words.specs.Word.{ones}
+use Rattle.gate_words.specs.Word.{onesAt}
 use Rattle.gate_words.proofs.Numbers.{Binary}
 use Rattle.graded_circuit.specs.declared.plan.Plan.{Plan}
-use Rattle.graded_circuit.specs.Plan.{Planned, bitsAt, apart}
+use Rattle.graded_circuit.specs.Plan.{Planned, bitsAt, ballotStride}
 use Rattle.graded_circuit.specs.Key.{candidateSpan}
 use Rattle.graded_circuit.specs.Contest.{resultAt}
 use Rattle.graded_circuit.specs.Merge.{mergeSpan, wonAt}
-use Rattle.graded_circuit.specs.OwnList.{candidates, keyAt, levelsSpan, otherAt, mergeAt, halvesMerge, bestKey, winnerFlags, levels, lowLevels, levelsAt, circuit}
+use Rattle.graded_circuit.specs.OwnList.{candidatesFrom, keyAt, levelsSpan, otherAt, mergeAt, halvesMerge, bestKey, winnerFlags, levels, lowLevels, levelsAt, circuit}
 use Rattle.graded_circuit.proofs.Blocks.{Block, both-block}
 use Rattle.graded_circuit.proofs.Cutting.{cut4}
 use Rattle.graded_circuit.proofs.SumLaws.{Sums, Spells, candidate-law}
@@ -50,12 +50,12 @@ module _ (p : Plan) (f : Planned p) (two : 1 < p .candidates) where
   module _ (W : ℕ → ℕ) (b : Binary W) (h : Holds W (p .inputs) (circuit p)) (S : ℕ → ℕ → ℕ)
       (Before : ℕ → ℕ → Type 0) (rule : Rule (p .ballots) (p .grades - 1) (p .candidates) S Before)
       (medians : ℕ → ℕ) (sums : (i : ℕ) → i < p .candidates → Sums (p .ballots) (p .grades) (S i) (medians i))
-      (none-before : (c : ℕ) → c < p .candidates → ones W (bitsAt p c 0) (apart p) (p .ballots) ≡ S c 0)
+      (none-before : (c : ℕ) → c < p .candidates → onesAt W (bitsAt p c 0) (ballotStride p) (p .ballots) ≡ S c 0)
       (one-more : (c g : ℕ) → c < p .candidates → suc g < p .grades → S c g
-      + ones W (bitsAt p c (suc g)) (apart p) (p .ballots) ≡ S c (suc g))
-      (single : (c i : ℕ) → c < p .candidates → i < p .ballots → sum (tabulate (p .grades) (λ g. W (bitsAt p c g + i * apart p))) ≡ 1) where
+      + onesAt W (bitsAt p c (suc g)) (ballotStride p) (p .ballots) ≡ S c (suc g))
+      (single : (c i : ℕ) → c < p .candidates → i < p .ballots → sum (tabulate (p .grades) (λ g. W (bitsAt p c g + i * ballotStride p))) ≡ 1) where
     -- the parts of the circuit
-    parts : Holds W (p .inputs) (candidates p (p .inputs) 0 (p .candidates))
+    parts : Holds W (p .inputs) (candidatesFrom p (p .inputs) 0 (p .candidates))
         × Holds W (levelsAt p) (levels p lowLevels (levelsAt p) 0 (p .candidates / 2))
         × Holds W (otherAt p lowLevels (levelsAt p) (p .candidates))
         (levels p lowLevels (otherAt p lowLevels (levelsAt p) (p .candidates)) (p .candidates / 2)
@@ -67,7 +67,7 @@ module _ (p : Plan) (f : Planned p) (two : 1 < p .candidates) where
         let most = f .k-most in
         let n = levelsAt p in
         let other = otherAt p lowLevels n k in
-        cut4 W (p .inputs) (candidates p (p .inputs) 0 k) (levels p lowLevels n 0 (k / 2))
+        cut4 W (p .inputs) (candidatesFrom p (p .inputs) 0 k) (levels p lowLevels n 0 (k / 2))
         (levels p lowLevels other (k / 2) (k - k / 2)) (halvesMerge p lowLevels n 0 k) n other (mergeAt p lowLevels n k)
         (omega (arith, candidates-block p f (p .inputs) 0 k (omega arith) (omega arith) .long))
         (omega (arith, levels-block p f lowLevels n 0 (k / 2) (omega arith) (omega arith) (omega arith) (omega arith) .long))

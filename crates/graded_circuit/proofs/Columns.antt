@@ -20,10 +20,10 @@ use Rattle.basics.proofs.Arithmetic.{row-within}
 use Rattle.jury.proofs.Sums.{addend, sum-ones}
 use Rattle.jury.proofs.CountLaws.{bit-added}
 use Rattle.jury.proofs.CountFacts.{column-bytes, byte-within}
-use Rattle.gate_words.specs.Word.{ones}
+use Rattle.gate_words.specs.Word.{onesAt}
 use Rattle.gate_words.proofs.Numbers.{ones-none, ones-more}
 
-ones-table : (W : ℕ → ℕ) (at d m : ℕ) → ones W at d m ≡ sum (tabulate m (λ i. W (at + i * d)))
+ones-table : (W : ℕ → ℕ) (at d m : ℕ) → onesAt W at d m ≡ sum (tabulate m (λ i. W (at + i * d)))
 ones-table W at d zero = ones-none W at d ∙ sym (sum-none (λ i. W (at + i * d)))
 ones-table W at d (suc m) =
     let here : at + 0 * d ≡ at = omega (arith, zero-mul d) in
@@ -50,7 +50,7 @@ module _ (s : Shape) (xs : List ℕ) (gs : List Gate) (a : GradedBallots s xs) w
       (omega (arith, a .size, byte-within s i c g l hc hg))
 
   pub column : (c g : ℕ) → c < s .candidates → g < s .grades
-      → ones (wire (wiresOf xs gs)) (c * s .grades + g) (s .candidates * s .grades) (s .ballots) ≡ countOf s xs c g
+      → onesAt (wire (wiresOf xs gs)) (c * s .grades + g) (s .candidates * s .grades) (s .ballots) ≡ countOf s xs c g
   column c g hc hg =
       ones-table (wire (wiresOf xs gs)) (c * s .grades + g) (s .candidates * s .grades) (s .ballots)
       ∙ ap sum (tabulate-cong (s .ballots) _ _ (λ i l. byte i c g l hc hg))

@@ -16,7 +16,7 @@ use Rattle.graded_circuit.specs.Plan.{Planned}
 use Rattle.graded_circuit.specs.Key.{candidate, keySpan, candidateSpan}
 use Rattle.graded_circuit.specs.Contest.{resultAt}
 use Rattle.graded_circuit.specs.Merge.{merge, mergeSpan, wonAt}
-use Rattle.graded_circuit.specs.OwnList.{candidates, keyAt, levelsSpan, bestKey, winnerFlags, otherAt, mergeAt, halvesMerge, halvesBetter, levels, levelsAt}
+use Rattle.graded_circuit.specs.OwnList.{candidatesFrom, keyAt, levelsSpan, bestKey, winnerFlags, otherAt, mergeAt, halvesMerge, halvesBetter, levels, levelsAt}
 use Rattle.graded_circuit.proofs.Blocks.{Block, none-block, both-block, sized}
 use Rattle.graded_circuit.proofs.Cutting.{cut2, cut4}
 use Rattle.graded_circuit.proofs.CandidateBlocks.{candidate-block, key-of}
@@ -73,8 +73,8 @@ module _ (p : Plan) (f : Planned p) where
         mul-le-mul-right {m = suc c} {n = p .candidates} (candidateSpan p) (omega arith),
       )
 
-  pub candidates-block : (n c m : ℕ) → p .inputs ≤ n → c + m ≤ p .candidates → Block n (candidates p n c m) (m * candidateSpan p)
-  unfolding candidates
+  pub candidates-block : (n c m : ℕ) → p .inputs ≤ n → c + m ≤ p .candidates → Block n (candidatesFrom p n c m) (m * candidateSpan p)
+  unfolding candidatesFrom
   candidates-block n c zero h hc = sized (sym (zero-mul (candidateSpan p))) (none-block n)
   candidates-block n c (suc m) h hc =
       sized (omega (arith, suc-mul m (candidateSpan p)))
@@ -134,23 +134,23 @@ module _ (p : Plan) (f : Planned p) where
 
   -- the candidates' circuits, each from its own place on
   module _ (W : ℕ → ℕ) where
-    candidate-holds : (n c m : ℕ) → p .inputs ≤ n → c + m ≤ p .candidates → Holds W n (candidates p n c m) → (i : ℕ)
+    candidate-holds : (n c m : ℕ) → p .inputs ≤ n → c + m ≤ p .candidates → Holds W n (candidatesFrom p n c m) → (i : ℕ)
         → i < m → Holds W (n + i * candidateSpan p) (candidate p (n + i * candidateSpan p) (c + i))
-    unfolding candidates
+    unfolding candidatesFrom
     candidate-holds n c zero h hc w i l = absurd (omega arith)
     candidate-holds n c (suc m) h hc w zero l =
-        let q = cut2 W n (candidate p n c) (candidates p (n + candidateSpan p) (c + 1) m) (n + candidateSpan p)
+        let q = cut2 W n (candidate p n c) (candidatesFrom p (n + candidateSpan p) (c + 1) m) (n + candidateSpan p)
         (omega (arith, candidate-block p f n c h (omega arith) .long)) w in
         let place : n + 0 * candidateSpan p ≡ n = omega (arith, zero-mul (candidateSpan p)) in
         rw (place, add-zero c) (q .0)
     candidate-holds n c (suc m) h hc w (suc i) l =
-        let q = cut2 W n (candidate p n c) (candidates p (n + candidateSpan p) (c + 1) m) (n + candidateSpan p)
+        let q = cut2 W n (candidate p n c) (candidatesFrom p (n + candidateSpan p) (c + 1) m) (n + candidateSpan p)
         (omega (arith, candidate-block p f n c h (omega arith) .long)) w in
         let place : n + suc i * candidateSpan p ≡ n + candidateSpan p + i * candidateSpan p = omega (arith, suc-mul i (candidateSpan p)) in
         let who : c + suc i ≡ c + 1 + i = omega arith in
         rw (place, who) (candidate-holds (n + candidateSpan p) (c + 1) m (omega arith) (omega arith) (q .1) i (omega arith))
 
-    pub each-candidate : Holds W (p .inputs) (candidates p (p .inputs) 0 (p .candidates)) → (c : ℕ) → c < p .candidates
+    pub each-candidate : Holds W (p .inputs) (candidatesFrom p (p .inputs) 0 (p .candidates)) → (c : ℕ) → c < p .candidates
         → Holds W (p .inputs + c * candidateSpan p) (candidate p (p .inputs + c * candidateSpan p) c)
     each-candidate w c l =
         let who : 0 + c ≡ c = omega arith in

@@ -9,7 +9,7 @@ use native.Mathlib.Omega.{arith}
 use lib.ListN.{length, length-append}
 use Rattle.gates.proofs.Laws.{Holds, mux-zero, mux-one}
 use Rattle.gate_words.specs.Gates.{orOf, xorOf, muxOf}
-use Rattle.gate_words.specs.Word.{ones}
+use Rattle.gate_words.specs.Word.{onesAt}
 use Rattle.gate_words.specs.Choice.{parity, chainEnd}
 use Rattle.gate_words.proofs.Numbers.{Binary, ones-none, ones-more}
 use Rattle.gate_words.proofs.GateValues.{valueOn, holds-first, holds-rest, xor-is, or-is}
@@ -178,14 +178,14 @@ unary-rest W at d m most u =
       rest = λ i l h. ap W (next-place at d i) ∙ u .rest (suc i) (omega arith) (omega arith);
     }
 
-ones-unary : (W : ℕ → ℕ) (at d m most : ℕ) → Unary W at d m most → ones W at d m ≡ most
+ones-unary : (W : ℕ → ℕ) (at d m most : ℕ) → Unary W at d m most → onesAt W at d m ≡ most
 ones-unary W at d zero most u = omega (arith, ones-none W at d, u .within)
 ones-unary W at d (suc m) most u =
     let here : at + 0 * d ≡ at = omega (arith, zero-mul d) in
     let r = ones-unary W (at + d) d m (most - 1) (unary-rest W at d m most u) in
     go most u here r
   where
-    go : (most : ℕ) → Unary W at d (suc m) most → at + 0 * d ≡ at → ones W (at + d) d m ≡ most - 1 → ones W at d (suc m) ≡ most
+    go : (most : ℕ) → Unary W at d (suc m) most → at + 0 * d ≡ at → onesAt W (at + d) d m ≡ most - 1 → onesAt W at d (suc m) ≡ most
     go zero u here r = omega (arith, ones-more W at d m, ap W here, u .rest 0 (omega arith) (omega arith))
     go (suc most) u here r = omega (arith, ones-more W at d m, ap W here, u .first 0 (omega arith))
 
@@ -206,7 +206,7 @@ module _ (W : ℕ → ℕ) (b : Binary W) where
       → W (chainEnd n at (m - 1)) ≡ most % 2
   lowest-digit n at d m most some u h =
       let one : m ≡ suc (m - 1) = omega arith in
-      let all = ap (ones W at d) one ∙ ones-more W at d (m - 1) in
+      let all = ap (onesAt W at d) one ∙ ones-more W at d (m - 1) in
       omega (arith, parity-law W b n at (at + d) d (m - 1) h, ones-unary W at d m most u)
 
   -- what the sums modulo 2 say

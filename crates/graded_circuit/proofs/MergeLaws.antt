@@ -20,7 +20,7 @@ use Rattle.graded_circuit.specs.Plan.{Planned}
 use Rattle.graded_circuit.specs.RunningSums.{wordSpan}
 use Rattle.graded_circuit.specs.Key.{keySpan, lowAt}
 use Rattle.graded_circuit.specs.Contest.{contest, resultAt}
-use Rattle.graded_circuit.specs.Merge.{andAll, keepWinners, selectFlags, highDigits, leftStays, rightStays, wonAt, merge, mergeSpan, better}
+use Rattle.graded_circuit.specs.Merge.{andAll, keepWinners, selectFlags, highDigits, leftStays, rightStays, wonAt, merge, mergeSpan, betterKey}
 use Rattle.graded_circuit.proofs.Blocks.{Block, none-block, both-block, gate-block, choose-block}
 use Rattle.graded_circuit.proofs.Cutting.{cut4}
 use Rattle.graded_circuit.proofs.SumLaws.{Sums, Spells}
@@ -73,8 +73,8 @@ module _ (p : Plan) (f : Planned p) where
       (keep-winners-block (q + 6 + l) v (rightStays p n) m (λ k. let h = hv k in omega arith) (omega arith))
 
   pub better-block : (at n x y : ℕ) → resultAt p n + 1 < at → x + keySpan p ≤ at → y + keySpan p
-      ≤ at → Block at (better p n x y) (keySpan p)
-  unfolding better
+      ≤ at → Block at (betterKey p n x y) (keySpan p)
+  unfolding betterKey
   better-block at n x y h hx hy = choose-block at (resultAt p n + 1) x y (keySpan p) h hx hy
 
 -- the wire of candidate i of a group of m: a single candidate has none, and is the best of its group
@@ -183,14 +183,14 @@ module _ (W : ℕ → ℕ) (b : Binary W) where
           low-better = λ h. omega (arith, low, w .low-better h);
         }
 
-    pub better-one : (at n x y : ℕ) (S : ℕ → ℕ) → Holds W at (better p n x y) → W (resultAt p n + 1) ≡ 1
+    pub better-one : (at n x y : ℕ) (S : ℕ → ℕ) → Holds W at (betterKey p n x y) → W (resultAt p n + 1) ≡ 1
         → Spells W b p f x S → Spells W b p f at S
-    unfolding better
+    unfolding betterKey
     better-one at n x y S h e k = copied-key x at S (λ i l. chosen-one at (resultAt p n + 1) x y (keySpan p) i l e h) k
 
-    pub better-zero : (at n x y : ℕ) (S : ℕ → ℕ) → Holds W at (better p n x y) → W (resultAt p n + 1) ≡ 0
+    pub better-zero : (at n x y : ℕ) (S : ℕ → ℕ) → Holds W at (betterKey p n x y) → W (resultAt p n + 1) ≡ 0
         → Spells W b p f y S → Spells W b p f at S
-    unfolding better
+    unfolding betterKey
     better-zero at n x y S h e k = copied-key y at S (λ i l. chosen-zero at (resultAt p n + 1) x y (keySpan p) i l e h) k
 
 -- the same sums for all of d grades

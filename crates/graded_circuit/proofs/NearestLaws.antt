@@ -17,7 +17,7 @@ use Rattle.gate_words.proofs.ChoiceSteps.{length-choose}
 use Rattle.gate_words.proofs.ChoiceLaws.{choose-one, choose-zero}
 use Rattle.gate_words.proofs.Ends.{chain-below}
 use Rattle.gate_words.specs.Halves.{unequalCut, unequalSpan, unequalAt}
-use Rattle.graded_circuit.specs.Nearest.{stride, sideFlags, sideSpan, belowAt, fromAt, sides, either, eitherSpan, lastOf, firstOf, leftEnd, rightEnd}
+use Rattle.graded_circuit.specs.Nearest.{stride, sideFlags, sideSpan, belowAt, fromAt, sides, either, eitherSpan, lastWords, firstWords, leftEnd, rightEnd}
 use Rattle.graded_circuit.proofs.Blocks.{Block, none-block, both-block, sized, gate-block, choose-block, unequal-block}
 use Rattle.gate_words.proofs.HalvesLaws.{length-unequal-cut, unequal-cut-zero, unequal-cut-one}
 use Rattle.graded_circuit.proofs.Cutting.{cut2}
@@ -53,8 +53,8 @@ either-block n f x y u v r hf hx hy hu hv =
 
 pub last-of-block : (n f x y u v r t : ℕ) → f + t * sideSpan r < n + sideSpan r → x + t * stride r ≤ n → y + t
     * stride r ≤ n → u + suc r ≤ n → v + suc r ≤ n
-    → Block n (lastOf n f x y u v r t) (t * eitherSpan r)
-unfolding lastOf
+    → Block n (lastWords n f x y u v r t) (t * eitherSpan r)
+unfolding lastWords
 last-of-block n f x y u v r zero hf hx hy hu hv = sized (sym (zero-mul (eitherSpan r))) (none-block n)
 last-of-block n f x y u v r (suc t) hf hx hy hu hv =
     let e = suc-mul t (stride r) in
@@ -66,8 +66,8 @@ last-of-block n f x y u v r (suc t) hf hx hy hu hv =
 
 pub first-of-block : (n f x y u v r t : ℕ) → f + t * sideSpan r < n + sideSpan r → x + t * stride r ≤ n → y + t
     * stride r ≤ n → u + suc r ≤ n → v + suc r ≤ n
-    → Block n (firstOf n f x y u v r t) (t * eitherSpan r)
-unfolding firstOf
+    → Block n (firstWords n f x y u v r t) (t * eitherSpan r)
+unfolding firstWords
 first-of-block n f x y u v r zero hf hx hy hu hv = sized (sym (zero-mul (eitherSpan r))) (none-block n)
 first-of-block n f x y u v r (suc t) hf hx hy hu hv =
     let e = suc-mul t (stride r) in
@@ -201,15 +201,15 @@ module _ (W : ℕ → ℕ) (b : Binary W) where
 
   pub last-of-law : (n f x y u v r t : ℕ) → f + t * sideSpan r < n + sideSpan r → x + t * stride r ≤ n → y + t
       * stride r ≤ n → u + suc r ≤ n → v + suc r ≤ n
-      → Holds W n (lastOf n f x y u v r t)
+      → Holds W n (lastWords n f x y u v r t)
       → Absent (flagAt f r) t (spelled r u) (spelled r v) (spelled r (leftEnd n u r t)) (spelled r (rightEnd n v r t))
       ⊎ LastAt (flagAt f r) (wordOf x r) (wordOf y r) t (spelled r (leftEnd n u r t)) (spelled r (rightEnd n v r t))
-  unfolding lastOf
+  unfolding lastWords
   last-of-law n f x y u v r zero hf hx hy hu hv h = unfold leftEnd rightEnd in
       (inl (record { none = λ i l. absurd (omega arith); stays-left = refl; stays-right = refl }))
   last-of-law n f x y u v r (suc t) hf hx hy hu hv h =
       let n′ = n + eitherSpan r in
-      let rest = lastOf n′ (f + sideSpan r) (x + stride r) (y + stride r) n (n + suc r) r t in
+      let rest = lastWords n′ (f + sideSpan r) (x + stride r) (y + stride r) n (n + suc r) r t in
       let e = suc-mul t (stride r) in
       let e′ = suc-mul t (sideSpan r) in
       let c = cut2 W n (either f x y u v r) rest n′
@@ -268,10 +268,10 @@ module _ (W : ℕ → ℕ) (b : Binary W) where
 
   pub first-of-law : (n f x y u v r t : ℕ) → f + t * sideSpan r < n + sideSpan r → x + t * stride r ≤ n → y + t
       * stride r ≤ n → u + suc r ≤ n → v + suc r ≤ n
-      → Holds W n (firstOf n f x y u v r t)
+      → Holds W n (firstWords n f x y u v r t)
       → Absent (flagAt f r) t (spelled r u) (spelled r v) (spelled r (leftEnd n u r t)) (spelled r (rightEnd n v r t))
       ⊎ FirstAt (flagAt f r) (wordOf x r) (wordOf y r) t (spelled r (leftEnd n u r t)) (spelled r (rightEnd n v r t))
-  unfolding firstOf
+  unfolding firstWords
   first-of-law n f x y u v r zero hf hx hy hu hv h = unfold leftEnd rightEnd in
       (inl (record { none = λ i l. absurd (omega arith); stays-left = refl; stays-right = refl }))
   first-of-law n f x y u v r (suc t) hf hx hy hu hv h =
@@ -279,7 +279,7 @@ module _ (W : ℕ → ℕ) (b : Binary W) where
       let g = f + t * sideSpan r in
       let xt = x + t * stride r in
       let yt = y + t * stride r in
-      let rest = firstOf n′ f x y n (n + suc r) r t in
+      let rest = firstWords n′ f x y n (n + suc r) r t in
       let e = suc-mul t (stride r) in
       let e′ = suc-mul t (sideSpan r) in
       let c = cut2 W n (either g xt yt u v r) rest n′

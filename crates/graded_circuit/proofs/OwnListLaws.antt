@@ -15,20 +15,20 @@ use Rattle.jury.specs.Width.{widthOf}
 use Rattle.basics.proofs.Cases.{below-or-not}
 use Rattle.jury.proofs.Limits.{within}
 use Rattle.graded_circuit.specs.Plan.{planOf}
-use Rattle.graded_circuit.specs.OwnList.{circuit, ownList}
-use Rattle.graded_circuit.specs.Bound.{boundOf, gateBound}
+use Rattle.graded_circuit.specs.OwnList.{circuit, ownGrading}
+use Rattle.graded_circuit.specs.Bound.{boundOf, gradingBound}
 use Rattle.graded_circuit.proofs.Planning.{planned, top-width}
 use Rattle.graded_circuit.proofs.BoundLaws.{gates-most, gates-small}
 use Rattle.graded_circuit.proofs.Accuracy.{own-single}
 
 -- else the circuit of the plan
-pub circuit-list : (s : Shape) → (s .candidates ≡ 1 → ⊥) → ownList s ≡ circuit (planOf s)
-unfolding ownList
+pub circuit-list : (s : Shape) → (s .candidates ≡ 1 → ⊥) → ownGrading s ≡ circuit (planOf s)
+unfolding ownGrading
 circuit-list s e = rw (ne-eqb (s .candidates) 1 e)
 
 -- what holds for the length of both the circuit and a single gate holds for the own list's
 either : (s : Shape) (bound : ℕ) → gradedLimits s ≡ true → 1 ≤ bound
-    → (1 < s .candidates → length (circuit (planOf s)) ≤ bound) → length (ownList s) ≤ bound
+    → (1 < s .candidates → length (circuit (planOf s)) ≤ bound) → length (ownGrading s) ≤ bound
 either s bound e one all = ⊎-elim
     (λ (l : 1 < s .candidates). subst (λ (gs : List Gate). length gs ≤ bound) (sym (circuit-list s (λ q. omega arith))) (all l))
     (λ (l : s .candidates ≤ 1). subst (λ (gs : List Gate). length gs ≤ bound) (sym (own-single s (omega (arith, within s e .k-least)))) one)
@@ -43,19 +43,19 @@ circuit-small : (s : Shape) → gradedLimits s ≡ true → 1 < s .candidates �
 unfolding planOf
 circuit-small s e l = gates-small (planOf s) (planned s e) l
 
-least-bound : (s : Shape) → 1 ≤ gateBound s
-unfolding gateBound boundOf
+least-bound : (s : Shape) → 1 ≤ gradingBound s
+unfolding gradingBound boundOf
 least-bound s = omega arith
 
 -- the bound [bound] with what [judgment-bound] adds
-pub own-list-keeps-the-bound : (s : Shape) → gradedLimits s ≡ true → length (ownList s) ≤ gateBound s
-own-list-keeps-the-bound s e = either s (gateBound s) e (least-bound s) bound
+pub own-list-keeps-the-bound : (s : Shape) → gradedLimits s ≡ true → length (ownGrading s) ≤ gradingBound s
+own-list-keeps-the-bound s e = either s (gradingBound s) e (least-bound s) bound
   where
-    bound : 1 < s .candidates → length (circuit (planOf s)) ≤ gateBound s
-    bound l = unfold gateBound in
+    bound : 1 < s .candidates → length (circuit (planOf s)) ≤ gradingBound s
+    bound l = unfold gradingBound in
         (subst (λ (w : ℕ). length (circuit (planOf s)) ≤ boundOf (s .candidates) (s .grades) (s .ballots) w)
         (top-width (s .ballots) (within s e .n-least)) (circuit-bound s e l))
 
 -- no list of that length is too long for the tester
-pub own-list-short : (s : Shape) → gradedLimits s ≡ true → length (ownList s) ≤ 1048576
+pub own-list-short : (s : Shape) → gradedLimits s ≡ true → length (ownGrading s) ≤ 1048576
 own-list-short s e = either s 1048576 e (omega arith) (λ l. omega (arith, circuit-small s e l))

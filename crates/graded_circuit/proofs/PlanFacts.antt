@@ -7,17 +7,17 @@ use Rattle.gate_words.specs.Word.{Below}
 use Rattle.gate_words.specs.Counter.{Countable}
 use Rattle.gate_words.proofs.CounterLaws.{countable}
 use Rattle.graded_circuit.specs.declared.plan.Plan.{Plan}
-use Rattle.graded_circuit.specs.Plan.{Planned, bitsAt, apart}
+use Rattle.graded_circuit.specs.Plan.{Planned, bitsAt, ballotStride}
 use Rattle.gate_words.proofs.CounterSteps.{below-stride}
 
 module _ (p : Plan) (f : Planned p) where
-  pub row-below : (c g : ℕ) → c < p .candidates → g < p .grades → bitsAt p c g < apart p
+  pub row-below : (c g : ℕ) → c < p .candidates → g < p .grades → bitsAt p c g < ballotStride p
   row-below c g hc hg = omega (arith, mul-le-mul-right {m = suc c} {n = p .candidates} (p .grades) (omega arith), suc-mul c (p .grades))
 
   -- a candidate's bits of a grade are inputs
-  pub bits-below : (n c g : ℕ) → p .inputs ≤ n → c < p .candidates → g < p .grades → Below n (bitsAt p c g) (apart p) (p .ballots)
+  pub bits-below : (n c g : ℕ) → p .inputs ≤ n → c < p .candidates → g < p .grades → Below n (bitsAt p c g) (ballotStride p) (p .ballots)
   bits-below n c g h hc hg =
-      below-stride n (bitsAt p c g) (apart p) (p .ballots)
+      below-stride n (bitsAt p c g) (ballotStride p) (p .ballots)
       (omega (arith, row-below c g hc hg, f .inputs-is, mul-assoc (p .ballots) (p .candidates) (p .grades)))
 
   pub first-countable : Countable (p .ballots) (p .offset) (p .digits)

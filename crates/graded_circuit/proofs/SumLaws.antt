@@ -13,13 +13,13 @@ use Rattle.basics.proofs.Arithmetic.{bit-cases}
 use lib.ListN.{length, length-append}
 use Rattle.gates.specs.Gate.{Gate}
 use Rattle.gates.proofs.Laws.{Holds}
-use Rattle.gate_words.specs.Word.{ones, number}
+use Rattle.gate_words.specs.Word.{onesAt, number}
 use Rattle.gate_words.specs.Rows.{xorRows}
 use Rattle.gate_words.proofs.Numbers.{Binary, number-less}
 use Rattle.gate_words.proofs.RowLaws.{rows-law, ones-both, Told, copied-law, complemented-law}
 use Rattle.graded_circuit.specs.declared.plan.Plan.{Plan}
-use Rattle.graded_circuit.specs.Plan.{Planned, bitsAt, apart}
-use Rattle.graded_circuit.specs.RunningSums.{wordSpan, sumSize, rowAt, rowApart, rows, levelsFrom, sumLevels, allLevels, worstLevels}
+use Rattle.graded_circuit.specs.Plan.{Planned, bitsAt, ballotStride}
+use Rattle.graded_circuit.specs.RunningSums.{wordSpan, sumSize, rowAt, rowStride, rows, sumLevelsFrom, sumLevels, allLevels, worstLevels}
 use Rattle.graded_circuit.specs.Key.{keyWord, keyWords, worstWord, sumsAt, worstAt, candidate, keyOf, lowAt}
 use Rattle.graded_circuit.proofs.Blocks.{rows-block}
 use Rattle.graded_circuit.proofs.PlanFacts.{bits-below, first-countable, worst-countable}
@@ -81,27 +81,27 @@ module _ (W : ℕ → ℕ) (b : Binary W) (p : Plan) (f : Planned p) where
 
   -- one by one: the levels of each grade, and its word of the key
   levels-parts : (n m c g t : ℕ) → p .inputs ≤ n → c < p .candidates → n + g * p .ballots ≤ m
-      → Holds W (levelsFrom p m g) (allLevels p n m c g (suc t))
-      → Holds W (levelsFrom p m g) (sumLevels p n m c g) × Holds W (levelsFrom p m (suc g)) (allLevels p n m c (suc g) t)
+      → Holds W (sumLevelsFrom p m g) (allLevels p n m c g (suc t))
+      → Holds W (sumLevelsFrom p m g) (sumLevels p n m c g) × Holds W (sumLevelsFrom p m (suc g)) (allLevels p n m c (suc g) t)
   unfolding allLevels
   levels-parts n m c g t h hc hm w =
-      cut2 W (levelsFrom p m g) (sumLevels p n m c g) (allLevels p n m c (suc g) t) (levelsFrom p m (suc g))
+      cut2 W (sumLevelsFrom p m g) (sumLevels p n m c g) (allLevels p n m c (suc g) t) (sumLevelsFrom p m (suc g))
       (omega (arith, sum-block p f n m c g h hc hm .long, suc-mul g (sumSize p))) w
 
   each-levels : (n m c g t i : ℕ) → p .inputs ≤ n → c < p .candidates → RowsBefore p n m (g + t) → i < t
-      → Holds W (levelsFrom p m g) (allLevels p n m c g t)
-      → Holds W (levelsFrom p m (g + i)) (sumLevels p n m c (g + i))
+      → Holds W (sumLevelsFrom p m g) (allLevels p n m c g t)
+      → Holds W (sumLevelsFrom p m (g + i)) (sumLevels p n m c (g + i))
   each-levels n m c g zero i h hc hm l w = absurd (omega arith)
   each-levels n m c g (suc t) zero h hc hm l w =
       let e : g ≡ g + 0 = omega arith in
-      subst (λ (k : ℕ). Holds W (levelsFrom p m k) (sumLevels p n m c k)) e (levels-parts n m c g t h hc (hm g (omega arith)) w .0)
+      subst (λ (k : ℕ). Holds W (sumLevelsFrom p m k) (sumLevels p n m c k)) e (levels-parts n m c g t h hc (hm g (omega arith)) w .0)
   each-levels n m c g (suc t) (suc i) h hc hm l w =
       let e : suc g + i ≡ g + suc i = omega arith in
-      subst (λ (k : ℕ). Holds W (levelsFrom p m k) (sumLevels p n m c k)) e
+      subst (λ (k : ℕ). Holds W (sumLevelsFrom p m k) (sumLevels p n m c k)) e
       (each-levels n m c (suc g) t i h hc (λ j k. hm j (omega arith)) (omega arith) (levels-parts n m c g t h hc (hm g (omega arith)) w .1))
 
   words-parts : (q n m c g t : ℕ) → p .inputs ≤ n → c < p .candidates → n + g * p .ballots ≤ m
-      → levelsFrom p m (suc g + t) ≤ q → Holds W q (keyWords p n m c g (suc t))
+      → sumLevelsFrom p m (suc g + t) ≤ q → Holds W q (keyWords p n m c g (suc t))
       → Holds W q (keyWord p n m c g) × Holds W (q + wordSpan p) (keyWords p n m c (suc g) t)
   unfolding keyWords
   words-parts q n m c g t h hc hm hq w =
@@ -109,11 +109,11 @@ module _ (W : ℕ → ℕ) (b : Binary W) (p : Plan) (f : Planned p) where
       (omega (arith, key-word-block p f q n m c g h hc hm (omega (arith, add-mul (suc g) t (sumSize p))) .long)) w
 
   -- the levels end before wire q
-  later-end : (m g t q : ℕ) → levelsFrom p m (g + suc t) ≤ q → levelsFrom p m (suc g + t) ≤ q
-  later-end m g t q h = let e : g + suc t ≡ suc g + t = omega arith in subst (λ (k : ℕ). levelsFrom p m k ≤ q) e h
+  later-end : (m g t q : ℕ) → sumLevelsFrom p m (g + suc t) ≤ q → sumLevelsFrom p m (suc g + t) ≤ q
+  later-end m g t q h = let e : g + suc t ≡ suc g + t = omega arith in subst (λ (k : ℕ). sumLevelsFrom p m k ≤ q) e h
 
   each-word : (q n m c g t i : ℕ) → p .inputs ≤ n → c < p .candidates → RowsBefore p n m (g + t)
-      → levelsFrom p m (g + t) ≤ q → i < t → Holds W q (keyWords p n m c g t)
+      → sumLevelsFrom p m (g + t) ≤ q → i < t → Holds W q (keyWords p n m c g t)
       → Holds W (q + i * wordSpan p) (keyWord p n m c (g + i))
   each-word q n m c g zero i h hc hm hq l w = absurd (omega arith)
   each-word q n m c g (suc t) zero h hc hm hq l w =
@@ -131,49 +131,49 @@ module _ (W : ℕ → ℕ) (b : Binary W) (p : Plan) (f : Planned p) where
       (words-parts q n m c g t h hc (hm g (omega arith)) end w .1)))
 
   module _ (S : ℕ → ℕ) (median : ℕ) (s : Sums (p .ballots) (p .grades) S median) (c : ℕ) (hc : c < p .candidates)
-      (first : ones W (bitsAt p c 0) (apart p) (p .ballots) ≡ S 0)
-      (next : (g : ℕ) → suc g < p .grades → S g + ones W (bitsAt p c (suc g)) (apart p) (p .ballots) ≡ S (suc g))
-      (single : (i : ℕ) → i < p .ballots → sum (tabulate (p .grades) (λ g. W (bitsAt p c g + i * apart p))) ≡ 1) where
+      (first : onesAt W (bitsAt p c 0) (ballotStride p) (p .ballots) ≡ S 0)
+      (next : (g : ℕ) → suc g < p .grades → S g + onesAt W (bitsAt p c (suc g)) (ballotStride p) (p .ballots) ≡ S (suc g))
+      (single : (i : ℕ) → i < p .ballots → sum (tabulate (p .grades) (λ g. W (bitsAt p c g + i * ballotStride p))) ≡ 1) where
     -- what the sum of grade g counts: whether a ballot gives this grade or a better one, so there are as many ones as the sum
     record Counted (n g : ℕ) : Type 0 where
-      pub given : (i : ℕ) → i < p .ballots → W (rowAt p n c g + i * rowApart p g)
-          ≡ sum (tabulate (suc g) (λ h. W (bitsAt p c h + i * apart p)))
-      pub count : ones W (rowAt p n c g) (rowApart p g) (p .ballots) ≡ S g
+      pub given : (i : ℕ) → i < p .ballots → W (rowAt p n c g + i * rowStride p g)
+          ≡ sum (tabulate (suc g) (λ h. W (bitsAt p c h + i * ballotStride p)))
+      pub count : onesAt W (rowAt p n c g) (rowStride p g) (p .ballots) ≡ S g
 
     first-row : (n : ℕ) → Counted n 0
-    unfolding rowAt rowApart
+    unfolding rowAt rowStride
     first-row n =
         record {
-          given = λ i l. omega (arith, sum-last 0 (λ h. W (bitsAt p c h + i * apart p)), sum-none (λ h. W (bitsAt p c h + i * apart p)));
+          given = λ i l. omega (arith, sum-last 0 (λ h. W (bitsAt p c h + i * ballotStride p)), sum-none (λ h. W (bitsAt p c h + i * ballotStride p)));
           count = first;
         }
 
     next-row : (n g : ℕ) → suc g < p .grades → Counted n g
         → Holds W (n + g * p .ballots)
-        (xorRows (rowAt p n c g) (rowApart p g) (bitsAt p c (suc g)) (apart p) (p .ballots)) → Counted n (suc g)
-    unfolding rowAt rowApart
+        (xorRows (rowAt p n c g) (rowStride p g) (bitsAt p c (suc g)) (ballotStride p) (p .ballots)) → Counted n (suc g)
+    unfolding rowAt rowStride
     next-row n g hg a h =
         record {
-          given = λ i l. omega (arith, bit i l, a .given i l, sum-last (suc g) (λ k. W (bitsAt p c k + i * apart p)));
+          given = λ i l. omega (arith, bit i l, a .given i l, sum-last (suc g) (λ k. W (bitsAt p c k + i * ballotStride p)));
           count = omega (
             arith,
-            ones-both W b (n + g * p .ballots) (rowAt p n c g) (rowApart p g)
-                (bitsAt p c (suc g)) (apart p) (p .ballots) bit,
+            ones-both W b (n + g * p .ballots) (rowAt p n c g) (rowStride p g)
+                (bitsAt p c (suc g)) (ballotStride p) (p .ballots) bit,
             a .count,
             next g hg,
           );
         }
       where
         -- no ballot gives two grades
-        bit : (i : ℕ) → i < p .ballots → W (n + g * p .ballots + i * 1) ≡ W (rowAt p n c g + i * rowApart p g)
-            + W (bitsAt p c (suc g) + i * apart p)
+        bit : (i : ℕ) → i < p .ballots → W (n + g * p .ballots + i * 1) ≡ W (rowAt p n c g + i * rowStride p g)
+            + W (bitsAt p c (suc g) + i * ballotStride p)
         bit i l =
             let at : n + g * p .ballots + i * 1 ≡ n + g * p .ballots + i = omega (arith, mul-one i) in
-            let given : ℕ → ℕ = λ k. W (bitsAt p c k + i * apart p) in
+            let given : ℕ → ℕ = λ k. W (bitsAt p c k + i * ballotStride p) in
             omega (
               arith,
               ap W at,
-              rows-law W b (n + g * p .ballots) (rowAt p n c g) (rowApart p g) (bitsAt p c (suc g)) (apart p) (p .ballots) i l h,
+              rows-law W b (n + g * p .ballots) (rowAt p n c g) (rowStride p g) (bitsAt p c (suc g)) (ballotStride p) (p .ballots) i l h,
               a .given i l,
               sum-last (suc g) given,
               sum-part given (suc (suc g)) (p .grades) hg,
@@ -188,21 +188,21 @@ module _ (W : ℕ → ℕ) (b : Binary W) (p : Plan) (f : Planned p) where
     each-row n g zero (suc i) h hg a l w = absurd (omega arith)
     each-row n g (suc t) (suc i) h hg a l w =
         let m = n + g * p .ballots in
-        let row = xorRows (rowAt p n c g) (rowApart p g) (bitsAt p c (suc g)) (apart p) (p .ballots) in
-        let block = rows-block m (rowAt p n c g) (rowApart p g) (bitsAt p c (suc g)) (apart p) (p .ballots)
+        let row = xorRows (rowAt p n c g) (rowStride p g) (bitsAt p c (suc g)) (ballotStride p) (p .ballots) in
+        let block = rows-block m (rowAt p n c g) (rowStride p g) (bitsAt p c (suc g)) (ballotStride p) (p .ballots)
         (counted-below p f n m c g h hc (omega arith))
         (bits-below p f m c (suc g) (omega arith) hc (omega arith)) in
         let q = cut2 W m row (rows p n c (suc g) t) (n + suc g * p .ballots) (omega (arith, block .long, suc-mul g (p .ballots))) w in
         let e : suc g + i ≡ g + suc i = omega arith in
         subst (Counted n) e (each-row n (suc g) t i h (omega arith) (next-row n g (omega arith) a (q .0)) (omega arith) (q .1))
 
-    sum-word : (q n m g : ℕ) → Counted n g → Holds W (levelsFrom p m g) (sumLevels p n m c g)
+    sum-word : (q n m g : ℕ) → Counted n g → Holds W (sumLevelsFrom p m g) (sumLevels p n m c g)
         → Holds W q (keyWord p n m c g) → Word (p .digits) q (S g)
     unfolding sumLevels keyWord
     sum-word q n m g a lev dig =
-        let told = copied-law W b (levelsFrom p m g) (rowAt p n c g) (rowApart p g) (p .ballots) (p .offset)
+        let told = copied-law W b (sumLevelsFrom p m g) (rowAt p n c g) (rowStride p g) (p .ballots) (p .offset)
         (p .digits) q (first-countable p f) lev dig in
-        let e : ones W (rowAt p n c g) (rowApart p g) (p .ballots) + p .offset ≡ p .offset + S g = omega (arith, a .count) in
+        let e : onesAt W (rowAt p n c g) (rowStride p g) (p .ballots) + p .offset ≡ p .offset + S g = omega (arith, a .count) in
         told-word q (S g) (subst (Told W b q (p .digits)) e told)
 
     -- the worst grade but one, by the count of the worst
@@ -212,12 +212,12 @@ module _ (W : ℕ → ℕ) (b : Binary W) (p : Plan) (f : Planned p) where
     last-word q m g e lev dig =
         let last : p .grades - 1 ≡ suc g = omega arith in
         let bits = bitsAt p c (p .grades - 1) in
-        let rest : S g + ones W bits (apart p) (p .ballots) ≡ p .ballots =
-        ap (λ (k : ℕ). S g + ones W (bitsAt p c k) (apart p) (p .ballots)) last ∙ next g (omega arith)
+        let rest : S g + onesAt W bits (ballotStride p) (p .ballots) ≡ p .ballots =
+        ap (λ (k : ℕ). S g + onesAt W (bitsAt p c k) (ballotStride p) (p .ballots)) last ∙ next g (omega arith)
         ∙ ap S (sym last) ∙ s .whole in
-        let total : p .offset + S g + 1 + (ones W bits (apart p) (p .ballots) + p .worst) ≡ 2 ^ suc (p .digits) =
+        let total : p .offset + S g + 1 + (onesAt W bits (ballotStride p) (p .ballots) + p .worst) ≡ 2 ^ suc (p .digits) =
         omega (arith, f .offset-is, f .worst-is, pow-succ' 2 (p .digits)) in
-        told-word q (S g) (complemented-law W b m bits (apart p) (p .ballots) (p .worst) (p .digits) q
+        told-word q (S g) (complemented-law W b m bits (ballotStride p) (p .ballots) (p .worst) (p .digits) q
         (p .offset + S g) (worst-countable p f) total lev dig)
 
     -- the key of candidate c, whose circuit starts at wire n, describes its sums
@@ -231,7 +231,7 @@ module _ (W : ℕ → ℕ) (b : Binary W) (p : Plan) (f : Planned p) where
         let d = f .d-least in
         let before = rows-before p n in
         let start : n + 0 * p .ballots ≡ n = omega (arith, zero-mul (p .ballots)) in
-        let origin : levelsFrom p m 0 ≡ m = omega (arith, zero-mul (sumSize p)) in
+        let origin : sumLevelsFrom p m 0 ≡ m = omega (arith, zero-mul (sumSize p)) in
         let rowed = next-rows-block p f n c 0 (p .grades - 3) h hc (omega arith) in
         let levelled = all-levels-block p f n m c 0 t h hc before in
         let counted = worst-levels-block p f k c (omega arith) hc in
@@ -254,7 +254,7 @@ module _ (W : ℕ → ℕ) (b : Binary W) (p : Plan) (f : Planned p) where
         let e : 0 + g ≡ g = omega arith in
         let row = subst (Counted n) e (each-row n 0 (p .grades - 3) g h (omega arith) (first-row n) (omega arith)
         (subst (λ (i : ℕ). Holds W i (rows p n c 0 (p .grades - 3))) (sym start) (q .0))) in
-        let lev = subst (λ (i : ℕ). Holds W (levelsFrom p m i) (sumLevels p n m c i)) e
+        let lev = subst (λ (i : ℕ). Holds W (sumLevelsFrom p m i) (sumLevels p n m c i)) e
         (each-levels n m c 0 t g h hc before u (subst (λ (i : ℕ). Holds W i (allLevels p n m c 0 t))
         (sym origin) (q .1))) in
         let dig = subst (λ (i : ℕ). Holds W (x + g * wordSpan p) (keyWord p n m c i)) e

@@ -17,7 +17,7 @@ use Rattle.gate_words.proofs.HalvesLaws.{Tells, compare-cut-law}
 use Rattle.gate_words.proofs.ReachLaws.{Reaches, length-reach, reach-law}
 use Rattle.graded_circuit.specs.declared.plan.Plan.{Plan}
 use Rattle.graded_circuit.specs.Plan.{Planned}
-use Rattle.graded_circuit.specs.Nearest.{stride, sides, sideSpan, belowAt, fromAt, lastOf, firstOf}
+use Rattle.graded_circuit.specs.Nearest.{stride, sides, sideSpan, belowAt, fromAt, lastWords, firstWords}
 use Rattle.graded_circuit.specs.TieBreak.{downAt, upAt, nearestEnd, farAt, nearest, downLeft, downRight, upLeft, upRight, chosenHigh, compareAndReach, leftCarry, rightCarry, resolve, resolveAt, tieBreak}
 use Rattle.graded_circuit.proofs.Cutting.{cut3, cut4}
 use Rattle.graded_circuit.proofs.Blocks.{compare-block}
@@ -255,14 +255,14 @@ module _ (W : ℕ → ℕ) (b : Binary W) where
 
     parts : Holds W n (nearest n x y r top t)
         → Holds W n (sides n (x + stride r) (y + stride r) r top t)
-        × Holds W (downAt n r t) (lastOf (downAt n r t) (belowAt n r) (x + stride r) (y + stride r) x y r t)
-        × Holds W (upAt n r t) (firstOf (upAt n r t) (fromAt n r) (x + stride r) (y + stride r) (farAt x r t) (farAt y r t) r t)
+        × Holds W (downAt n r t) (lastWords (downAt n r t) (belowAt n r) (x + stride r) (y + stride r) x y r t)
+        × Holds W (upAt n r t) (firstWords (upAt n r t) (fromAt n r) (x + stride r) (y + stride r) (farAt x r t) (farAt y r t) r t)
     unfolding nearest
     parts h =
         let e = suc-mul (suc t) (stride r) in
         let e′ = suc-mul t (stride r) in
-        cut3 W n (sides n (x + stride r) (y + stride r) r top t) (lastOf (downAt n r t) (belowAt n r) (x + stride r) (y + stride r) x y r t)
-        (firstOf (upAt n r t) (fromAt n r) (x + stride r) (y + stride r) (farAt x r t) (farAt y r t) r t) (downAt n r t) (upAt n r t)
+        cut3 W n (sides n (x + stride r) (y + stride r) r top t) (lastWords (downAt n r t) (belowAt n r) (x + stride r) (y + stride r) x y r t)
+        (firstWords (upAt n r t) (fromAt n r) (x + stride r) (y + stride r) (farAt x r t) (farAt y r t) r t) (downAt n r t) (upAt n r t)
         (omega (arith, sides-block n (x + stride r) (y + stride r) r top t hr (omega arith) (omega arith) .long))
         (omega (
           arith,

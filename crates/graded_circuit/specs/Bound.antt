@@ -8,5 +8,5 @@ unfoldable pub boundOf : ℕ → ℕ → ℕ → ℕ → ℕ
 boundOf k d n w =
     2 * k * d * n * w + k * d * (30 * w + 20) + k * k * (20 * w + 6 * d + 20) + 2 + k * d * (400 * w + 400)
 
-unfoldable pub gateBound : Shape → ℕ
-gateBound s = boundOf (s .candidates) (s .grades) (s .ballots) (widthOf (s .ballots))
+unfoldable pub gradingBound : Shape → ℕ
+gradingBound s = boundOf (s .candidates) (s .grades) (s .ballots) (widthOf (s .ballots))

@@ -5,13 +5,13 @@ use Rattle.gates.specs.Gate.{Gate}
 use Rattle.gate_words.specs.Counter.{countDigitsAs}
 use Rattle.graded_circuit.specs.declared.plan.Plan.{Plan}
 use Rattle.graded_circuit.specs.Plan.{bitsAt}
-use Rattle.graded_circuit.specs.RunningSums.{wordSpan, sumSize, worstSize, rowAt, rows, levelsFrom, allLevels}
+use Rattle.graded_circuit.specs.RunningSums.{wordSpan, sumSize, worstSize, rowAt, rows, sumLevelsFrom, allLevels}
 use Rattle.graded_circuit.specs.RunningSums.{worstLevels}
 
 -- For the sum of grade g: its low digits, and then whether twice the number of grades is below n. If it is, the median
 -- grade is worse than this grade. The rows start at wire n, and the levels at wire m.
 unfoldable pub keyWord : Plan → ℕ → ℕ → ℕ → ℕ → List Gate
-keyWord p n m c g = countDigitsAs 2 3 (levelsFrom p m g) (rowAt p n c g) (p .ballots) (p .offset) (p .digits)
+keyWord p n m c g = countDigitsAs 2 3 (sumLevelsFrom p m g) (rowAt p n c g) (p .ballots) (p .offset) (p .digits)
 
 -- The same for t grades from grade g on.
 unfoldable pub keyWords : Plan → ℕ → ℕ → ℕ → ℕ → ℕ → List Gate
@@ -28,7 +28,7 @@ abbrev pub sumsAt : Plan → ℕ → ℕ
 sumsAt p n = n + (p .grades - 3) * p .ballots
 
 abbrev pub worstAt : Plan → ℕ → ℕ
-worstAt p n = levelsFrom p (sumsAt p n) (p .grades - 2)
+worstAt p n = sumLevelsFrom p (sumsAt p n) (p .grades - 2)
 
 unfoldable pub candidate : Plan → ℕ → ℕ → List Gate
 candidate p n c =

@@ -52,5 +52,5 @@ abbrev pub mergeSpan : Plan → ℕ → ℕ → ℕ
 mergeSpan p l m = contestSpan p + 4 + l + m
 
 -- The better key. Of equal keys either one may be taken.
-unfoldable pub better : Plan → ℕ → ℕ → ℕ → List Gate
-better p n x y = choose (resultAt p n + 1) x y (keySpan p)
+unfoldable pub betterKey : Plan → ℕ → ℕ → ℕ → List Gate
+betterKey p n x y = choose (resultAt p n + 1) x y (keySpan p)

@@ -40,17 +40,17 @@ abbrev pub eitherSpan : ℕ → ℕ
 eitherSpan r = suc r + suc r
 
 -- The words of the last of t grades whose wire, the first being f, is 1; those at u and v if there is none.
-unfoldable pub lastOf : ℕ → ℕ → ℕ → ℕ → ℕ → ℕ → ℕ → ℕ → List Gate
-lastOf n f x y u v r zero = []
-lastOf n f x y u v r (suc t) =
-    either f x y u v r ++ lastOf (n + eitherSpan r) (f + sideSpan r) (x + stride r) (y + stride r) n (n + suc r) r t
+unfoldable pub lastWords : ℕ → ℕ → ℕ → ℕ → ℕ → ℕ → ℕ → ℕ → List Gate
+lastWords n f x y u v r zero = []
+lastWords n f x y u v r (suc t) =
+    either f x y u v r ++ lastWords (n + eitherSpan r) (f + sideSpan r) (x + stride r) (y + stride r) n (n + suc r) r t
 
 -- The words of the first such grade: the grades are visited from the last one on.
-unfoldable pub firstOf : ℕ → ℕ → ℕ → ℕ → ℕ → ℕ → ℕ → ℕ → List Gate
-firstOf n f x y u v r zero = []
-firstOf n f x y u v r (suc t) =
+unfoldable pub firstWords : ℕ → ℕ → ℕ → ℕ → ℕ → ℕ → ℕ → ℕ → List Gate
+firstWords n f x y u v r zero = []
+firstWords n f x y u v r (suc t) =
     either (f + t * sideSpan r) (x + t * stride r) (y + t * stride r) u v r
-    ++ firstOf (n + eitherSpan r) f x y n (n + suc r) r t
+    ++ firstWords (n + eitherSpan r) f x y n (n + suc r) r t
 
 -- Where the chosen words are: u and v themselves if there is no grade to choose from.
 unfoldable pub leftEnd : ℕ → ℕ → ℕ → ℕ → ℕ

@@ -9,12 +9,12 @@ use Rattle.jury.specs.declared.shape.Shape.{Shape}
 use Rattle.graded_circuit.specs.declared.plan.Plan.{Plan}
 use Rattle.graded_circuit.specs.Plan.{planOf}
 use Rattle.graded_circuit.specs.Key.{candidate, keyOf, keySpan, candidateSpan}
-use Rattle.graded_circuit.specs.Merge.{merge, mergeSpan, wonAt, better}
+use Rattle.graded_circuit.specs.Merge.{merge, mergeSpan, wonAt, betterKey}
 
 -- The circuits of m candidates, from candidate c on. They come first, so that each one's key has its place.
-unfoldable pub candidates : Plan → ℕ → ℕ → ℕ → List Gate
-candidates p n c zero = []
-candidates p n c (suc m) = candidate p n c ++ candidates p (n + candidateSpan p) (c + 1) m
+unfoldable pub candidatesFrom : Plan → ℕ → ℕ → ℕ → List Gate
+candidatesFrom p n c zero = []
+candidatesFrom p n c (suc m) = candidate p n c ++ candidatesFrom p (n + candidateSpan p) (c + 1) m
 
 abbrev pub keyAt : Plan → ℕ → ℕ
 keyAt p c = keyOf p (p .inputs + c * candidateSpan p)
@@ -54,7 +54,7 @@ halvesMerge p r n c m =
 
 unfoldable pub halvesBetter : Plan → ℕ → ℕ → ℕ → ℕ → List Gate
 halvesBetter p r n c m =
-    better p (mergeAt p r n m) (bestKey p r n c (m / 2)) (bestKey p r (otherAt p r n m) (c + m / 2) (m - m / 2))
+    betterKey p (mergeAt p r n m) (bestKey p r n c (m / 2)) (bestKey p r (otherAt p r n m) (c + m / 2) (m - m / 2))
 
 unfoldable pub levels : Plan → ℕ → ℕ → ℕ → ℕ → List Gate
 levels p zero n c m = []
@@ -73,12 +73,12 @@ levelsAt p = p .inputs + p .candidates * candidateSpan p
 
 unfoldable pub circuit : Plan → List Gate
 circuit p =
-    candidates p (p .inputs) 0 (p .candidates)
+    candidatesFrom p (p .inputs) 0 (p .candidates)
     ++ levels p lowLevels (levelsAt p) 0 (p .candidates / 2)
     ++ levels p lowLevels (otherAt p lowLevels (levelsAt p) (p .candidates)) (p .candidates / 2)
     (p .candidates - p .candidates / 2)
     ++ halvesMerge p lowLevels (levelsAt p) 0 (p .candidates)
 
 -- A single candidate wins: one gate says so.
-unfoldable pub ownList : Shape → List Gate
-ownList s = cond (eqb (s .candidates) 1) (constant 1 ∷ []) (circuit (planOf s))
+unfoldable pub ownGrading : Shape → List Gate
+ownGrading s = cond (eqb (s .candidates) 1) (constant 1 ∷ []) (circuit (planOf s))

@@ -43,5 +43,5 @@ pub record Planned (p : Plan) : Type 0 where
 abbrev pub bitsAt : Plan → ℕ → ℕ → ℕ
 bitsAt p c g = c * p .grades + g
 
-abbrev pub apart : Plan → ℕ
-apart p = p .candidates * p .grades
+abbrev pub ballotStride : Plan → ℕ
+ballotStride p = p .candidates * p .grades

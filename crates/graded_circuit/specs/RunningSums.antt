@@ -6,7 +6,7 @@ use Rattle.gates.specs.Gate.{Gate}
 use Rattle.gate_words.specs.Rows.{xorRows}
 use Rattle.gate_words.specs.Counter.{countLevels, countSize}
 use Rattle.graded_circuit.specs.declared.plan.Plan.{Plan}
-use Rattle.graded_circuit.specs.Plan.{bitsAt, apart}
+use Rattle.graded_circuit.specs.Plan.{bitsAt, ballotStride}
 
 -- A sum is counted in digits + 1 digits: the offset plus the number of grades. Its top digit is 1 exactly if twice
 -- that number is at least n.
@@ -25,23 +25,23 @@ unfoldable pub rowAt : Plan → ℕ → ℕ → ℕ → ℕ
 rowAt p n c zero = bitsAt p c 0
 rowAt p n c (suc g) = n + g * p .ballots
 
-unfoldable pub rowApart : Plan → ℕ → ℕ
-rowApart p zero = apart p
-rowApart p (suc g) = 1
+unfoldable pub rowStride : Plan → ℕ → ℕ
+rowStride p zero = ballotStride p
+rowStride p (suc g) = 1
 
 -- t rows after that of grade g: each adds the next grade's bits to the row before it.
 unfoldable pub rows : Plan → ℕ → ℕ → ℕ → ℕ → List Gate
 rows p n c g zero = []
 rows p n c g (suc t) =
-    xorRows (rowAt p n c g) (rowApart p g) (bitsAt p c (suc g)) (apart p) (p .ballots) ++ rows p n c (suc g) t
+    xorRows (rowAt p n c g) (rowStride p g) (bitsAt p c (suc g)) (ballotStride p) (p .ballots) ++ rows p n c (suc g) t
 
 -- The levels of the sum of grade g, if those of the best grade start at wire m.
-abbrev pub levelsFrom : Plan → ℕ → ℕ → ℕ
-levelsFrom p m g = m + g * sumSize p
+abbrev pub sumLevelsFrom : Plan → ℕ → ℕ → ℕ
+sumLevelsFrom p m g = m + g * sumSize p
 
 unfoldable pub sumLevels : Plan → ℕ → ℕ → ℕ → ℕ → List Gate
 sumLevels p n m c g =
-    countLevels (levelsFrom p m g) (rowAt p n c g) (rowApart p g) (p .ballots) (p .offset) (p .digits)
+    countLevels (sumLevelsFrom p m g) (rowAt p n c g) (rowStride p g) (p .ballots) (p .offset) (p .digits)
 
 -- Those of t grades from grade g on.
 unfoldable pub allLevels : Plan → ℕ → ℕ → ℕ → ℕ → ℕ → List Gate
@@ -52,4 +52,4 @@ allLevels p n m c g (suc t) = sumLevels p n m c g ++ allLevels p n m c (suc g) t
 -- on count the worst grade's bits.
 unfoldable pub worstLevels : Plan → ℕ → ℕ → List Gate
 worstLevels p m c =
-    countLevels m (bitsAt p c (p .grades - 1)) (apart p) (p .ballots) (p .worst) (p .digits)
+    countLevels m (bitsAt p c (p .grades - 1)) (ballotStride p) (p .ballots) (p .worst) (p .digits)

@@ -6,7 +6,7 @@ use Rattle.gates.specs.Gate.{Gate}
 use Rattle.gate_words.specs.Gates.{notOf, andOf, orOf, xorOf, muxOf}
 use Rattle.gate_words.specs.Halves.{unequalAt, compareCut, compareSpan, aboveAt}
 use Rattle.gate_words.specs.Reach.{reach, reachLast, reachSpan}
-use Rattle.graded_circuit.specs.Nearest.{stride, sides, sideSpan, belowAt, fromAt, lastOf, firstOf, eitherSpan}
+use Rattle.graded_circuit.specs.Nearest.{stride, sides, sideSpan, belowAt, fromAt, lastWords, firstWords, eitherSpan}
 use Rattle.graded_circuit.specs.Nearest.{leftEnd, rightEnd}
 
 -- Words have r + 1 digits, the h highest of which are handled separately, and t grades lie between the best and the
@@ -27,8 +27,8 @@ farAt x r t = x + suc t * stride r
 unfoldable pub nearest : ℕ → ℕ → ℕ → ℕ → ℕ → ℕ → List Gate
 nearest n x y r h t =
     sides n (x + stride r) (y + stride r) r h t
-    ++ lastOf (downAt n r t) (belowAt n r) (x + stride r) (y + stride r) x y r t
-    ++ firstOf (upAt n r t) (fromAt n r) (x + stride r) (y + stride r) (farAt x r t) (farAt y r t) r t
+    ++ lastWords (downAt n r t) (belowAt n r) (x + stride r) (y + stride r) x y r t
+    ++ firstWords (upAt n r t) (fromAt n r) (x + stride r) (y + stride r) (farAt x r t) (farAt y r t) r t
 
 -- The words chosen on either side, for both keys.
 abbrev pub downLeft : ℕ → ℕ → ℕ → ℕ → ℕ

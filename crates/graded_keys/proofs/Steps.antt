@@ -12,7 +12,7 @@ use Rattle.graded_circuit.proofs.MedianLaws.{fits-half, fits-some, ones-span}
 use Rattle.graded_circuit.specs.declared.plan.Plan.{Plan}
 use Rattle.graded_circuit.specs.TieBreak.{resolveAt, tieBreak}
 use Rattle.graded_circuit.specs.Contest.{tieBreakBelow, tieBreakBelowSpan}
-use Rattle.graded_circuit.specs.Nearest.{stride, sideFlags, sideSpan, sides, either, eitherSpan, lastOf, firstOf, leftEnd, rightEnd}
+use Rattle.graded_circuit.specs.Nearest.{stride, sideFlags, sideSpan, sides, either, eitherSpan, lastWords, firstWords, leftEnd, rightEnd}
 use Rattle.basics.proofs.Arithmetic.{count-down, one-less}
 
 pub sides-step : (n x y r k t : ℕ) → 0 < t → sides n x y r k t ≡ sideFlags n x y r k
@@ -23,21 +23,21 @@ pub sides-none : (n x y r k t : ℕ) → t ≤ 0 → sides n x y r k t ≡ []
 unfolding sides
 sides-none n x y r k t h = let e : t ≡ 0 = omega arith in rw e
 
-pub last-step : (n f x y u v r t : ℕ) → 0 < t → lastOf n f x y u v r t ≡ either f x y u v r
-    ++ lastOf (n + eitherSpan r) (f + sideSpan r) (x + stride r) (y + stride r) n (n + suc r) r (t - 1)
-last-step n f x y u v r t h = ap (lastOf n f x y u v r) (count-down t h) ∙ (unfold lastOf in refl)
+pub last-step : (n f x y u v r t : ℕ) → 0 < t → lastWords n f x y u v r t ≡ either f x y u v r
+    ++ lastWords (n + eitherSpan r) (f + sideSpan r) (x + stride r) (y + stride r) n (n + suc r) r (t - 1)
+last-step n f x y u v r t h = ap (lastWords n f x y u v r) (count-down t h) ∙ (unfold lastWords in refl)
 
-pub last-none : (n f x y u v r t : ℕ) → t ≤ 0 → lastOf n f x y u v r t ≡ []
-unfolding lastOf
+pub last-none : (n f x y u v r t : ℕ) → t ≤ 0 → lastWords n f x y u v r t ≡ []
+unfolding lastWords
 last-none n f x y u v r t h = let e : t ≡ 0 = omega arith in rw e
 
 pub first-step : (n f x y u v r t : ℕ) → 0 < t
-    → firstOf n f x y u v r t ≡ either (f + (t - 1) * sideSpan r) (x + (t - 1) * stride r) (y + (t - 1) * stride r)
-    u v r ++ firstOf (n + eitherSpan r) f x y n (n + suc r) r (t - 1)
-first-step n f x y u v r t h = ap (firstOf n f x y u v r) (count-down t h) ∙ (unfold firstOf in refl)
+    → firstWords n f x y u v r t ≡ either (f + (t - 1) * sideSpan r) (x + (t - 1) * stride r) (y + (t - 1) * stride r)
+    u v r ++ firstWords (n + eitherSpan r) f x y n (n + suc r) r (t - 1)
+first-step n f x y u v r t h = ap (firstWords n f x y u v r) (count-down t h) ∙ (unfold firstWords in refl)
 
-pub first-none : (n f x y u v r t : ℕ) → t ≤ 0 → firstOf n f x y u v r t ≡ []
-unfolding firstOf
+pub first-none : (n f x y u v r t : ℕ) → t ≤ 0 → firstWords n f x y u v r t ≡ []
+unfolding firstWords
 first-none n f x y u v r t h = let e : t ≡ 0 = omega arith in rw e
 
 -- one digit more of a comparison of medians, and those above it

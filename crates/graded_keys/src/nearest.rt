@@ -7,7 +7,7 @@ ghost use mathlib.Core.Path.{_≡_};
 ghost use Prim.Native.Nat.{_+_, _*_, _≤_, _<_};
 ghost use Rattle.gate_words.specs.Limits.{writerLimit};
 ghost use Rattle.gate_words.specs.Writing.{Wrote};
-ghost use Rattle.graded_circuit.specs.Nearest.{sideFlags, sides, either, eitherSpan, lastOf, firstOf};
+ghost use Rattle.graded_circuit.specs.Nearest.{sideFlags, sides, either, eitherSpan, lastWords, firstWords};
 ghost use Rattle.graded_circuit.specs.Nearest.{leftEnd, rightEnd};
 ghost use Rattle.graded_keys.specs.inner.Nearest.{SideReady, SidesReady, EitherReady, LastReady, FirstReady};
 
@@ -80,7 +80,7 @@ pub fn last_of(
     count: u32,
 ) -> Writer
     requires { ⌜ LastReady w f x y u v above count ⌝ }
-    ensures { λ r. ⌜ Wrote w (now (table .entry)) (lastOf (w .wire) f x y u v above count) (now (table .exit)) r ⌝ }
+    ensures { λ r. ⌜ Wrote w (now (table .entry)) (lastWords (w .wire) f x y u v above count) (now (table .exit)) r ⌝ }
 {
     let mut next = w;
     let mut flag = f;
@@ -115,7 +115,7 @@ pub fn first_of(
     count: u32,
 ) -> Writer
     requires { ⌜ FirstReady w f x y u v above count ⌝ }
-    ensures { λ r. ⌜ Wrote w (now (table .entry)) (firstOf (w .wire) f x y u v above count) (now (table .exit)) r ⌝ }
+    ensures { λ r. ⌜ Wrote w (now (table .entry)) (firstWords (w .wire) f x y u v above count) (now (table .exit)) r ⌝ }
 {
     let mut next = w;
     let mut first = u;

@@ -7,7 +7,7 @@ ghost use mathlib.Core.Path.{_≡_};
 ghost use lib.Dec.{T};
 ghost use lib.ListN.{length};
 ghost use Rattle.jury.specs.Shape.{gradedLimits};
-ghost use Rattle.graded_circuit.specs.OwnList.{levelsSpan, circuit, ownList};
+ghost use Rattle.graded_circuit.specs.OwnList.{levelsSpan, circuit, ownGrading};
 ghost use Rattle.graded_size.specs.inner.Ready.{GroupReady, CircuitReady};
 
 // The gates that follow a contest in a merge: who comes first, and which of both groups stays.
@@ -56,7 +56,7 @@ fn circuit_span(p: Plan) -> u32
 // G of the own list of a shape.
 pub fn gates(shape: Shape) -> usize
     requires { ⌜ T (gradedLimits shape) ⌝ }
-    ensures { λ r. ⌜ r ≡ length (ownList shape) ⌝ }
+    ensures { λ r. ⌜ r ≡ length (ownGrading shape) ⌝ }
 {
     if shape.candidates == 1 {
         return 1;

@@ -12,8 +12,8 @@ use Rattle.gate_words.specs.Counter.{countLevels, countDigitsAs}
 use Rattle.gate_words.proofs.ChoiceSteps.{left-one}
 use Rattle.gate_words.proofs.CounterSteps.{count-size-most}
 use Rattle.graded_circuit.specs.declared.plan.Plan.{Plan}
-use Rattle.graded_circuit.specs.Plan.{Planned, bitsAt, apart}
-use Rattle.graded_circuit.specs.RunningSums.{sumSize, rowAt, rowApart, rows, levelsFrom, sumLevels, allLevels}
+use Rattle.graded_circuit.specs.Plan.{Planned, bitsAt, ballotStride}
+use Rattle.graded_circuit.specs.RunningSums.{sumSize, rowAt, rowStride, rows, sumLevelsFrom, sumLevels, allLevels}
 use Rattle.graded_circuit.specs.Key.{keyWord, keyWords}
 use Rattle.graded_circuit.proofs.PlanFacts.{row-below}
 use Rattle.graded_circuit.proofs.CandidateBlocks.{RowsBefore}
@@ -32,12 +32,12 @@ unfolding rowAt
 later-row p n c zero h = absurd (h refl)
 later-row p n c (suc g) h = let e : suc g - 1 ≡ g = omega arith in rw e
 
-pub first-apart : (p : Plan) (g : ℕ) → g ≡ 0 → rowApart p g ≡ apart p
-unfolding rowApart
+pub first-apart : (p : Plan) (g : ℕ) → g ≡ 0 → rowStride p g ≡ ballotStride p
+unfolding rowStride
 first-apart p g e = rw e
 
-pub later-apart : (p : Plan) (g : ℕ) → (g ≡ 0 → ⊥) → rowApart p g ≡ 1
-unfolding rowApart
+pub later-apart : (p : Plan) (g : ℕ) → (g ≡ 0 → ⊥) → rowStride p g ≡ 1
+unfolding rowStride
 later-apart p zero h = absurd (h refl)
 later-apart p (suc g) h = refl
 
@@ -45,13 +45,13 @@ later-apart p (suc g) h = refl
 module _ (p : Plan) (n c : ℕ) where
   pub rows-turn : (g : ℕ) → g + 3 < p .grades
       → rows p n c g (p .grades - 3 - g)
-      ≡ xorRows (rowAt p n c g) (rowApart p g) (bitsAt p c (suc g)) (apart p) (p .ballots)
+      ≡ xorRows (rowAt p n c g) (rowStride p g) (bitsAt p c (suc g)) (ballotStride p) (p .ballots)
       ++ rows p n c (g + 1) (p .grades - 3 - (g + 1))
   rows-turn g h = ap (rows p n c g) (left-one g (p .grades - 3) (omega arith)) ∙ first (p .grades - 3 - (g + 1))
       ∙ ap (λ (k : ℕ). row ++ rows p n c k (p .grades - 3 - (g + 1))) (sym (add-one g))
     where
       row : List Gate
-      row = xorRows (rowAt p n c g) (rowApart p g) (bitsAt p c (suc g)) (apart p) (p .ballots)
+      row = xorRows (rowAt p n c g) (rowStride p g) (bitsAt p c (suc g)) (ballotStride p) (p .ballots)
 
       first : (t : ℕ) → rows p n c g (suc t) ≡ row ++ rows p n c (suc g) t
       first t = unfold rows in refl
@@ -61,19 +61,19 @@ module _ (p : Plan) (n c : ℕ) where
   rows-end g t h = let e : t - g ≡ 0 = omega arith in rw e
 
   module _ (m : ℕ) where
-    pub levels-turn : (g q : ℕ) → g + 2 < p .grades → q ≡ levelsFrom p m g
+    pub levels-turn : (g q : ℕ) → g + 2 < p .grades → q ≡ sumLevelsFrom p m g
         → allLevels p n m c g (p .grades - 2 - g)
-        ≡ countLevels q (rowAt p n c g) (rowApart p g) (p .ballots) (p .offset) (p .digits)
+        ≡ countLevels q (rowAt p n c g) (rowStride p g) (p .ballots) (p .offset) (p .digits)
         ++ allLevels p n m c (g + 1) (p .grades - 2 - (g + 1))
     levels-turn g q h e =
         ap (allLevels p n m c g) (left-one g (p .grades - 2) (omega arith)) ∙ first (p .grades - 2 - (g + 1))
-        ∙ ap (λ (k : ℕ). countLevels k (rowAt p n c g) (rowApart p g) (p .ballots) (p .offset) (p .digits)
+        ∙ ap (λ (k : ℕ). countLevels k (rowAt p n c g) (rowStride p g) (p .ballots) (p .offset) (p .digits)
         ++ allLevels p n m c (suc g) (p .grades - 2 - (g + 1))) (sym e)
-        ∙ ap (λ (k : ℕ). countLevels q (rowAt p n c g) (rowApart p g) (p .ballots) (p .offset) (p .digits)
+        ∙ ap (λ (k : ℕ). countLevels q (rowAt p n c g) (rowStride p g) (p .ballots) (p .offset) (p .digits)
         ++ allLevels p n m c k (p .grades - 2 - (g + 1))) (sym (add-one g))
       where
         first : (t : ℕ) → allLevels p n m c g (suc t)
-            ≡ countLevels (levelsFrom p m g) (rowAt p n c g) (rowApart p g) (p .ballots) (p .offset) (p .digits)
+            ≡ countLevels (sumLevelsFrom p m g) (rowAt p n c g) (rowStride p g) (p .ballots) (p .offset) (p .digits)
             ++ allLevels p n m c (suc g) t
         first t = unfold allLevels sumLevels in refl
 
@@ -81,7 +81,7 @@ module _ (p : Plan) (n c : ℕ) where
     unfolding allLevels
     levels-end g t h = let e : t - g ≡ 0 = omega arith in rw e
 
-    pub words-turn : (g q : ℕ) → g + 2 < p .grades → q ≡ levelsFrom p m g
+    pub words-turn : (g q : ℕ) → g + 2 < p .grades → q ≡ sumLevelsFrom p m g
         → keyWords p n m c g (p .grades - 2 - g)
         ≡ countDigitsAs 2 3 q (rowAt p n c g) (p .ballots) (p .offset) (p .digits)
         ++ keyWords p n m c (g + 1) (p .grades - 2 - (g + 1))
@@ -93,7 +93,7 @@ module _ (p : Plan) (n c : ℕ) where
         ++ keyWords p n m c k (p .grades - 2 - (g + 1))) (sym (add-one g))
       where
         first : (t : ℕ) → keyWords p n m c g (suc t)
-            ≡ countDigitsAs 2 3 (levelsFrom p m g) (rowAt p n c g) (p .ballots) (p .offset) (p .digits)
+            ≡ countDigitsAs 2 3 (sumLevelsFrom p m g) (rowAt p n c g) (p .ballots) (p .offset) (p .digits)
             ++ keyWords p n m c (suc g) t
         first t = unfold keyWords keyWord in refl
 
@@ -109,14 +109,14 @@ module _ (p : Plan) (f : Planned p) where
   pub few-digits : p .digits < 255
   few-digits = omega (arith, less-power (p .digits), f .low, f .n-most)
 
-  pub apart-most : apart p ≤ 56
+  pub apart-most : ballotStride p ≤ 56
   apart-most = mul-le-mul {n₁ = p .candidates} {m₁ = p .grades} {n₂ = 8} {m₂ = 7} (f .k-most) (f .d-most)
 
   pub bits-most : (c g : ℕ) → c < p .candidates → g < p .grades → bitsAt p c g < 56
   bits-most c g hc hg = omega (arith, row-below p f c g hc hg, apart-most)
 
-  pub row-apart-most : (g : ℕ) → rowApart p g ≤ 56
-  unfolding rowApart
+  pub row-apart-most : (g : ℕ) → rowStride p g ≤ 56
+  unfolding rowStride
   row-apart-most zero = apart-most
   row-apart-most (suc g) = omega arith
 

@@ -7,8 +7,8 @@ ghost use Prim.Native.Nat.{suc, _-_, _*_};
 ghost use Rattle.gate_words.specs.Writing.{Wrote};
 ghost use Rattle.gate_words.specs.Rows.{xorRows};
 ghost use Rattle.gate_words.specs.Counter.{countLevels};
-ghost use Rattle.graded_circuit.specs.Plan.{Planned, bitsAt, apart};
-ghost use Rattle.graded_circuit.specs.RunningSums.{sumSize, worstSize, rowAt, rowApart, rows, allLevels, worstLevels};
+ghost use Rattle.graded_circuit.specs.Plan.{Planned, bitsAt, ballotStride};
+ghost use Rattle.graded_circuit.specs.RunningSums.{sumSize, worstSize, rowAt, rowStride, rows, allLevels, worstLevels};
 ghost use Rattle.graded_sums.specs.inner.Ready.{GradeOf, RowOf, PartReady, GradeReady, GradesReady};
 
 // The first of a candidate's bits of a grade.
@@ -22,7 +22,7 @@ pub(crate) fn bits_at(p: Plan, c: u32, g: u32) -> u32
 // How far apart they are.
 fn apart(p: Plan) -> u32
     requires { ⌜ Planned p ⌝ }
-    ensures { λ r. ⌜ r ≡ apart p ⌝ }
+    ensures { λ r. ⌜ r ≡ ballotStride p ⌝ }
 {
     p.candidates * p.grades
 }
@@ -40,7 +40,7 @@ pub(crate) fn row_at(p: Plan, n: u32, c: u32, g: u32) -> u32
 
 fn row_apart(p: Plan, g: u32) -> u32
     requires { ⌜ Planned p ⌝ }
-    ensures { λ r. ⌜ r ≡ rowApart p g ⌝ }
+    ensures { λ r. ⌜ r ≡ rowStride p g ⌝ }
 {
     if g == 0 {
         return apart(p);
@@ -53,7 +53,8 @@ fn next_row(w: Writer, table: &mut [u32], p: Plan, n: u32, c: u32, g: u32) -> Wr
     requires { ⌜ GradeReady w p n (w .wire) c g (p .ballots) ⌝ }
     ensures { λ r. ⌜
         Wrote w (now (table .entry))
-        (xorRows (rowAt p n c g) (rowApart p g) (bitsAt p c (suc g)) (apart p) (p .ballots)) (now (table .exit)) r
+        (xorRows (rowAt p n c g) (rowStride p g) (bitsAt p c (suc g)) (ballotStride p) (p .ballots))
+        (now (table .exit)) r
         ⌝ }
 {
     let row = row_at(p, n, c, g);
@@ -85,7 +86,7 @@ fn sum_levels(w: Writer, table: &mut [u32], p: Plan, n: u32, c: u32, g: u32) -> 
     requires { ⌜ GradeReady w p n (w .wire) c g (sumSize p) ⌝ }
     ensures { λ r. ⌜
         Wrote w (now (table .entry))
-        (countLevels (w .wire) (rowAt p n c g) (rowApart p g) (p .ballots) (p .offset) (p .digits)) (now (table .exit))
+        (countLevels (w .wire) (rowAt p n c g) (rowStride p g) (p .ballots) (p .offset) (p .digits)) (now (table .exit))
         r
         ⌝ }
 {

@@ -24,20 +24,20 @@ use Rattle.graded_circuit.specs.declared.plan.Plan.{Plan}
 use Rattle.graded_circuit.specs.Plan.{planOf, Planned}
 use Rattle.graded_circuit.specs.Key.{keySpan, candidate, candidateSpan}
 use Rattle.graded_circuit.specs.Contest.{resultAt}
-use Rattle.graded_circuit.specs.Merge.{andAll, keepWinners, merge, mergeSpan, wonAt, better}
-use Rattle.graded_circuit.specs.OwnList.{candidates, keyAt, levelsSpan, bestKey, winnerFlags, otherAt, mergeAt, halvesMerge, halvesBetter, levels, lowLevels, levelsAt, circuit, ownList}
+use Rattle.graded_circuit.specs.Merge.{andAll, keepWinners, merge, mergeSpan, wonAt, betterKey}
+use Rattle.graded_circuit.specs.OwnList.{candidatesFrom, keyAt, levelsSpan, bestKey, winnerFlags, otherAt, mergeAt, halvesMerge, halvesBetter, levels, lowLevels, levelsAt, circuit, ownGrading}
 use Rattle.graded_circuit.proofs.Planning.{planned}
 use Rattle.graded_circuit.proofs.CandidateBlocks.{key-of}
 use Rattle.graded_circuit.proofs.LevelsLaws.{key-before, span-more, key-one, key-more, won-more, levels-more}
 use Rattle.graded_circuit.proofs.CircuitLaws.{circuit-block}
 use Rattle.graded_circuit.proofs.OwnListLaws.{own-list-short}
 
-pub own-one : (s : Shape) → s .candidates ≡ 1 → constant 1 ∷ [] ≡ ownList s
-unfolding ownList
+pub own-one : (s : Shape) → s .candidates ≡ 1 → constant 1 ∷ [] ≡ ownGrading s
+unfolding ownGrading
 own-one s e = rw (eq-eqb (s .candidates) 1 e)
 
-pub own-more : (s : Shape) (p : Plan) → p ≡ planOf s → (s .candidates ≡ 1 → ⊥) → circuit p ≡ ownList s
-unfolding ownList
+pub own-more : (s : Shape) (p : Plan) → p ≡ planOf s → (s .candidates ≡ 1 → ⊥) → circuit p ≡ ownGrading s
+unfolding ownGrading
 own-more s p e h = ap circuit e ∙ rw (ne-eqb (s .candidates) 1 h)
 
 -- what comes after the candidates
@@ -52,7 +52,7 @@ allLevelsSpan p =
     levelsSpan p lowLevels (p .candidates / 2)
     + (levelsSpan p lowLevels (p .candidates - p .candidates / 2) + mergeSpan p (p .candidates / 2) (p .candidates - p .candidates / 2))
 
-pub circuit-parts : (p : Plan) → candidates p (p .inputs) 0 (p .candidates) ++ allLevels p ≡ circuit p
+pub circuit-parts : (p : Plan) → candidatesFrom p (p .inputs) 0 (p .candidates) ++ allLevels p ≡ circuit p
 unfolding circuit
 circuit-parts p = simp append-assoc
 
@@ -121,12 +121,12 @@ won-many at stays (suc zero) h = absurd (omega arith)
 won-many at stays (suc (suc m)) h = unfold keepWinners in refl
 
 -- the candidates that are left
-pub candidates-step : (p : Plan) (n c k : ℕ) → c < k → candidates p n c (k - c) ≡ candidate p n c
-    ++ candidates p (n + candidateSpan p) (c + 1) (k - (c + 1))
-candidates-step p n c k h = let e : k - c ≡ suc (k - (c + 1)) = omega arith in ap (candidates p n c) e ∙ (unfold candidates in refl)
+pub candidates-step : (p : Plan) (n c k : ℕ) → c < k → candidatesFrom p n c (k - c) ≡ candidate p n c
+    ++ candidatesFrom p (n + candidateSpan p) (c + 1) (k - (c + 1))
+candidates-step p n c k h = let e : k - c ≡ suc (k - (c + 1)) = omega arith in ap (candidatesFrom p n c) e ∙ (unfold candidatesFrom in refl)
 
-pub candidates-none : (p : Plan) (n c k : ℕ) → k ≤ c → candidates p n c (k - c) ≡ []
-unfolding candidates
+pub candidates-none : (p : Plan) (n c k : ℕ) → k ≤ c → candidatesFrom p n c (k - c) ≡ []
+unfolding candidatesFrom
 candidates-none p n c k h = let e : k - c ≡ 0 = omega arith in rw e
 
 -- where the key of a group and its wires are, by the end of its merges
@@ -157,7 +157,7 @@ pair-parts : (p : Plan) (n c : ℕ) → levels p 0 n c 1 ++ levels p 0 (otherAt 
     ++ halvesMerge p 0 n c 2 ++ halvesBetter p 0 n c 2
     ≡ merge p (n + 0 + 0) (keyAt p c) (keyAt p (c + 1)) 0 0 1 1
     ++ choose (resultAt p (n + 0 + 0) + 1) (keyAt p c) (keyAt p (c + 1)) (keySpan p)
-unfolding levels halvesMerge halvesBetter bestKey winnerFlags levelsSpan better
+unfolding levels halvesMerge halvesBetter bestKey winnerFlags levelsSpan betterKey
 pair-parts p n c = refl
 
 pub pair-is : (p : Plan) (n c : ℕ) → levels p 1 n c 2
@@ -202,7 +202,7 @@ pub better-same : (p : Plan) (r n c m q mid end : ℕ) → q ≡ resultAt p (mer
     → choose q (cond (leb (m / 2) 1) (keyAt p c) (mid - keySpan p))
     (cond (leb (m - m / 2) 1) (keyAt p (c + m / 2)) (end - keySpan p)) (keySpan p)
     ≡ halvesBetter p (suc r) n c m
-unfolding halvesBetter better
+unfolding halvesBetter betterKey
 better-same p r n c m q mid end eq em ee =
     let l = m / 2 in
     let h = m - m / 2 in

@@ -16,15 +16,17 @@ ghost use Rattle.gate_words.specs.Writing.{Wrote};
 ghost use Rattle.jury.specs.Shape.{gradedLimits, ballotBytes};
 ghost use Rattle.graded_circuit.specs.Key.{keySpan};
 ghost use Rattle.graded_circuit.specs.Merge.{merge};
-ghost use Rattle.graded_circuit.specs.OwnList.{candidates, keyAt, levelsSpan, levels, otherAt, halvesMerge};
-ghost use Rattle.graded_circuit.specs.OwnList.{lowLevels, levelsAt, circuit, ownList};
+ghost use Rattle.graded_circuit.specs.OwnList.{candidatesFrom, keyAt, levelsSpan, levels, otherAt, halvesMerge};
+ghost use Rattle.graded_circuit.specs.OwnList.{lowLevels, levelsAt, circuit, ownGrading};
 ghost use Rattle.graded_writer.specs.inner.Ready.{CandidatesReady, KeyAtReady, BestReady, WinnersReady, GroupReady};
 ghost use Rattle.graded_writer.specs.inner.Ready.{HalvesReady, LevelsReady, CircuitReady};
 
 // The circuits of all candidates.
 fn candidates(w: Writer, table: &mut [u32], p: Plan) -> Writer
     requires { ⌜ CandidatesReady w p ⌝ }
-    ensures { λ r. ⌜ Wrote w (now (table .entry)) (candidates p (w .wire) 0 (p .candidates)) (now (table .exit)) r ⌝ }
+    ensures { λ r. ⌜
+        Wrote w (now (table .entry)) (candidatesFrom p (w .wire) 0 (p .candidates)) (now (table .exit)) r
+        ⌝ }
 {
     let count = p.candidates;
     let mut next = w;
@@ -166,7 +168,7 @@ fn circuit(w: Writer, table: &mut [u32], p: Plan) -> Writer
 pub fn own_list(shape: Shape, table: &mut [u32]) -> Writer
     requires { ⌜ T (gradedLimits shape) ⌝ }
     ensures { λ r. ⌜
-        Wrote (record { gate = 0; wire = ballotBytes shape; conditional = 0 }) (now (table .entry)) (ownList shape)
+        Wrote (record { gate = 0; wire = ballotBytes shape; conditional = 0 }) (now (table .entry)) (ownGrading shape)
         (now (table .exit)) r
         ⌝ }
 {

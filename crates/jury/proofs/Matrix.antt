@@ -38,6 +38,11 @@ array-rows s xs w =
         ∙ tabulate-cong d (entryAfter s xs n c) (countOf s xs c) (λ g l. entry-inside s xs n c g h l)
 
 -- every row of the array has seven counts
+pub array-eight : (s : Shape) (xs : List ℕ) → length (countArray s xs) ≡ 8
+unfolding countArray
+array-eight s xs =
+    length-tabulate 8 (λ c. tabulate 7 (λ g. cond (ltb c (s .candidates) && ltb g (s .grades)) (countOf s xs c g) 0))
+
 pub array-columns : (s : Shape) (xs : List ℕ) (i : ℕ) → i < 8 → length (getD (countArray s xs) i []) ≡ 7
 unfolding countArray
 array-columns s xs i l = rw (getD-tabulate 8 i

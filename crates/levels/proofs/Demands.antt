@@ -15,7 +15,7 @@ use Rattle.gates.specs.inner.Step.{gateAt}
 use Rattle.gates.proofs.Table.{gates-from}
 use Rattle.gates.proofs.Laws.{AllGood, all-good}
 use Rattle.gate_levels.specs.Levels.{wireLevel, gateLevel, levelsOf, roundsOf}
-use Rattle.gate_levels.proofs.Laws.{length-levels, Leveled, levels-leveled, OperandLevels, operand-levels, largest-most, rounds-most}
+use Rattle.gate_levels.proofs.Laws.{length-levels, Leveled, levels-leveled, OperandLevels, operand-levels, maximum-most, rounds-most}
 use Rattle.jury.specs.declared.shape.Shape.{Shape}
 use Rattle.jury.specs.Shape.{ballotBytes}
 use Rattle.jury.specs.Reason.{Reason, reasonAt, firstOf}
@@ -25,7 +25,7 @@ use Rattle.tally.specs.Test.{testReasons, testOutcome}
 use Rattle.tally.proofs.TestReasons.{test-passed}
 use Rattle.levels.specs.Answer.{Depths, depthsOf}
 use Rattle.levels.specs.Levels.{levelsReasons, levelsOutcome, levelsWritten, LevelsResult}
-use Rattle.levels.specs.Demands.{Memory, OperandBelow, Depth, Demands}
+use Rattle.levels.specs.Demands.{LevelsMemory, OperandBelow, Depth, LevelsHold}
 use Rattle.tally.proofs.RunReasons.{outcome-refused, accepted-values}
 use Rattle.levels.proofs.Reasons.{ListFacts, list-facts, both-passed, call-refused, call-accepted}
 use Rattle.tally.proofs.Numbering.{All, first-fine, both, unless-fine, list-fine, outcome-fine, refused-fine}
@@ -68,7 +68,7 @@ written-length s table levels = go (firstOf (levelsReasons s table levels)) refl
     go none e = ap (λ (q : LevelsResult). length (q .levels)) (sym (call-accepted s table levels e))
         ∙ length-levels (ballotBytes s) (gatesOf table) ∙ sym (both-passed s table levels e .1)
 
-pub memory : Memory
+pub memory : LevelsMemory
 unfolding Each
 memory s table levels =
     record {
@@ -164,7 +164,7 @@ module _ (s : Shape) (table levels : List ℕ) (depths : Depths) (e : levelsOutc
       }
     where
       most : (g : ℕ) → getD (levelsOf (ballotBytes s) (gatesOf table)) g 0 ≤ roundsOf (ballotBytes s) (gatesOf table)
-      most g = unfold roundsOf in largest-most (levelsOf (ballotBytes s) (gatesOf table)) g
+      most g = unfold roundsOf in maximum-most (levelsOf (ballotBytes s) (gatesOf table)) g
 
-pub demands : Demands
-demands = record { memory = memory; depth = depth }
+pub levels-hold : LevelsHold
+levels-hold = record { memory = memory; depth = depth }

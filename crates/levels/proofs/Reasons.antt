@@ -19,12 +19,12 @@ use Rattle.jury.specs.declared.shape.Shape.{Shape}
 use Rattle.jury.specs.Shape.{withinLimits, ballotBytes}
 use Rattle.jury.specs.Reason.{Reason, reasonAt, unless, firstOf}
 use Rattle.jury.proofs.Limits.{some-bytes}
-use Rattle.tally.specs.Answer.{Outcome, refused, accepted, outcome, sizeOf}
+use Rattle.tally.specs.Answer.{Outcome, refused, accepted, outcome, sizeOf, afterwards}
 use Rattle.tally.specs.Test.{testReasons, testOutcome}
 use Rattle.tally.proofs.TestReasons.{orElse, first-append, TestPassed}
 use Rattle.tally.proofs.RunReasons.{outcome-refused}
 use Rattle.levels.specs.Answer.{Depths, depthsOf}
-use Rattle.levels.specs.Levels.{levelsReasons, levelsOutcome, afterwards, levelsWritten, LevelsResult, levelsResult}
+use Rattle.levels.specs.Levels.{levelsReasons, levelsOutcome, levelsWritten, LevelsResult, levelsResult}
 
 -- what an accepted test says about the list
 pub record ListFacts (s : Shape) (table : List ℕ) (gates conditional : ℕ) : Type 0 where

@@ -20,8 +20,8 @@ use Rattle.levels.specs.Levels.{levelsOutcome, levelsWritten}
 abbrev pub levelTable : (s : Shape) (table levels : List ℕ) → Lent
 levelTable s table levels = record { before = levels; after = levelsWritten s table levels }
 
-abbrev pub Memory : Type 0
-Memory =
+abbrev pub LevelsMemory : Type 0
+LevelsMemory =
     (s : Shape) (table levels : List ℕ)
     → KeepsMemory (1 ∷ 2 ∷ 3 ∷ 200 ∷ []) (levelsOutcome s table levels) (levelTable s table levels ∷ []) []
 
@@ -41,7 +41,7 @@ pub record Depth (s : Shape) (table levels : List ℕ) (depths : Depths) : Type 
   pub b-operand : (g : ℕ) → g < depths .gates → OperandBelow s table levels g (gateAt table g .b)
   pub c-operand : (g : ℕ) → g < depths .gates → OperandBelow s table levels g (gateAt table g .c)
 
-pub record Demands : Type 0 where
-  pub memory : Memory
+pub record LevelsHold : Type 0 where
+  pub memory : LevelsMemory
   pub depth : (s : Shape) (table levels : List ℕ) (depths : Depths) → levelsOutcome s table levels ≡ accepted depths
       → Depth s table levels depths

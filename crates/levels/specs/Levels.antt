@@ -1,5 +1,5 @@
 -- The entry point [levels].
-use mathlib.Core.Option.{Option, none, some}
+use mathlib.Core.Option.{Option}
 use mathlib.Core.List.{List, [], _∷_, _++_}
 use Prim.Native.Nat.{ℕ}
 use lib.Dec.{eqb}
@@ -9,7 +9,7 @@ use Rattle.gate_levels.specs.Levels.{levelsOf}
 use Rattle.jury.specs.declared.shape.Shape.{Shape}
 use Rattle.jury.specs.Shape.{ballotBytes}
 use Rattle.jury.specs.Reason.{Reason, unless, firstOf}
-use Rattle.tally.specs.Answer.{Outcome, outcome}
+use Rattle.tally.specs.Answer.{Outcome, outcome, afterwards}
 use Rattle.tally.specs.Test.{testReasons}
 use Rattle.levels.specs.Answer.{Depths, depthsOf}
 
@@ -21,11 +21,6 @@ levelsReasons s table levels = testReasons s table ++ unless (eqb (length levels
 unfoldable pub levelsOutcome : Shape → List ℕ → List ℕ → Outcome Depths
 levelsOutcome s table levels =
     outcome (firstOf (levelsReasons s table levels)) (depthsOf (ballotBytes s) (gatesOf table))
-
--- A lent table afterwards: new if the call is accepted, unchanged on a refusal.
-unfoldable pub afterwards : Option Reason → List ℕ → List ℕ → List ℕ
-afterwards (some r) new old = old
-afterwards none new old = new
 
 unfoldable pub levelsWritten : Shape → List ℕ → List ℕ → List ℕ
 levelsWritten s table levels =

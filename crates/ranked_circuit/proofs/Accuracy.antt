@@ -12,7 +12,7 @@ use lib.ListN.{length, length-append}
 use Rattle.gates.specs.Gate.{Gate}
 use Rattle.gates.proofs.Laws.{AllGood, Holds, holds-append, good-append, good-one, operand-counts}
 use Rattle.gate_words.specs.Gates.{notOf}
-use Rattle.gate_words.specs.Word.{ones, number}
+use Rattle.gate_words.specs.Word.{onesAt, number}
 use Rattle.gate_words.specs.Counter.{Countable}
 use Rattle.gate_words.proofs.Laws.{Binary, bit-cases}
 use Rattle.gate_words.proofs.GateValues.{not-is}
@@ -28,7 +28,7 @@ use Rattle.rule_schulze.proofs.Tables.{detour-stays}
 use Rattle.ranked_circuit.specs.Table.{blocks}
 use Rattle.ranked_circuit.specs.Paths.{linkWire, pathsTo}
 use Rattle.ranked_circuit.specs.Contests.{duelsFrom, duels, duelAt, meetingsFrom, meetings, meetingAt, beatsAt}
-use Rattle.ranked_circuit.specs.RankedList.{other, joined, loserRow, loserRows, outputGates, losersFrom, pairFrom, rankedList}
+use Rattle.ranked_circuit.specs.RankedList.{other, joinedWire, loserRow, loserRows, outputGates, losersFrom, pairFrom, rankedList}
 use Rattle.ranked_circuit.proofs.TableLaws.{startOf, length-same, block-holds, blocks-good}
 use Rattle.ranked_circuit.proofs.StageLaws.{link-told}
 use Rattle.ranked_circuit.proofs.PathLaws.{links-told, paths-spelled, after-detours}
@@ -49,7 +49,7 @@ module _ (beats : ℕ → ℕ → ℕ) (r n : ℕ) where
   rows-length = length-same n (loserRow beats r) r (λ at i. row-length beats r at i) k
 
   abbrev output : ℕ → ℕ → List Gate
-  output wire i = notOf (joined beats (suc r) (n + i * r) i (2 * r)) ∷ []
+  output wire i = notOf (joinedWire beats (suc r) (n + i * r) i (2 * r)) ∷ []
 
   output-start : (i : ℕ) → startOf (n + k * r) output i ≡ n + k * r + i
   output-start i = omega (arith, length-same (n + k * r) output 1 (λ wire i. refl) i)
@@ -72,10 +72,10 @@ module _ (beats : ℕ → ℕ → ℕ) (r n : ℕ) where
       (λ i l.
       let rows : i * r + r ≤ k * r = row-fits i l in
       let wire = startOf (n + k * r) output i in
-      let low : joined beats (suc r) (n + i * r) i (2 * r) < wire =
+      let low : joinedWire beats (suc r) (n + i * r) i (2 * r) < wire =
       item-before beats r (n + i * r) i wire r (2 * r) (omega arith) (omega arith)
       (λ s q. let h = below (other i s) i (other-low i s r q) l (other-apart i s) in omega arith) in
-      (good-one wire 3 (joined beats (suc r) (n + i * r) i (2 * r)) (omega arith) (operand-counts .3) low, tt))
+      (good-one wire 3 (joinedWire beats (suc r) (n + i * r) i (2 * r)) (omega arith) (operand-counts .3) low, tt))
     where
       row-fits : (i : ℕ) → i < k → i * r + r ≤ k * r
       row-fits i l = omega (arith, row-within i k r l)
@@ -86,7 +86,7 @@ module _ (beats : ℕ → ℕ → ℕ) (r n : ℕ) where
       (winner-unbeaten : wins v k i ≡ true → (j : ℕ) → j < k → j ≢ i → W (beats j i) ≡ 0)
       (unbeaten-winner : ((j : ℕ) → j < k → j ≢ i → W (beats j i) ≡ 0) → wins v k i ≡ true) where
     lost : ℕ
-    lost = joined beats (suc r) (n + i * r) i (2 * r)
+    lost = joinedWire beats (suc r) (n + i * r) i (2 * r)
 
     row-holds : Holds W (n + i * r) (loserRow beats r (n + i * r) i)
     unfolding loserRows
@@ -112,7 +112,7 @@ module _ (beats : ℕ → ℕ → ℕ) (r n : ℕ) where
     output-is : W (n + k * r + i) ≡ 1 - W lost
     unfolding outputGates lost
     output-is = ap W (sym (output-start i)) ∙ block-holds (n + k * r) output W k i hi outputs .0
-        ∙ not-is W b (joined beats (suc r) (n + i * r) i (2 * r))
+        ∙ not-is W b (joinedWire beats (suc r) (n + i * r) i (2 * r))
 
     -- output gate i says whether i wins
     pub output-law : W (n + k * r + i) ≡ cond (wins v k i) 1 0
@@ -240,7 +240,7 @@ module _ (r n w : ℕ) where
       outputs = unfold lastGates in (outputs-good (beatsAt k₂ n w) (suc r) (losersFrom k₂ n w) beats-below)
 
   module _ (W : ℕ → ℕ) (b : Binary W) (v : ℕ → ℕ → ℕ) (countable : Countable n 0 w)
-      (counted : (i j : ℕ) → i < k₂ → j < k₂ → i ≢ j → ones W (i * k₂ + j) (k₂ * k₂) n ≡ v i j)
+      (counted : (i j : ℕ) → i < k₂ → j < k₂ → i ≢ j → onesAt W (i * k₂ + j) (k₂ * k₂) n ≡ v i j)
       (h : Holds W (n * k₂ * k₂) (rankedList (suc (suc (suc r))) n w)) where
     whole : Holds W (n * k₂ * k₂) (pathGates ++ duelGates ++ meetingGates ++ rowGates ++ lastGates)
     whole = subst (λ (gs : List Gate). Holds W (n * k₂ * k₂) gs) list-is h
@@ -433,7 +433,7 @@ module _ (n w : ℕ) where
       below = unfold pairFrom in (link-below 2 n w 0)
 
   module _ (W : ℕ → ℕ) (b : Binary W) (v : ℕ → ℕ → ℕ) (countable : Countable n 0 w)
-      (counted : (i j : ℕ) → i < 2 → j < 2 → i ≢ j → ones W (i * 2 + j) (2 * 2) n ≡ v i j)
+      (counted : (i j : ℕ) → i < 2 → j < 2 → i ≢ j → onesAt W (i * 2 + j) (2 * 2) n ≡ v i j)
       (h : Holds W (n * 2 * 2) (rankedList 2 n w)) where
     pair-holds : Holds W (n * 2 * 2) (pathsTo 2 n w 0 .gates)
         × Holds W (pairFrom n w + 2 * 0) (outputGates (linkWire 2 n w) 0 (pairFrom n w) 2)
@@ -495,7 +495,7 @@ circuit-good zero n w c = pair-good n w c
 circuit-good (suc r) n w c = several-good r n w c
 
 pub closing-law : (r n w : ℕ) (W : ℕ → ℕ) → Binary W → (v : ℕ → ℕ → ℕ) → Countable n 0 w
-    → ((i j : ℕ) → i < suc (suc r) → j < suc (suc r) → i ≢ j → ones W (i * suc (suc r) + j) (suc (suc r) * suc (suc r)) n ≡ v i j)
+    → ((i j : ℕ) → i < suc (suc r) → j < suc (suc r) → i ≢ j → onesAt W (i * suc (suc r) + j) (suc (suc r) * suc (suc r)) n ≡ v i j)
     → Holds W (n * suc (suc r) * suc (suc r)) (rankedList (suc (suc r)) n w) → (i : ℕ) → i < suc (suc r)
     → W (outputsFrom r n w + i) ≡ cond (wins v (suc (suc r)) i) 1 0
 unfolding outputsFrom

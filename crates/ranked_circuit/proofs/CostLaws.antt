@@ -11,7 +11,7 @@ use Rattle.gates.specs.Board.{conditionalCount}
 use Rattle.gates.proofs.Laws.{marks}
 use Rattle.gates.proofs.Counting.{count-cons, count-nil, count-append}
 use Rattle.gate_words.specs.Gates.{copyOf, notOf, andOf, orOf, xorOf, muxOf}
-use Rattle.gate_words.specs.Choice.{choose, masked, chain}
+use Rattle.gate_words.specs.Choice.{choose, masked, chainOf}
 use Rattle.gate_words.specs.Comparison.{firstDigit, compareWords, differences, above}
 use Rattle.gate_words.specs.Halves.{anyOfHalves, unequalHalves, unequalSpan, unequalAt, aboveHalves, aboveAt, compareHalves}
 use Rattle.gate_words.specs.Adder.{fullAdder, halfAdder}
@@ -162,10 +162,10 @@ order-cost n x y w = omega (
   above-cost (n + w) n (x + 1) x w,
 )
 
-chain-cost : (n s at d m : ℕ) → conditionalCount (chain 5 n s at d m) ≡ m
-unfolding chain
+chain-cost : (n s at d m : ℕ) → conditionalCount (chainOf 5 n s at d m) ≡ m
+unfolding chainOf
 chain-cost n s at d zero = count-nil
-chain-cost n s at d (suc m) = marked (orOf s at) (chain 5 (n + 1) n (at + d) d m) (marks .5) ∙ ap suc (chain-cost (n + 1) n (at + d) d m)
+chain-cost n s at d (suc m) = marked (orOf s at) (chainOf 5 (n + 1) n (at + d) d m) (marks .5) ∙ ap suc (chain-cost (n + 1) n (at + d) d m)
 
 -- words of h + 1 digits, told in one chain
 tells-cost : (n x y h : ℕ) → conditionalCount (compareHalves n x y h 0) ≡ 2 * h
@@ -173,7 +173,7 @@ unfolding compareHalves unequalHalves anyOfHalves aboveHalves
 tells-cost n x y h =
     let e = h + 0 in
     let differ = differences x y (suc e) in
-    let any = chain 5 (n + suc e) n (n + 1) 1 h in
+    let any = chainOf 5 (n + suc e) n (n + 1) 1 h in
     let over = above (n + unequalSpan e) (n + 1) (x + 1) x h in
     omega (
       arith,

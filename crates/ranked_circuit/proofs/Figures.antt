@@ -17,7 +17,7 @@ use Rattle.ranked_circuit.specs.Table.{blocks, entries, table}
 use Rattle.ranked_circuit.specs.Stages.{votesBlock, laterOf, linksBlock, stays, cutAt, newWord, pathBlock}
 use Rattle.ranked_circuit.specs.Paths.{votesAt, votesTable, linksFrom, linksTable, linkWire, nextPaths, pathsTo}
 use Rattle.ranked_circuit.specs.Contests.{duelsFrom, duels, duelAt, meeting, meetingsBlock, meetingsFrom, meetings, beatsAt}
-use Rattle.ranked_circuit.specs.RankedList.{joined, loserRow, loserRows, outputGates, losersFrom, pairFrom, rankedList}
+use Rattle.ranked_circuit.specs.RankedList.{joinedWire, loserRow, loserRows, outputGates, losersFrom, pairFrom, rankedList}
 use Rattle.ranked_circuit.proofs.TableLaws.{startOf}
 use Rattle.ranked_circuit.proofs.StageLaws.{cut-most}
 use Rattle.ranked_circuit.proofs.Accuracy.{pathGates, duelGates, meetingGates, rowGates, lastGates, list-is, pair-is}
@@ -171,15 +171,15 @@ module _ (f : List Gate → ℕ) (g : Figure f) where
       where
         row : (at i : ℕ) → f (loserRow beats r at i) ≡ r * o
         row at i = unfold loserRow in (blocks-figure
-            (λ wire t. orOf (joined beats (suc r) at i (2 * t)) (joined beats (suc r) at i (2 * t + 1)) ∷ [])
-            (λ t. o) (λ wire t. a .joins (joined beats (suc r) at i (2 * t))
-            (joined beats (suc r) at i (2 * t + 1))) at r ∙ same-sum o r)
+            (λ wire t. orOf (joinedWire beats (suc r) at i (2 * t)) (joinedWire beats (suc r) at i (2 * t + 1)) ∷ [])
+            (λ t. o) (λ wire t. a .joins (joinedWire beats (suc r) at i (2 * t))
+            (joinedWire beats (suc r) at i (2 * t + 1))) at r ∙ same-sum o r)
 
     outputs-figure : (beats : ℕ → ℕ → ℕ) (r from k : ℕ) → f (outputGates beats r from k) ≡ k * x
     unfolding outputGates
     outputs-figure beats r from k =
-        blocks-figure (λ wire i. notOf (joined beats (suc r) (from + i * r) i (2 * r)) ∷ []) (λ i. x)
-        (λ wire i. a .lasts (joined beats (suc r) (from + i * r) i (2 * r))) (from + k * r) k ∙ same-sum x k
+        blocks-figure (λ wire i. notOf (joinedWire beats (suc r) (from + i * r) i (2 * r)) ∷ []) (λ i. x)
+        (λ wire i. a .lasts (joinedWire beats (suc r) (from + i * r) i (2 * r))) (from + k * r) k ∙ same-sum x k
 
     -- all of the list
     pub by-tables : (r : ℕ) → f (rankedList (suc (suc (suc r))) n w) ≡

@@ -14,7 +14,7 @@ use Rattle.gate_words.specs.Gates.{orOf}
 use Rattle.gate_words.proofs.Laws.{Binary}
 use Rattle.gate_words.proofs.GateValues.{or-is}
 use Rattle.basics.proofs.Cases.{below-or-not}
-use Rattle.ranked_circuit.specs.RankedList.{other, joined, loserRow}
+use Rattle.ranked_circuit.specs.RankedList.{other, joinedWire, loserRow}
 use Rattle.ranked_circuit.proofs.TableLaws.{startOf, length-same, block-holds, blocks-good}
 
 -- the others are exactly those who are not i
@@ -43,14 +43,14 @@ other-found i j m hi hj ne =
 module _ (beats : ℕ → ℕ → ℕ) (r at i : ℕ) where
   -- number s of what the row joins
   abbrev item : ℕ → ℕ
-  item s = joined beats (suc r) at i s
+  item s = joinedWire beats (suc r) at i s
 
   item-other : (s : ℕ) → s ≤ r → item s ≡ beats (other i s) i
-  unfolding joined
+  unfolding joinedWire
   item-other s h = ap (λ (t : Bool). cond t (beats (other i s) i) (at + (s - suc r))) (lt-ltb s (suc r) (omega arith))
 
   item-own : (t : ℕ) → item (suc r + t) ≡ at + t
-  unfolding joined
+  unfolding joinedWire
   item-own t = ap (λ (c : Bool). cond c (beats (other i (suc r + t)) i) (at + (suc r + t - suc r)))
       (le-ltb (suc r + t) (suc r) (omega arith)) ∙ omega arith
 

@@ -15,7 +15,7 @@ use Rattle.gates.proofs.Laws.{AllGood, Holds, wires-hold, wires-bits, wire-bit,
 use Rattle.gates.proofs.WireLaws.{length-wires}
 use Rattle.gates.proofs.Accepting.{good-list-accepted}
 use Rattle.gate_words.specs.Gates.{constant}
-use Rattle.gate_words.specs.Word.{ones}
+use Rattle.gate_words.specs.Word.{onesAt}
 use Rattle.gate_words.specs.Counter.{Countable}
 use Rattle.gate_words.proofs.Laws.{Binary, countable}
 use Rattle.gate_words.proofs.PointsBack.{good-constant}
@@ -23,7 +23,7 @@ use Rattle.gate_words.proofs.GateValues.{constant-is, holds-first}
 use Rattle.jury.specs.Width.{widthOf}
 use Rattle.basics.proofs.Tabulate.{length-tabulate, getD-tabulate}
 use Rattle.jury.proofs.WidthLaws.{width-half, below-width, least-width, width-most}
-use Rattle.rule_schulze.specs.Schulze.{wins, closingBytes}
+use Rattle.rule_schulze.specs.Schulze.{wins, schulzeOf}
 use Rattle.rule_schulze.specs.Votes.{votes}
 use Rattle.rule_schulze.proofs.Winning.{unbeaten-wins}
 use Rattle.ranked_circuit.specs.RankedList.{rankedList}
@@ -43,8 +43,8 @@ ranking-countable n h =
 -- a list of gates whose last k wires say who wins, one by one
 closing-from : (k n : ℕ) (xs : List ℕ) (gs : List Gate) → k ≤ length gs
     → ((i : ℕ) → i < k → wire (wiresOf xs gs) (length xs + length gs - k + i) ≡ cond (wins (votes k n xs) k i) 1 0)
-    → outputsOf k (wiresOf xs gs) ≡ closingBytes (votes k n xs) k
-unfolding closingBytes
+    → outputsOf k (wiresOf xs gs) ≡ schulzeOf (votes k n xs) k
+unfolding schulzeOf
 closing-from k n xs gs enough h =
     let bytes = length-tabulate k (λ i. cond {A = ℕ} (wins (votes k n xs) k i) 1 0) in
     let long : length (outputsOf k (wiresOf xs gs)) ≡ k = length-outputs k (wiresOf xs gs) (omega (arith, length-wires xs gs)) in
@@ -58,7 +58,7 @@ bits-of : (xs : List ℕ) (gs : List Gate) → ((p : ℕ) → getD xs p 0 ≤ 1)
 bits-of xs gs bits good = wire-bit (wiresOf xs gs) (wires-bits xs gs good bits)
 
 -- a single candidate wins
-single : (n : ℕ) (xs : List ℕ) → ((p : ℕ) → getD xs p 0 ≤ 1) → outputsOf 1 (wiresOf xs (constant 1 ∷ [])) ≡ closingBytes (votes 1 n xs) 1
+single : (n : ℕ) (xs : List ℕ) → ((p : ℕ) → getD xs p 0 ≤ 1) → outputsOf 1 (wiresOf xs (constant 1 ∷ [])) ≡ schulzeOf (votes 1 n xs) 1
 single n xs bits =
     let gs = constant 1 ∷ [] in
     let good : AllGood (length xs) gs = (good-constant (length xs) 1, tt) in
@@ -75,14 +75,14 @@ outputs-in m n w = omega (arith, list-end m n w, inputs-before m n w)
 
 -- two or more
 several : (m n w : ℕ) (xs : List ℕ) → Countable n 0 w → length xs ≡ n * suc (suc m) * suc (suc m) → ((p : ℕ) → getD xs p 0 ≤ 1) →
-    outputsOf (suc (suc m)) (wiresOf xs (rankedList (suc (suc m)) n w)) ≡ closingBytes (votes (suc (suc m)) n xs) (suc (suc m))
+    outputsOf (suc (suc m)) (wiresOf xs (rankedList (suc (suc m)) n w)) ≡ schulzeOf (votes (suc (suc m)) n xs) (suc (suc m))
 several m n w xs count size bits =
     let k = suc (suc m) in
     let gs = rankedList (suc (suc m)) n w in
     let good : AllGood (length xs) gs = subst (λ (l : ℕ). AllGood l gs) (sym size) (circuit-good m n w count) in
     let W = wire (wiresOf xs gs) in
     let holds : Holds W (n * k * k) gs = subst (λ (l : ℕ). Holds W l gs) size (wires-hold xs gs good) in
-    let counted : (i j : ℕ) → i < k → j < k → i ≢ j → ones W (i * k + j) (k * k) n ≡ votes k n xs i j =
+    let counted : (i j : ℕ) → i < k → j < k → i ≢ j → onesAt W (i * k + j) (k * k) n ≡ votes k n xs i j =
     λ i j hi hj ne. column W xs k n i j hi hj bits (λ p l. wires-start xs gs p (omega arith)) in
     let end = list-end m n w in
     closing-from k n xs gs (outputs-in m n w)

@@ -13,7 +13,7 @@ use Rattle.basics.proofs.Cases.{below-or-not}
 use Rattle.basics.proofs.Flags.{or-either, or-first, or-second}
 use Rattle.gates.specs.Gate.{Gate}
 use Rattle.gates.proofs.Laws.{Holds, holds-append}
-use Rattle.gate_words.specs.Word.{ones, number}
+use Rattle.gate_words.specs.Word.{onesAt, number}
 use Rattle.gate_words.specs.Counter.{countSize, Countable}
 use Rattle.gate_words.proofs.Laws.{Binary}
 use Rattle.rule_schulze.specs.Schulze.{link}
@@ -61,7 +61,7 @@ module _ (v : ℕ → ℕ → ℕ) where
   after-stays (suc (suc l)) i j ne e = detour-stays (suc l) (closure (suc l) (link v)) i j e
 
 module _ (k n w : ℕ) (W : ℕ → ℕ) (b : Binary W) (v : ℕ → ℕ → ℕ) (countable : Countable n 0 w)
-    (counted : (i j : ℕ) → i < k → j < k → i ≢ j → ones W (i * k + j) (k * k) n ≡ v i j) where
+    (counted : (i j : ℕ) → i < k → j < k → i ≢ j → onesAt W (i * k + j) (k * k) n ≡ v i j) where
   abbrev Spelled : (ℕ → ℕ → ℕ) → (ℕ → ℕ → ℕ) → Type 0
   Spelled words t = (i j : ℕ) → i < k → j < k → i ≢ j → number W (words i j) 1 (suc w) ≡ t i j
 

@@ -13,7 +13,7 @@ use borrow.Author.Tests.{eqb-false, ne-eqb, le-leb}
 use Rattle.basics.proofs.Cases.{below-or-not}
 use Rattle.gates.specs.Gate.{Gate}
 use Rattle.gates.proofs.Laws.{Holds, holds-append}
-use Rattle.gate_words.specs.Word.{ones, number}
+use Rattle.gate_words.specs.Word.{onesAt, number}
 use Rattle.gate_words.specs.Choice.{masked}
 use Rattle.gate_words.specs.Counter.{counter, countSize, Countable}
 use Rattle.gate_words.specs.Comparison.{upEnd, downEnd}
@@ -129,11 +129,11 @@ module _ (W : ℕ → ℕ) (b : Binary W) where
 
   -- the number of the ballots whose byte is 1
   pub votes-law : (k n w at i j : ℕ) → i ≢ j → Countable n 0 w → Holds W at (votesBlock k n w at i j)
-      → number W (at + countSize n 0 w) 1 (suc w) ≡ ones W (i * k + j) (k * k) n
+      → number W (at + countSize n 0 w) 1 (suc w) ≡ onesAt W (i * k + j) (k * k) n
   votes-law k n w at i j ne c h =
       counter-law W b at (i * k + j) (k * k) n 0 w c
       (subst (λ (gs : List Gate). Holds W at gs) (votes-moves k n w at i j ne) h)
-      ∙ add-zero (ones W (i * k + j) (k * k) n)
+      ∙ add-zero (onesAt W (i * k + j) (k * k) n)
 
   -- words that are compared; a wire says whether one is larger
   module _ (words t : ℕ → ℕ → ℕ) (k w : ℕ) (spelled : (i j : ℕ) → i < k → j < k → i ≢ j → number W (words i j) 1 (suc w) ≡ t i j) where

@@ -9,7 +9,7 @@ use Rattle.gates.specs.Wires.{wiresOf, outputsOf}
 use Rattle.gates.specs.Test.{tested}
 use Rattle.gates.specs.declared.list.ListCheck.the-variants.{Accepted}
 use Rattle.jury.specs.Width.{widthOf}
-use Rattle.rule_schulze.specs.Schulze.{closingBytes}
+use Rattle.rule_schulze.specs.Schulze.{schulzeOf}
 use Rattle.rule_schulze.specs.Votes.{votes}
 use Rattle.ranked_circuit.specs.RankedList.{rankedList}
 
@@ -30,4 +30,4 @@ pub record OwnRankingHolds (k n : ℕ) : Type 0 where
   pub bounded : length (ownRanking k n) ≤ rankingBound k n (widthOf n)
   -- its closing bytes are those of Schulze's rule, whatever the ballots that are bits
   pub closing : (ballots : List ℕ) → length ballots ≡ n * k * k → ((p : ℕ) → getD ballots p 0 ≤ 1)
-      → outputsOf k (wiresOf ballots (ownRanking k n)) ≡ closingBytes (votes k n ballots) k
+      → outputsOf k (wiresOf ballots (ownRanking k n)) ≡ schulzeOf (votes k n ballots) k

@@ -17,21 +17,22 @@ other i s = cond (ltb s i) s (suc s)
 
 -- What a row of gates from wire `at` on joins for candidate i, who has r others: first the wires by which they beat i,
 -- then the row's own wires. Gate t of the row joins numbers 2 t and 2 t + 1.
-unfoldable pub joined : (ℕ → ℕ → ℕ) → ℕ → ℕ → ℕ → ℕ → ℕ
-joined beats r at i s = cond (ltb s r) (beats (other i s) i) (at + (s - r))
+unfoldable pub joinedWire : (ℕ → ℕ → ℕ) → ℕ → ℕ → ℕ → ℕ → ℕ
+joinedWire beats r at i s = cond (ltb s r) (beats (other i s) i) (at + (s - r))
 
 -- Whether one of r + 1 others beats i: r gates, the last of which has joined all; number 2 r is its wire, or the one
 -- other's.
 unfoldable pub loserRow : (ℕ → ℕ → ℕ) → ℕ → ℕ → ℕ → List Gate
 loserRow beats r at i =
-    blocks at (λ wire t. orOf (joined beats (suc r) at i (2 * t)) (joined beats (suc r) at i (2 * t + 1)) ∷ []) r
+    blocks at
+    (λ wire t. orOf (joinedWire beats (suc r) at i (2 * t)) (joinedWire beats (suc r) at i (2 * t + 1)) ∷ []) r
 
 -- Rows of r gates for k candidates from wire n on, and after them who is not beaten.
 unfoldable pub loserRows : (ℕ → ℕ → ℕ) → ℕ → ℕ → ℕ → List Gate
 loserRows beats r n k = blocks n (loserRow beats r) k
 
 unfoldable pub outputGates : (ℕ → ℕ → ℕ) → ℕ → ℕ → ℕ → List Gate
-outputGates beats r n k = blocks (n + k * r) (λ wire i. notOf (joined beats (suc r) (n + i * r) i (2 * r)) ∷ []) k
+outputGates beats r n k = blocks (n + k * r) (λ wire i. notOf (joinedWire beats (suc r) (n + i * r) i (2 * r)) ∷ []) k
 
 unfoldable pub losersFrom : ℕ → ℕ → ℕ → ℕ
 losersFrom k n w = meetingsFrom k n w + length (meetings k n w)

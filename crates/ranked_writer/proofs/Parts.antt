@@ -16,7 +16,7 @@ use Rattle.ranked_circuit.specs.Table.{blocks, table, entryEnd}
 use Rattle.ranked_circuit.specs.Stages.{votesBlock, linksBlock, linkAt, stays, pathBlock}
 use Rattle.ranked_circuit.specs.Paths.{votesAt, votesTable, linksFrom, linksTable, linkWire, nextPaths, pathsTo}
 use Rattle.ranked_circuit.specs.Contests.{duelsFrom, duels, duelAt, meetingsBlock, meetingsFrom, meetings, meetingAt, beatsAt}
-use Rattle.ranked_circuit.specs.RankedList.{other, joined, loserRow, loserRows, outputGates, losersFrom, pairFrom, rankedList}
+use Rattle.ranked_circuit.specs.RankedList.{other, joinedWire, loserRow, loserRows, outputGates, losersFrom, pairFrom, rankedList}
 use Rattle.ranked_circuit.proofs.StageLaws.{apart-all, apart-zero}
 use Rattle.ranked_circuit.proofs.GoodLaws.{endOf, words-below, votes-below}
 use Rattle.ranked_circuit.proofs.LoserLaws.{other-low, other-apart}
@@ -294,8 +294,8 @@ blocks-agree n block block′ (suc m) same =
 
 -- who beats whom, under the wires that are kept
 module _ (r : ℕ) (beats beats′ : ℕ → ℕ → ℕ) (same : (i j : ℕ) → i < suc (suc r) → j < suc (suc r) → i ≢ j → beats i j ≡ beats′ i j) where
-  joined-agree : (at i s : ℕ) → i < suc (suc r) → joined beats (suc r) at i s ≡ joined beats′ (suc r) at i s
-  unfolding joined
+  joined-agree : (at i s : ℕ) → i < suc (suc r) → joinedWire beats (suc r) at i s ≡ joinedWire beats′ (suc r) at i s
+  unfolding joinedWire
   joined-agree at i s hi =
       ⊎-elim
       (λ (l : s < suc r).
@@ -310,20 +310,20 @@ module _ (r : ℕ) (beats beats′ : ℕ → ℕ → ℕ) (same : (i j : ℕ) �
   unfolding loserRows loserRow
   rows-agree n k h =
       blocks-agree n
-      (λ at i. blocks at (λ wire t. orOf (joined beats (suc r) at i (2 * t)) (joined beats (suc r) at i (2 * t + 1))
-      ∷ []) r) (λ at i. blocks at (λ wire t. orOf (joined beats′ (suc r) at i (2 * t))
-      (joined beats′ (suc r) at i (2 * t + 1)) ∷ []) r) k
+      (λ at i. blocks at (λ wire t. orOf (joinedWire beats (suc r) at i (2 * t)) (joinedWire beats (suc r) at i (2 * t + 1))
+      ∷ []) r) (λ at i. blocks at (λ wire t. orOf (joinedWire beats′ (suc r) at i (2 * t))
+      (joinedWire beats′ (suc r) at i (2 * t + 1)) ∷ []) r) k
       (λ at i l.
-      blocks-agree at (λ wire t. orOf (joined beats (suc r) at i (2 * t)) (joined beats (suc r) at i (2 * t + 1)) ∷
-      []) (λ wire t. orOf (joined beats′ (suc r) at i (2 * t)) (joined beats′ (suc r) at i (2 * t + 1)) ∷ []) r
+      blocks-agree at (λ wire t. orOf (joinedWire beats (suc r) at i (2 * t)) (joinedWire beats (suc r) at i (2 * t + 1)) ∷
+      []) (λ wire t. orOf (joinedWire beats′ (suc r) at i (2 * t)) (joinedWire beats′ (suc r) at i (2 * t + 1)) ∷ []) r
       (λ wire t q.
-      ap (λ (x : ℕ). orOf x (joined beats (suc r) at i (2 * t + 1)) ∷ []) (joined-agree at i (2 * t) (omega arith))
-      ∙ ap (λ (x : ℕ). orOf (joined beats′ (suc r) at i (2 * t)) x ∷ [])
+      ap (λ (x : ℕ). orOf x (joinedWire beats (suc r) at i (2 * t + 1)) ∷ []) (joined-agree at i (2 * t) (omega arith))
+      ∙ ap (λ (x : ℕ). orOf (joinedWire beats′ (suc r) at i (2 * t)) x ∷ [])
       (joined-agree at i (2 * t + 1) (omega arith))))
 
   pub outputs-agree : (n k : ℕ) → k ≤ suc (suc r) → outputGates beats r n k ≡ outputGates beats′ r n k
   unfolding outputGates
   outputs-agree n k h =
-      blocks-agree (n + k * r) (λ wire i. notOf (joined beats (suc r) (n + i * r) i (2 * r)) ∷ [])
-      (λ wire i. notOf (joined beats′ (suc r) (n + i * r) i (2 * r)) ∷ []) k
+      blocks-agree (n + k * r) (λ wire i. notOf (joinedWire beats (suc r) (n + i * r) i (2 * r)) ∷ [])
+      (λ wire i. notOf (joinedWire beats′ (suc r) (n + i * r) i (2 * r)) ∷ []) k
       (λ wire i l. ap (λ (x : ℕ). notOf x ∷ []) (joined-agree (n + i * r) i (2 * r) (omega arith)))

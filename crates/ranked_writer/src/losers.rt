@@ -20,7 +20,7 @@ fn other(i: u32, s: u32) -> u32
 // Number s of what candidate i's row of gates from wire `at` on joins.
 fn joined(beats: &[u32], k: u32, at: u32, i: u32, s: u32) -> u32
     requires { ⌜ JoinedReady (now beats) k at i s ⌝ }
-    ensures { λ r. ⌜ r ≡ spec.joined (keptOf (now (beats .entry)) k) (suc (k - 2)) at i s ⌝ }
+    ensures { λ r. ⌜ r ≡ spec.joinedWire (keptOf (now (beats .entry)) k) (suc (k - 2)) at i s ⌝ }
 {
     if s < k - 1 {
         let one = other(i, s);

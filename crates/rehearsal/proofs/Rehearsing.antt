@@ -31,9 +31,9 @@ use Rattle.tally.proofs.TestReasons.{orElse, first-append}
 use Rattle.tally.proofs.Writing.{WritePassed, write-passed, write-refused, outside, write-length, list-in}
 use Rattle.tally.proofs.RunReasons.{outcome-refused, outcome-accepted}
 use Rattle.tally.proofs.OwnRun.{own-answer, own-closing}
-use Rattle.rehearsal.specs.Rehearsal.{shapeIn, ballotsIn, rehearsalReasons, printedOf, rehearsalOutcome}
+use Rattle.rehearsal.specs.Rehearsal.{shapeOfInput, ballotsOfInput, rehearsalReasons, printedOf, rehearsalOutcome}
 use Rattle.rehearsal.specs.inner.Buffers.{Buffers, Cut}
-use Rattle.rehearsal.specs.inner.Rehearses.{runOutcome}
+use Rattle.rehearsal.specs.inner.Rehearses.{ballotsOutcome}
 
 bits-take : (n : ℕ) (xs : List ℕ) → Bits xs → Bits (take n xs)
 bits-take zero xs b i = omega arith
@@ -96,8 +96,8 @@ module _ (s : Shape) (list : List ℕ) (gates conditional : ℕ) (tape wires boa
     pub refusal-outcome : (reason : Refusal) → outcomeOf (answer.Refused reason)
         ≡ runResult s list ballots (take conditional tape) (take (inputs + gates) wires)
         (take (conditional + s .candidates) board) .answer
-        → refused (reasonOf reason) ≡ runOutcome s ballots
-    unfolding outcomeOf runOutcome outcome tape′ wires′ board′
+        → refused (reasonOf reason) ≡ ballotsOutcome s ballots
+    unfolding outcomeOf ballotsOutcome outcome tape′ wires′ board′
     refusal-outcome reason e =
         let o = firstOf (ballotReasons s ballots) in
         sym (ap (λ (o : Option Reason). outcome o (printedOf s ballots))
@@ -122,8 +122,8 @@ module _ (s : Shape) (list : List ℕ) (gates conditional : ℕ) (tape wires boa
         (take (conditional + s .candidates) board) .answer
         → b ≡ runResult s list ballots (take conditional tape) (take (inputs + gates) wires)
         (take (conditional + s .candidates) board) .board
-        → accepted (record { jury = s; winners = take (s .candidates) (drop c (b ++ rest)) }) ≡ runOutcome s ballots
-    unfolding printedOf outcomeOf runOutcome outcome sizeOf tape′ wires′ board′
+        → accepted (record { jury = s; winners = take (s .candidates) (drop c (b ++ rest)) }) ≡ ballotsOutcome s ballots
+    unfolding printedOf outcomeOf ballotsOutcome outcome sizeOf tape′ wires′ board′
     winners-outcome g c b rest e f =
         let o = firstOf (ballotReasons s ballots) in
         let h = outcome-accepted o (sizeOf (ownList s)) (record { gates = g; conditional = c }) (sym (e ∙ answers)) in
@@ -187,41 +187,41 @@ module _ (s : Shape) (table tape wires board : List ℕ) (l : Buffers table tape
       own-numbers : take (4 * g) (writeResult s table) ≡ numbersOf (ownList s)
       own-numbers = unfold listIn in (list-in s table (record { gates = g; conditional = c }) passed)
 
-  pub by-the-run : (input : List ℕ) → s ≡ shapeIn input → runOutcome s (ballotsIn input) ≡ rehearsalOutcome input table
-  unfolding runOutcome rehearsalOutcome rehearsalReasons orElse
+  pub by-the-run : (input : List ℕ) → s ≡ shapeOfInput input → ballotsOutcome s (ballotsOfInput input) ≡ rehearsalOutcome input table
+  unfolding ballotsOutcome rehearsalOutcome rehearsalReasons orElse
   by-the-run input f =
-      let ballots = ballotReasons (shapeIn input) (ballotsIn input) in
+      let ballots = ballotReasons (shapeOfInput input) (ballotsOfInput input) in
       let none-applies = ap (λ (z : Shape). firstOf (writeReasons z table)) (sym f) ∙ passed .reasons in
-      ap (λ (z : Shape). runOutcome z (ballotsIn input)) f
-      ∙ sym (ap (λ (o : Option Reason). outcome o (printedOf (shapeIn input) (ballotsIn input)))
-      (first-append (writeReasons (shapeIn input) table) ballots
+      ap (λ (z : Shape). ballotsOutcome z (ballotsOfInput input)) f
+      ∙ sym (ap (λ (o : Option Reason). outcome o (printedOf (shapeOfInput input) (ballotsOfInput input)))
+      (first-append (writeReasons (shapeOfInput input) table) ballots
       ∙ ap (λ (o : Option Reason). orElse o (firstOf ballots)) none-applies))
 
 -- a refused write decides
-pub by-the-write : (input table : List ℕ) (s : Shape) (reason : Refusal) → s ≡ shapeIn input
+pub by-the-write : (input table : List ℕ) (s : Shape) (reason : Refusal) → s ≡ shapeOfInput input
     → outcomeOf (answer.Refused reason) ≡ writeOutcome s table → refused (reasonOf reason)
     ≡ rehearsalOutcome input table
 unfolding outcomeOf writeOutcome outcome rehearsalOutcome rehearsalReasons orElse
 by-the-write input table s reason f e =
-    let ballots = ballotReasons (shapeIn input) (ballotsIn input) in
+    let ballots = ballotReasons (shapeOfInput input) (ballotsOfInput input) in
     let r = outcome-refused (firstOf (writeReasons s table)) (sizeOf (ownList s)) (reasonOf reason) (sym e) in
     let applies = ap (λ (z : Shape). firstOf (writeReasons z table)) (sym f) ∙ r in
-    sym (ap (λ (o : Option Reason). outcome o (printedOf (shapeIn input) (ballotsIn input)))
-    (first-append (writeReasons (shapeIn input) table) ballots
+    sym (ap (λ (o : Option Reason). outcome o (printedOf (shapeOfInput input) (ballotsOfInput input)))
+    (first-append (writeReasons (shapeOfInput input) table) ballots
     ∙ ap (λ (o : Option Reason). orElse o (firstOf ballots)) applies))
 
 -- a shape outside the limits is refused as its write would be
-pub by-the-limits : (input table : List ℕ) → withinLimits (shapeIn input) ≡ false → refused (reasonOf refusal.Shape)
+pub by-the-limits : (input table : List ℕ) → withinLimits (shapeOfInput input) ≡ false → refused (reasonOf refusal.Shape)
     ≡ rehearsalOutcome input table
 unfolding outcomeOf reasonOf
-by-the-limits input table w = by-the-write input table (shapeIn input) refusal.Shape refl
-    (sym (write-refused (shapeIn input) table (reasonAt 1 0) (outside (shapeIn input) table w) .0))
+by-the-limits input table w = by-the-write input table (shapeOfInput input) refusal.Shape refl
+    (sym (write-refused (shapeOfInput input) table (reasonAt 1 0) (outside (shapeOfInput input) table w) .0))
 
 -- the ballots after the first three bytes
-pub no-ballots : (input : List ℕ) → length input < 3 → ballotsIn input ≡ []
-unfolding ballotsIn
+pub no-ballots : (input : List ℕ) → length input < 3 → ballotsOfInput input ≡ []
+unfolding ballotsOfInput
 no-ballots input h = drop-of-length-le input {i = 3} (omega arith)
 
-pub some-ballots : (input : List ℕ) → take (length input - 3) (drop 3 input) ≡ ballotsIn input
-unfolding ballotsIn
+pub some-ballots : (input : List ℕ) → take (length input - 3) (drop 3 input) ≡ ballotsOfInput input
+unfolding ballotsOfInput
 some-ballots input = take-all (length input - 3) (drop 3 input) (omega (arith, length-drop 3 input))

@@ -13,16 +13,17 @@ use Rattle.rehearsal.specs.declared.rehearse.Rehearsed.{Rehearsed}
 use Rattle.rehearsal.specs.declared.rehearse.Rehearsed.the-variants.{Winners, Refused}
 
 -- The first three bytes are the shape, the others the ballots. A missing byte is 0.
-unfoldable pub shapeIn : List ℕ → Shape
-shapeIn input = record { candidates = getD input 0 0; grades = getD input 1 0; ballots = getD input 2 0 }
+unfoldable pub shapeOfInput : List ℕ → Shape
+shapeOfInput input = record { candidates = getD input 0 0; grades = getD input 1 0; ballots = getD input 2 0 }
 
-unfoldable pub ballotsIn : List ℕ → List ℕ
-ballotsIn input = drop 3 input
+unfoldable pub ballotsOfInput : List ℕ → List ℕ
+ballotsOfInput input = drop 3 input
 
 -- The list is written, then run, so the reasons of writing come first. The own list passes its test, and tape, wire
 -- table and board are cut to their lengths, so only the ballots can have the run refused.
 unfoldable pub rehearsalReasons : List ℕ → List ℕ → List (Option Reason)
-rehearsalReasons input table = writeReasons (shapeIn input) table ++ ballotReasons (shapeIn input) (ballotsIn input)
+rehearsalReasons input table =
+    writeReasons (shapeOfInput input) table ++ ballotReasons (shapeOfInput input) (ballotsOfInput input)
 
 -- What the program prints for an accepted jury: its shape and its closing bytes.
 pub record Printed : Type 0 where
@@ -35,7 +36,7 @@ printedOf s ballots = record { jury = s; winners = closingFor s ballots }
 
 unfoldable pub rehearsalOutcome : List ℕ → List ℕ → Outcome Printed
 rehearsalOutcome input table =
-    outcome (firstOf (rehearsalReasons input table)) (printedOf (shapeIn input) (ballotsIn input))
+    outcome (firstOf (rehearsalReasons input table)) (printedOf (shapeOfInput input) (ballotsOfInput input))
 
 -- What each case of the program's enum means: the k closing bytes are on the board, from a place on.
 unfoldable pub outcomeOn : List ℕ → Rehearsed → Outcome Printed

@@ -7,9 +7,9 @@ ghost use mathlib.Core.Path.{_≡_};
 ghost use mathlib.Core.Bool.{cond};
 ghost use lib.ListN.{getD};
 ghost use Rattle.jury.specs.Shape.{withinLimits};
-ghost use Rattle.rehearsal.specs.Rehearsal.{shapeIn, rehearsalOutcome};
+ghost use Rattle.rehearsal.specs.Rehearsal.{shapeOfInput, rehearsalOutcome};
 ghost use Rattle.rehearsal.specs.inner.Buffers.{Buffers, Ready, Cut};
-ghost use Rattle.rehearsal.specs.inner.Rehearses.{Rehearses, runOutcome};
+ghost use Rattle.rehearsal.specs.inner.Rehearses.{Rehearses, ballotsOutcome};
 
 // The shape and the place of the closing bytes on the board, or the first reason that applies.
 pub enum Rehearsed {
@@ -31,8 +31,8 @@ fn byte(input: &[u8], i: usize) -> usize
 // The shape in the first three bytes, or that it is outside the limits.
 fn shape(input: &[u8]) -> ShapeResult
     ensures { λ r.
-        ⌜ r ≡ cond (withinLimits (shapeIn (now (input .entry))))
-        (ShapeResult.Within (shapeIn (now (input .entry)))) ShapeResult.Outside ⌝ }
+        ⌜ r ≡ cond (withinLimits (shapeOfInput (now (input .entry))))
+        (ShapeResult.Within (shapeOfInput (now (input .entry)))) ShapeResult.Outside ⌝ }
 {
     Shape::new(byte(input, 0), byte(input, 1), byte(input, 2))
 }
@@ -49,7 +49,7 @@ fn run_list(
     board: &mut [u8],
 ) -> Rehearsed
     requires { ⌜ Cut shape (now list) gates conditional (now tape) (now wires) (now board) ⌝ }
-    ensures { λ r. ⌜ Rehearses (runOutcome shape (now (ballots .entry))) (now (board .exit)) r ⌝ }
+    ensures { λ r. ⌜ Rehearses (ballotsOutcome shape (now (ballots .entry))) (now (board .exit)) r ⌝ }
 {
     let answer = tally::run::run(
         shape,

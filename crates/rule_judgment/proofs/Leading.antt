@@ -11,18 +11,18 @@ use lib.ListN.{length, getD, List·getD-eq-default}
 use lib.Seq.{ext-getD}
 use borrow.Author.Count.{below-more}
 use Rattle.jury.specs.ClosingBytes.{eightBytes}
-use Rattle.basics.specs.Lists.{tabulate}
+use Rattle.basics.specs.Lists.{tabulate, sameNumbers}
 use Rattle.basics.proofs.Cases.{below-or-not}
 use Rattle.basics.proofs.Flags.{never-true}
 use Rattle.basics.proofs.Tabulate.{upTo, upTo-new, upTo-old, length-tabulate, getD-tabulate}
 use Rattle.jury.proofs.Rows.{eight-at, eight-length}
 use Rattle.rule_judgment.specs.Judgment.{sequenceOf, precedes, judgmentOf}
 use Rattle.rule_judgment.specs.Theorems.{EachGets}
-use Rattle.rule_judgment.specs.inner.Decision.{sameCounts}
 use Rattle.rule_judgment.proofs.Order.{Compared, compared, precedes-self, precedes-trans}
 use Rattle.rule_judgment.proofs.Order.Compared.{first, equal, second}
 use Rattle.rule_judgment.proofs.Equal.{equal-sequences}
-use Rattle.rule_judgment.proofs.SameCounts.{same-holds, same-passes}
+use Rattle.rule_judgment.proofs.SameCounts.{same-passes}
+use Rattle.basics.proofs.Same.{same-true}
 use Rattle.rule_judgment.proofs.Winners.{judgment-length, byte-one, byte-zero, one-byte}
 
 abbrev sequenceIn : List (List ℕ) → ℕ → List ℕ
@@ -54,14 +54,14 @@ module _ (rows : List (List ℕ)) where
 -- rows of n grades each, and a winner among them: exactly those with the winner's counts win
 module _ (n : ℕ) (rows : List (List ℕ)) (each : EachGets n rows) (w : ℕ) (inside : w < length rows)
     (wins : getD (judgmentOf rows) w 0 ≡ 1) where
-  pub same-wins : (c : ℕ) → c < length rows → sameCounts (getD rows c []) (getD rows w []) ≡ true → getD (judgmentOf rows) c 0 ≡ 1
+  pub same-wins : (c : ℕ) → c < length rows → sameNumbers (getD rows c []) (getD rows w []) ≡ true → getD (judgmentOf rows) c 0 ≡ 1
   same-wins c l e =
       byte-one rows c l
       (λ j k. subst (λ (row : List ℕ). precedes (sequenceIn rows j) (sequenceOf row) ≡ false)
-      (sym (same-holds (getD rows c []) (getD rows w []) e)) (one-byte rows w inside wins j k))
+      (sym (same-true (getD rows c []) (getD rows w []) e)) (one-byte rows w inside wins j k))
 
   pub other-loses : (c : ℕ) → c < length rows → length (getD rows c []) ≡ length (getD rows w [])
-      → sameCounts (getD rows c []) (getD rows w []) ≡ false → getD (judgmentOf rows) c 0 ≡ 0
+      → sameNumbers (getD rows c []) (getD rows w []) ≡ false → getD (judgmentOf rows) c 0 ≡ 0
   other-loses c l size e = go (compared (sequenceIn rows w) (sequenceIn rows c))
     where
       go : Compared (sequenceIn rows w) (sequenceIn rows c) → getD (judgmentOf rows) c 0 ≡ 0

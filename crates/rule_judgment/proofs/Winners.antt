@@ -11,7 +11,7 @@ use Rattle.basics.specs.Lists.{sum}
 use Rattle.rule_judgment.specs.Median.{medianOf}
 use Rattle.basics.proofs.Flags.{and-both, never-true}
 use Rattle.rule_judgment.specs.Judgment.{strike, strikes, sequenceOf, precedes, nonePrecedes, judgmentOf}
-use Rattle.rule_judgment.specs.Winner.{Before, Wins}
+use Rattle.rule_judgment.specs.Winner.{Before, JudgmentWinner}
 use Rattle.rule_judgment.specs.Theorems.{EachGets, ByteSays, SomeWinner}
 use Rattle.rule_judgment.proofs.Order.{precedes-here, precedes-later, precedes-cases, precedes-self, precedes-trans}
 
@@ -156,12 +156,12 @@ module _ (n : ℕ) (rows : List (List ℕ)) (each : EachGets n rows) (i : ℕ) (
   same-length : (j : ℕ) → j < length rows → length (sequenceOf (getD rows j [])) ≡ length (sequenceOf (getD rows i []))
   same-length j l = sequence-length (getD rows j []) ∙ each j l ∙ sym (each i h) ∙ sym (sequence-length (getD rows i []))
 
-  wins-unpreceded : Wins rows i → Unpreceded rows i
+  wins-unpreceded : JudgmentWinner rows i → Unpreceded rows i
   wins-unpreceded w j l =
       never-true (precedes (sequenceOf (getD rows j [])) (sequenceOf (getD rows i [])))
       (λ p. w j l (precedes-before (sequenceOf (getD rows j [])) (sequenceOf (getD rows i [])) (same-length j l) p))
 
-  unpreceded-wins : Unpreceded rows i → Wins rows i
+  unpreceded-wins : Unpreceded rows i → JudgmentWinner rows i
   unpreceded-wins u j l b =
       true≢false
       (sym (before-from (b .place) (sequenceOf (getD rows j [])) (sequenceOf (getD rows i [])) (same-length j l)

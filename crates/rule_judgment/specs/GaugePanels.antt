@@ -23,8 +23,8 @@ panelCounts =
     ∷ []
 
 -- The closing bytes of each panel.
-unfoldable pub panelClosings : List (List ℕ)
-panelClosings =
+unfoldable pub gaugeClosings : List (List ℕ)
+gaugeClosings =
     (1 ∷ 0 ∷ 0 ∷ [])
     ∷ (1 ∷ 0 ∷ [])
     ∷ (0 ∷ 0 ∷ [])
@@ -39,7 +39,7 @@ panelClosings =
     ∷ []
 
 -- The gauge gives each panel its closing bytes.
-pub panels-hold : map closingOf panelCounts ≡ panelClosings
-unfolding panelCounts panelClosings closingOf closingFrom beatsAll beats betterMedian equalMedians strongerMedian
+pub gauge-panels-hold : map closingOf panelCounts ≡ gaugeClosings
+unfolding panelCounts gaugeClosings closingOf closingFrom beatsAll beats betterMedian equalMedians strongerMedian
     largerP smallerQ medianOf medianFrom pOf qOf sum
-panels-hold = refl
+gauge-panels-hold = refl

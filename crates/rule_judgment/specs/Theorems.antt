@@ -7,7 +7,7 @@ use lib.ListN.{length, getD}
 use Rattle.basics.specs.Lists.{sum}
 use Rattle.rule_judgment.specs.Gauge.{closingOf}
 use Rattle.rule_judgment.specs.Judgment.{sequenceOf, judgmentOf}
-use Rattle.rule_judgment.specs.Winner.{Wins}
+use Rattle.rule_judgment.specs.Winner.{JudgmentWinner}
 
 -- Every candidate of a matrix of counts has n grades.
 abbrev pub EachGets : ℕ → List (List ℕ) → Type 0
@@ -15,8 +15,8 @@ EachGets n rows = (i : ℕ) → i < length rows → sum (getD rows i []) ≡ n
 
 -- A closing byte is 1 exactly for a winner, else 0.
 pub record ByteSays (rows : List (List ℕ)) (i : ℕ) : Type 0 where
-  pub one : (getD (judgmentOf rows) i 0 ≡ 1) ↔ Wins rows i
-  pub zero : (getD (judgmentOf rows) i 0 ≡ 0) ↔ (¬ Wins rows i)
+  pub one : (getD (judgmentOf rows) i 0 ≡ 1) ↔ JudgmentWinner rows i
+  pub zero : (getD (judgmentOf rows) i 0 ≡ 0) ↔ (¬ JudgmentWinner rows i)
 
 abbrev pub BytesSay : Type 0
 BytesSay = (n : ℕ) (rows : List (List ℕ)) → EachGets n rows → (i : ℕ) → i < length rows → ByteSays rows i

@@ -14,5 +14,5 @@ pub record Before (xs ys : List ℕ) : Type 0 where
   pub better : getD xs place 0 < getD ys place 0
 
 -- Row i of a matrix of counts wins if no row's sequence comes before its own.
-abbrev pub Wins : List (List ℕ) → ℕ → Type 0
-Wins rows i = (j : ℕ) → j < length rows → ¬ Before (sequenceOf (getD rows j [])) (sequenceOf (getD rows i []))
+abbrev pub JudgmentWinner : List (List ℕ) → ℕ → Type 0
+JudgmentWinner rows i = (j : ℕ) → j < length rows → ¬ Before (sequenceOf (getD rows j [])) (sequenceOf (getD rows i []))

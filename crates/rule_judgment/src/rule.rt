@@ -9,7 +9,7 @@ ghost use Rattle.jury.specs.ClosingBytes.{eightBytes};
 ghost use Rattle.jury.specs.inner.Counts.{rowsIn};
 ghost use Rattle.rule_judgment.specs.Judgment.{sequenceOf, precedes, judgmentOf};
 ghost use Rattle.rule_judgment.specs.inner.Decision.{halfReached, decidedBy};
-ghost use Rattle.rule_judgment.specs.inner.Ready.{WinnersReady, FirstReady, Wins, RowsReady, Compared, SumsReady};
+ghost use Rattle.rule_judgment.specs.inner.Ready.{WinnersReady, FirstReady, WinningCandidate, RowsReady, Compared, SumsReady};
 
 // Running sums of two candidates: how many of their grades are at least as good as some grade.
 pub struct Sums {
@@ -17,10 +17,12 @@ pub struct Sums {
     pub b: usize,
 }
 
-// The closing bytes: 1 for each candidate with the first sequence, 0 for the others and from place k on.
-pub fn winners(shape: Shape, counts: [[u16; 7]; 8]) -> [u8; 8]
-    requires { ⌜ WinnersReady shape counts ⌝ }
-    ensures { λ r. ⌜ r ≡ eightBytes (judgmentOf (rowsIn (shape .candidates) (shape .grades) counts)) ⌝ }
+// The closing bytes: 1 for each candidate with the first sequence, 0 for the others and from place k on. The matrix is
+// lent, here and below: the processor would wait for a copy of numbers that were just stored.
+pub fn winners(shape: Shape, counts: &[[u16; 7]; 8]) -> [u8; 8]
+    requires { ⌜ WinnersReady shape (now counts) ⌝ }
+    ensures { λ r.
+        ⌜ r ≡ eightBytes (judgmentOf (rowsIn (shape .candidates) (shape .grades) (now (counts .entry)))) ⌝ }
 {
     let k = shape.candidates;
     let d = shape.grades;
@@ -28,7 +30,7 @@ pub fn winners(shape: Shape, counts: [[u16; 7]; 8]) -> [u8; 8]
     let mut closing = [0u8; 8];
     let mut c = 0;
     while c < k {
-        if same_counts(&counts, c, first, d) {
+        if same_counts(counts, c, first, d) {
             closing[c] = 1;
         }
         c += 1;
@@ -37,14 +39,14 @@ pub fn winners(shape: Shape, counts: [[u16; 7]; 8]) -> [u8; 8]
 }
 
 // A candidate whose sequence no other sequence precedes.
-fn first_winner(counts: [[u16; 7]; 8], k: usize, d: usize, n: usize) -> usize
-    requires { ⌜ FirstReady counts k d n ⌝ }
-    ensures { λ r. ⌜ Wins counts k d r ⌝ }
+fn first_winner(counts: &[[u16; 7]; 8], k: usize, d: usize, n: usize) -> usize
+    requires { ⌜ FirstReady (now counts) k d n ⌝ }
+    ensures { λ r. ⌜ WinningCandidate (now (counts .entry)) k d r ⌝ }
 {
     let mut first = 0;
     let mut c = 1;
     while c < k {
-        if comes_before(&counts, c, first, d, n) {
+        if comes_before(counts, c, first, d, n) {
             first = c;
         }
         c += 1;
@@ -52,8 +54,7 @@ fn first_winner(counts: [[u16; 7]; 8], k: usize, d: usize, n: usize) -> usize
     first
 }
 
-// Whether candidates a and b have the same counts. The matrix is lent: the processor would wait for the copy of a row
-// whose numbers were just stored.
+// Whether candidates a and b have the same counts.
 fn same_counts(counts: &[[u16; 7]; 8], a: usize, b: usize, d: usize) -> bool
     requires { ⌜ RowsReady (now counts) a b d ⌝ }
     ensures { λ r. ⌜

@@ -10,12 +10,12 @@ use lib.Dec.{leb, eqb}
 use lib.ListN.{getD, List·getD-eq-default}
 use lib.Seq.{ext-getD}
 use borrow.Author.Tests.{eq-eqb}
-use Rattle.basics.specs.Lists.{tabulate}
+use Rattle.basics.specs.Lists.{tabulate, all}
 use Rattle.jury.specs.ClosingBytes.{eightBytes}
 use Rattle.basics.proofs.Cases.{same-or-not, below-or-not}
 use Rattle.jury.proofs.Rows.{eight-at, eight-length}
 use Rattle.basics.proofs.Tabulate.{upTo, upTo-new, upTo-old, length-tabulate, getD-tabulate, tabulate-cong}
-use Rattle.rule_schulze.specs.Schulze.{link, strongest, candidates, every, wins, closingBytes}
+use Rattle.rule_schulze.specs.Schulze.{link, strongest, allCandidates, wins, schulzeOf}
 use Rattle.rule_schulze.specs.Closure.{closure}
 use Rattle.rule_schulze.specs.Winner.{On}
 use Rattle.rule_schulze.specs.inner.Tables.{entry, Holds, HoldsPairs, unbeatenIn}
@@ -23,16 +23,16 @@ use Rattle.rule_schulze.proofs.Members.{of-candidates}
 use Rattle.rule_schulze.proofs.Paths.{closure-strongest}
 use Rattle.rule_schulze.proofs.Tables.{AgreePairs, closure-agree}
 
-every-same : (f g : ℕ → Bool) (xs : List ℕ) → ((x : ℕ) → On x xs → f x ≡ g x) → every f xs ≡ every g xs
-unfolding every
-every-same f g [] h = refl
-every-same f g (x ∷ xs) h = cc (h x (List·Memᴰ·head refl), every-same f g xs (λ y m. h y (List·Memᴰ·tail m)))
+all-same : (f g : ℕ → Bool) (xs : List ℕ) → ((x : ℕ) → On x xs → f x ≡ g x) → all f xs ≡ all g xs
+unfolding all
+all-same f g [] h = refl
+all-same f g (x ∷ xs) h = cc (h x (List·Memᴰ·head refl), all-same f g xs (λ y m. h y (List·Memᴰ·tail m)))
 
 -- whether i is unbeaten depends only on the strengths between the k candidates
 unbeaten-same : (k : ℕ) (p q : ℕ → ℕ → ℕ) (i : ℕ) → i < k → AgreePairs k p q →
-    every (λ j. eqb j i || leb (p j i) (p i j)) (candidates k) ≡ every (λ j. eqb j i || leb (q j i) (q i j)) (candidates k)
-unbeaten-same k p q i h a = every-same (λ j. eqb j i || leb (p j i) (p i j)) (λ j. eqb j i || leb (q j i) (q i j))
-    (candidates k) (λ j m. ⊎-elim (same j) (other j (of-candidates k m)) (same-or-not j i))
+    all (λ j. eqb j i || leb (p j i) (p i j)) (allCandidates k) ≡ all (λ j. eqb j i || leb (q j i) (q i j)) (allCandidates k)
+unbeaten-same k p q i h a = all-same (λ j. eqb j i || leb (p j i) (p i j)) (λ j. eqb j i || leb (q j i) (q i j))
+    (allCandidates k) (λ j m. ⊎-elim (same j) (other j (of-candidates k m)) (same-or-not j i))
   where
     same : (j : ℕ) → j ≡ i → (eqb j i || leb (p j i) (p i j)) ≡ (eqb j i || leb (q j i) (q i j))
     same j e = rw (eq-eqb j i e)
@@ -50,8 +50,8 @@ unfolding link
 link-agree k v w h i j hi hj ne = rw (h i j hi hj, h j i hj hi)
 
 -- the closing bytes depend only on the votes between the k candidates
-pub closing-agree : (k : ℕ) (v w : ℕ → ℕ → ℕ) → ((i j : ℕ) → i < k → j < k → v i j ≡ w i j) → closingBytes v k ≡ closingBytes w k
-unfolding closingBytes wins
+pub closing-agree : (k : ℕ) (v w : ℕ → ℕ → ℕ) → ((i j : ℕ) → i < k → j < k → v i j ≡ w i j) → schulzeOf v k ≡ schulzeOf w k
+unfolding schulzeOf wins
 closing-agree k v w h =
     tabulate-cong k (λ i. cond (wins v k i) 1 0) (λ i. cond (wins w k i) 1 0)
     (λ i l. ap (λ (t : Bool). cond {A = ℕ} t 1 0)

@@ -11,9 +11,9 @@ use native.Mathlib.Omega.{arith}
 use lib.Dec.{eqb}
 use lib.ListN.{length}
 use borrow.Author.Tests.{eqb-true, eqb-false}
-use Rattle.basics.specs.Lists.{tabulate}
+use Rattle.basics.specs.Lists.{tabulate, maximum}
 use Rattle.basics.proofs.Cases.{same-or-not, below-or-not}
-use Rattle.rule_schulze.specs.Schulze.{candidates, without, selections, maximum}
+use Rattle.rule_schulze.specs.Schulze.{allCandidates, without, selections}
 use Rattle.rule_schulze.specs.Winner.{On, Distinct}
 
 pub on-or-not : (x : ℕ) (xs : List ℕ) → On x xs ⊎ (¬ On x xs)
@@ -102,12 +102,12 @@ of-table {y} (suc n) f m =
     ⊎-elim (λ e. (0, omega arith, e))
     (λ h. let r = of-table n (λ j. f (suc j)) h in (suc (r .0), omega (arith, r .1), r .2)) (List·Memᴰ·cases-cons m)
 
-pub in-candidates : (k x : ℕ) → x < k → On x (candidates k)
-unfolding candidates
+pub in-candidates : (k x : ℕ) → x < k → On x (allCandidates k)
+unfolding allCandidates
 in-candidates k x h = in-table k (λ i. i) x h
 
-pub of-candidates : {x : ℕ} (k : ℕ) → On x (candidates k) → x < k
-unfolding candidates
+pub of-candidates : {x : ℕ} (k : ℕ) → On x (allCandidates k) → x < k
+unfolding allCandidates
 of-candidates k m = let r = of-table k (λ i. i) m in omega (arith, r .1, r .2)
 
 -- a selection names some of the candidates, none of them twice

@@ -12,7 +12,7 @@ use lib.ListN.{length}
 use borrow.Author.Tests.{eqb-false, ne-eqb}
 use Rattle.basics.proofs.Cases.{same-or-not, below-or-not}
 use Rattle.basics.proofs.Tabulate.{length-tabulate}
-use Rattle.rule_schulze.specs.Schulze.{weakest, candidates, without, simplePaths, strongest}
+use Rattle.rule_schulze.specs.Schulze.{weakest, allCandidates, without, simplePaths, strongest}
 use Rattle.rule_schulze.specs.Closure.{detour, closure}
 use Rattle.rule_schulze.specs.Winner.{On, Distinct, SimplePath, Strongest}
 use Rattle.rule_schulze.proofs.Members.{on-or-not, in-map, of-map, in-without, of-without, without-most, in-candidates, of-candidates, of-selections, in-selections, maximum-largest, maximum-of}
@@ -176,29 +176,29 @@ module _ (k i j : ℕ) (ne : i ≢ j) where
   listed-simple : (q : List ℕ) → List·Memᴰ q (simplePaths k i j) → SimplePath k i q j
   unfolding simplePaths
   listed-simple q m =
-      let r = of-selections k (without i (without j (candidates k))) m in
-      let inner : (x : ℕ) → On x q → On x (without j (candidates k)) × (x ≢ i) =
-      λ x g. of-without i (without j (candidates k)) (r .1 x g) in
+      let r = of-selections k (without i (without j (allCandidates k))) m in
+      let inner : (x : ℕ) → On x q → On x (without j (allCandidates k)) × (x ≢ i) =
+      λ x g. of-without i (without j (allCandidates k)) (r .1 x g) in
       record {
-        below = λ x g. of-candidates k (of-without j (candidates k) (inner x g .0) .0);
+        below = λ x g. of-candidates k (of-without j (allCandidates k) (inner x g .0) .0);
         once = (
           λ g. ⊎-elim ne (λ h. inner i h .1 refl) (List·Memᴰ·cases-cons g),
-          (λ g. of-without j (candidates k) (inner j g .0) .1 refl, r .0),
+          (λ g. of-without j (allCandidates k) (inner j g .0) .1 refl, r .0),
         );
       }
 
-  candidates-most : length (without i (without j (candidates k))) ≤ k
-  unfolding candidates
+  candidates-most : length (without i (without j (allCandidates k))) ≤ k
+  unfolding allCandidates
   candidates-most =
-      omega (arith, without-most i (without j (candidates k)), without-most j (candidates k), length-tabulate k (λ (x : ℕ). x))
+      omega (arith, without-most i (without j (allCandidates k)), without-most j (allCandidates k), length-tabulate k (λ (x : ℕ). x))
 
   simple-listed : (q : List ℕ) → SimplePath k i q j → List·Memᴰ q (simplePaths k i j)
   unfolding simplePaths
   simple-listed q p =
-      in-selections k (without i (without j (candidates k))) q candidates-most (p .once .1 .1)
+      in-selections k (without i (without j (allCandidates k))) q candidates-most (p .once .1 .1)
       (λ x g.
-      in-without i (without j (candidates k))
-      (in-without j (candidates k) (in-candidates k x (p .below x g)) (λ e. p .once .1 .0 (Memᴰ·cast (sym e) g)))
+      in-without i (without j (allCandidates k))
+      (in-without j (allCandidates k) (in-candidates k x (p .below x g)) (λ e. p .once .1 .0 (Memᴰ·cast (sym e) g)))
       (λ e. p .once .0 (List·Memᴰ·tail (Memᴰ·cast (sym e) g))))
 
   -- the link itself

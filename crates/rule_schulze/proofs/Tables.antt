@@ -14,13 +14,13 @@ use borrow.Author.Tests.{eq-eqb, ne-eqb, lt-leb}
 use Rattle.jury.specs.Rankings.{rankPlace, before}
 use Rattle.basics.proofs.Cases.{same-or-not}
 use Rattle.basics.proofs.Flags.{never-true, or-first, or-second}
-use Rattle.rule_schulze.specs.Schulze.{candidates}
+use Rattle.rule_schulze.specs.Schulze.{allCandidates}
 use Rattle.rule_schulze.specs.Closure.{detour, closure}
 use Rattle.rule_schulze.specs.Votes.{votes}
 use Rattle.rule_schulze.specs.inner.Tables.{entry, unbeatenIn, RankedSize}
 use Rattle.rule_schulze.proofs.Members.{in-candidates, of-candidates}
 use Rattle.rule_schulze.proofs.Paths.{detour-over}
-use Rattle.rule_schulze.proofs.Winning.{every-holds, holds-every}
+use Rattle.rule_schulze.proofs.Winning.{all-holds, holds-all}
 use Rattle.basics.proofs.Arithmetic.{row-within}
 
 -- the byte of ballot b, row i and column j is one of the ballots' bytes
@@ -65,12 +65,12 @@ module _ (t : List (List ℕ)) (k i : ℕ) where
 
   pub unbeaten-holds : ((j : ℕ) → j < k → unbeatenBy j ≡ true) → unbeatenIn t k i ≡ true
   unfolding unbeatenIn
-  unbeaten-holds h = holds-every unbeatenBy (candidates k) (λ j m. h j (of-candidates k m))
+  unbeaten-holds h = holds-all unbeatenBy (allCandidates k) (λ j m. h j (of-candidates k m))
 
   pub unbeaten-fails : (j : ℕ) → j < k → j ≢ i → entry t i j < entry t j i → unbeatenIn t k i ≡ false
   unfolding unbeatenIn
   unbeaten-fails j h n l = never-true (unbeatenIn t k i)
-      (λ e. true≢false (sym (every-holds unbeatenBy (candidates k) e j (in-candidates k j h)) ∙ fails))
+      (λ e. true≢false (sym (all-holds unbeatenBy (allCandidates k) e j (in-candidates k j h)) ∙ fails))
     where
       fails : unbeatenBy j ≡ false
       fails = rw (ne-eqb j i n, lt-leb (entry t j i) (entry t i j) l)

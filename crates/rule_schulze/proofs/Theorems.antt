@@ -5,16 +5,16 @@ use mathlib.Core.Bool.{Bool, true, false, cond}
 use Prim.Native.Nat.{ℕ, _<_}
 use native.Mathlib.Omega.{arith}
 use Rattle.rule_schulze.specs.Schulze.{wins, strongest}
-use Rattle.rule_schulze.specs.Winner.{Strongest, Winner}
+use Rattle.rule_schulze.specs.Winner.{Strongest, SchulzeWinner}
 use Rattle.rule_schulze.specs.Theorems.{SchulzeHolds}
 use Rattle.rule_schulze.proofs.Paths.{strongest-is}
 use Rattle.rule_schulze.proofs.Winning.{closing-at, closing-one, condorcet, somebody-wins}
 
 module _ (v : ℕ → ℕ → ℕ) (k i : ℕ) (h : i < k) where
-  winner : wins v k i ≡ true → Winner v k i
+  winner : wins v k i ≡ true → SchulzeWinner v k i
   winner e = closing-one v k i h .0 (closing-at v k i h ∙ ap (λ (t : Bool). cond {A = ℕ} t 1 0) e)
 
-  loser : wins v k i ≡ false → ¬ Winner v k i
+  loser : wins v k i ≡ false → ¬ SchulzeWinner v k i
   loser e w =
       let z : _≡_ {A = ℕ} 0 1 = sym (closing-at v k i h ∙ ap (λ (t : Bool). cond {A = ℕ} t 1 0) e) ∙ closing-one v k i h .1 w in
       absurd (omega arith)

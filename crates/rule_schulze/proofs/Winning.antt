@@ -12,24 +12,25 @@ use borrow.Author.Tests.{leb-true, le-leb, eqb-true, eq-eqb, lt-ltb, le-ltb}
 use Rattle.basics.proofs.Cases.{same-or-not, below-or-not}
 use Rattle.basics.proofs.Flags.{and-first, and-second, and-both, or-either, or-first, or-second, never-true}
 use Rattle.basics.proofs.Tabulate.{getD-tabulate}
-use Rattle.rule_schulze.specs.Schulze.{link, weakest, candidates, every, wins, strongest, closingBytes}
-use Rattle.rule_schulze.specs.Winner.{On, Strongest, Winner}
+use Rattle.rule_schulze.specs.Schulze.{link, weakest, allCandidates, wins, strongest, schulzeOf}
+use Rattle.rule_schulze.specs.Winner.{On, Strongest, SchulzeWinner}
 use Rattle.rule_schulze.proofs.Members.{in-candidates, of-candidates}
+use Rattle.basics.specs.Lists.{all}
 use Rattle.rule_schulze.proofs.Paths.{Via, via-strong, direct, strongest-is, through}
 
 -- a test holds for every member or fails for one
-pub every-holds : (test : ℕ → Bool) (xs : List ℕ) → every test xs ≡ true → (x : ℕ) → On x xs → test x ≡ true
-unfolding every
-every-holds test [] e x m = absurd (List·Memᴰ·not-nil m)
-every-holds test (y ∷ ys) e x m =
-    ⊎-elim (λ s. ap test s ∙ and-first (test y) (every test ys) e)
-    (every-holds test ys (and-second (test y) (every test ys) e) x) (List·Memᴰ·cases-cons m)
+pub all-holds : (test : ℕ → Bool) (xs : List ℕ) → all test xs ≡ true → (x : ℕ) → On x xs → test x ≡ true
+unfolding all
+all-holds test [] e x m = absurd (List·Memᴰ·not-nil m)
+all-holds test (y ∷ ys) e x m =
+    ⊎-elim (λ s. ap test s ∙ and-first (test y) (all test ys) e)
+    (all-holds test ys (and-second (test y) (all test ys) e) x) (List·Memᴰ·cases-cons m)
 
-pub holds-every : (test : ℕ → Bool) (xs : List ℕ) → ((x : ℕ) → On x xs → test x ≡ true) → every test xs ≡ true
-unfolding every
-holds-every test [] h = refl
-holds-every test (y ∷ ys) h = and-both (test y) (every test ys) (h y (List·Memᴰ·head refl))
-    (holds-every test ys (λ x m. h x (List·Memᴰ·tail m)))
+pub holds-all : (test : ℕ → Bool) (xs : List ℕ) → ((x : ℕ) → On x xs → test x ≡ true) → all test xs ≡ true
+unfolding all
+holds-all test [] h = refl
+holds-all test (y ∷ ys) h = and-both (test y) (all test ys) (h y (List·Memᴰ·head refl))
+    (holds-all test ys (λ x m. h x (List·Memᴰ·tail m)))
 
 -- there is only one greatest strength
 pub strongest-only : (s : ℕ → ℕ → ℕ) (k i j x : ℕ) → i ≢ j → Strongest s k i j x → x ≡ strongest s k i j
@@ -56,11 +57,11 @@ module _ (v : ℕ → ℕ → ℕ) (k i : ℕ) where
   wins-unbeaten e j h n =
       ⊎-elim (λ t. absurd (n (eqb-true j i t))) (leb-true (strongest (link v) k j i) (strongest (link v) k i j))
       (or-either (eqb j i) (leb (strongest (link v) k j i) (strongest (link v) k i j))
-      (every-holds test (candidates k) e j (in-candidates k j h)))
+      (all-holds test (allCandidates k) e j (in-candidates k j h)))
 
   pub unbeaten-wins : Unbeaten → wins v k i ≡ true
   unfolding wins test
-  unbeaten-wins u = holds-every test (candidates k) (λ j m. ⊎-elim (same j) (other j (of-candidates k m)) (same-or-not j i))
+  unbeaten-wins u = holds-all test (allCandidates k) (λ j m. ⊎-elim (same j) (other j (of-candidates k m)) (same-or-not j i))
     where
       same : (j : ℕ) → j ≡ i → test j ≡ true
       same j e = or-first (eqb j i) (leb (strongest (link v) k j i) (strongest (link v) k i j)) (eq-eqb j i e)
@@ -73,28 +74,28 @@ module _ (v : ℕ → ℕ → ℕ) (k i : ℕ) where
   pub beaten-loses : (j : ℕ) → j < k → j ≢ i → strongest (link v) k i j < strongest (link v) k j i → wins v k i ≡ false
   beaten-loses j h n l = never-true (wins v k i) (λ e. let u = wins-unbeaten e j h n in omega arith)
 
-  unbeaten-winner : Unbeaten → Winner v k i
+  unbeaten-winner : Unbeaten → SchulzeWinner v k i
   unbeaten-winner u j x y h n a b =
       omega (arith, u j h n, strongest-only (link v) k i j x (λ e. n (sym e)) a, strongest-only (link v) k j i y n b)
 
-  winner-unbeaten : Winner v k i → Unbeaten
+  winner-unbeaten : SchulzeWinner v k i → Unbeaten
   winner-unbeaten w j h n =
       w j (strongest (link v) k i j) (strongest (link v) k j i) h n (strongest-is (link v) k i j (λ e. n (sym e)))
       (strongest-is (link v) k j i n)
 
-  pub closing-at : i < k → getD (closingBytes v k) i 0 ≡ cond (wins v k i) 1 0
-  unfolding closingBytes
+  pub closing-at : i < k → getD (schulzeOf v k) i 0 ≡ cond (wins v k i) 1 0
+  unfolding schulzeOf
   closing-at h = getD-tabulate k i (λ i. cond (wins v k i) 1 0) 0 h
 
   -- closing byte i is 1 exactly if i wins
-  pub closing-one : i < k → (getD (closingBytes v k) i 0 ≡ 1) ↔ Winner v k i
+  pub closing-one : i < k → (getD (schulzeOf v k) i 0 ≡ 1) ↔ SchulzeWinner v k i
   closing-one h = (
     λ e. unbeaten-winner (wins-unbeaten (go (wins v k i) refl e)),
     λ w. closing-at h
         ∙ ap (λ (t : Bool). cond {A = ℕ} t 1 0) (unbeaten-wins (winner-unbeaten w)),
   )
     where
-      go : (t : Bool) → wins v k i ≡ t → getD (closingBytes v k) i 0 ≡ 1 → wins v k i ≡ true
+      go : (t : Bool) → wins v k i ≡ t → getD (schulzeOf v k) i 0 ≡ 1 → wins v k i ≡ true
       go true e f = e
       go false e f = let z : _≡_ {A = ℕ} 0 1 = sym (closing-at h ∙ ap (λ (t : Bool). cond {A = ℕ} t 1 0) e) ∙ f in absurd (omega arith)
 

@@ -5,8 +5,8 @@ use mathlib.Core.List.{List, [], _∷_, map, flatMap}
 use Prim.Native.Nat.{ℕ, _+_}
 use lib.Dec.{ltb}
 use lib.ListN.{getD}
-use Rattle.basics.specs.Lists.{tabulate}
-use Rattle.rule_schulze.specs.Schulze.{link, weakest, candidates, without, selections, maximum, simplePaths, strongest, every, wins, closingBytes}
+use Rattle.basics.specs.Lists.{tabulate, all, maximum}
+use Rattle.rule_schulze.specs.Schulze.{link, weakest, allCandidates, without, selections, simplePaths, strongest, wins, schulzeOf}
 
 -- A number of equal ballots.
 pub record Ballots : Type 0 where
@@ -54,8 +54,8 @@ panels =
     ∷ []
 
 -- The rule gives each panel its closing bytes.
-pub panels-hold : map (λ (p : Panel). closingBytes (preferring (p .ballots)) (p .size)) panels
+pub ranked-panels-hold : map (λ (p : Panel). schulzeOf (preferring (p .ballots)) (p .size)) panels
     ≡ map (λ (p : Panel). p .closing) panels
-unfolding panels panel ballots preferring closingBytes wins every strongest simplePaths maximum selections without
-    candidates weakest link tabulate flatMap
-panels-hold = refl
+unfolding panels panel ballots preferring schulzeOf wins all strongest simplePaths maximum selections without
+    allCandidates weakest link tabulate flatMap
+ranked-panels-hold = refl

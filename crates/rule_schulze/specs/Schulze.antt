@@ -1,10 +1,10 @@
 -- Schulze's rule (request 2.2) over any votes v: v i j is the number of ballots that put candidate i before candidate
 -- j.
-use mathlib.Core.Bool.{Bool, true, cond, _&&_, _||_}
+use mathlib.Core.Bool.{Bool, cond, _||_}
 use mathlib.Core.List.{List, [], _∷_, map, flatMap}
-use Prim.Native.Nat.{ℕ, zero, suc, min, max}
+use Prim.Native.Nat.{ℕ, zero, suc, min}
 use lib.Dec.{leb, ltb, eqb}
-use Rattle.basics.specs.Lists.{tabulate}
+use Rattle.basics.specs.Lists.{tabulate, all, maximum}
 
 -- The strength of the link from i to j [schulze]: v i j if it is larger than v j i, else 0.
 unfoldable pub link : (ℕ → ℕ → ℕ) → ℕ → ℕ → ℕ
@@ -17,8 +17,8 @@ weakest s i [] j = s i j
 weakest s i (l ∷ between) j = min (s i l) (weakest s l between j)
 
 -- The candidates 0 to k − 1.
-unfoldable pub candidates : ℕ → List ℕ
-candidates k = tabulate k (λ i. i)
+unfoldable pub allCandidates : ℕ → List ℕ
+allCandidates k = tabulate k (λ i. i)
 
 unfoldable pub without : ℕ → List ℕ → List ℕ
 without x [] = []
@@ -29,27 +29,18 @@ unfoldable pub selections : ℕ → List ℕ → List (List ℕ)
 selections zero free = [] ∷ []
 selections (suc most) free = [] ∷ flatMap (λ l. map (λ rest. l ∷ rest) (selections most (without l free))) free
 
-unfoldable pub maximum : List ℕ → ℕ
-maximum [] = 0
-maximum (x ∷ xs) = max x (maximum xs)
-
 -- The paths from i to j, among k candidates, that visit nobody twice.
 unfoldable pub simplePaths : ℕ → ℕ → ℕ → List (List ℕ)
-simplePaths k i j = selections k (without i (without j (candidates k)))
+simplePaths k i j = selections k (without i (without j (allCandidates k)))
 
 -- The strength of the strongest path from i to j.
 unfoldable pub strongest : (ℕ → ℕ → ℕ) → ℕ → ℕ → ℕ → ℕ
 strongest s k i j = maximum (map (λ between. weakest s i between j) (simplePaths k i j))
 
--- Whether the test holds for each of these.
-unfoldable pub every : (ℕ → Bool) → List ℕ → Bool
-every test [] = true
-every test (x ∷ xs) = test x && every test xs
-
 -- i wins if no other candidate has a stronger path to i than i has to it.
 unfoldable pub wins : (ℕ → ℕ → ℕ) → ℕ → ℕ → Bool
-wins v k i = every (λ j. eqb j i || leb (strongest (link v) k j i) (strongest (link v) k i j)) (candidates k)
+wins v k i = all (λ j. eqb j i || leb (strongest (link v) k j i) (strongest (link v) k i j)) (allCandidates k)
 
 -- One closing byte a candidate: 1 for a winner, else 0.
-unfoldable pub closingBytes : (ℕ → ℕ → ℕ) → ℕ → List ℕ
-closingBytes v k = tabulate k (λ i. cond (wins v k i) 1 0)
+unfoldable pub schulzeOf : (ℕ → ℕ → ℕ) → ℕ → List ℕ
+schulzeOf v k = tabulate k (λ i. cond (wins v k i) 1 0)

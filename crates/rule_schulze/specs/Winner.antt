@@ -25,5 +25,5 @@ pub record Strongest (s : ℕ → ℕ → ℕ) (k i j x : ℕ) : Type 0 where
   pub largest : (between : List ℕ) → SimplePath k i between j → weakest s i between j ≤ x
 
 -- No candidate's strongest path to i is stronger than the one from i back to it.
-abbrev pub Winner : (ℕ → ℕ → ℕ) → ℕ → ℕ → Type 0
-Winner v k i = (j x y : ℕ) → j < k → j ≢ i → Strongest (link v) k i j x → Strongest (link v) k j i y → y ≤ x
+abbrev pub SchulzeWinner : (ℕ → ℕ → ℕ) → ℕ → ℕ → Type 0
+SchulzeWinner v k i = (j x y : ℕ) → j < k → j ≢ i → Strongest (link v) k i j x → Strongest (link v) k j i y → y ≤ x

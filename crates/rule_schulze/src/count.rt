@@ -3,14 +3,14 @@ use crate::rule;
 use crate::votes;
 ghost use mathlib.Core.Path.{_≡_};
 ghost use Rattle.jury.specs.ClosingBytes.{eightBytes};
-ghost use Rattle.rule_schulze.specs.Schulze.{closingBytes};
+ghost use Rattle.rule_schulze.specs.Schulze.{schulzeOf};
 ghost use Rattle.rule_schulze.specs.Votes as spec;
 ghost use Rattle.rule_schulze.specs.inner.Tables.{RankedSize};
 
 // The closing bytes of n ranked ballots of k candidates.
 pub fn closing_bytes(ballots: &[u8], k: usize, n: usize) -> [u8; 8]
     requires { ⌜ RankedSize k n (now ballots) ⌝ }
-    ensures { λ r. ⌜ r ≡ eightBytes (closingBytes (spec.votes k n (now (ballots .entry))) k) ⌝ }
+    ensures { λ r. ⌜ r ≡ eightBytes (schulzeOf (spec.votes k n (now (ballots .entry))) k) ⌝ }
 {
     rule::winners(votes::matrix(ballots, k, n), k)
 }

@@ -12,7 +12,7 @@ ghost use Rattle.rule_schulze.specs.inner.Tables.{entry, Holds, HoldsPai
 // The closing bytes: 1 for a winner, 0 for the others and from place k on.
 pub fn winners(votes: [[u16; 8]; 8], k: usize) -> [u8; 8]
     requires { ⌜ k ≤ 8 ⌝ }
-    ensures { λ r. ⌜ r ≡ eightBytes (spec.closingBytes (entry votes) k) ⌝ }
+    ensures { λ r. ⌜ r ≡ eightBytes (spec.schulzeOf (entry votes) k) ⌝ }
 {
     let paths = strongest_paths(links(votes, k), k);
     let mut closing = [0u8; 8];

@@ -17,7 +17,7 @@ use Rattle.season.specs.declared.sheet.Totals.{Totals}
 use Rattle.season.specs.declared.sheet.Refusal.{Refusal}
 use Rattle.season.specs.declared.sheet.Refusal.the-variants.{Length, BadRun}
 use Rattle.season.specs.declared.sheet.Answer.the-variants.{Accepted, Refused}
-use Rattle.season.specs.Season.{runBytes, mostRuns, runsIn, firstBadRun, totalsOf, sheetReasons, reasonOf, reasonFor, totalsFor, totalsAfter, sumOver, Sheet}
+use Rattle.season.specs.Season.{runBytes, mostRuns, runsIn, firstBadRun, totalsOf, sheetReasons, sheetReasonOf, reasonFor, totalsFor, totalsAfter, sumOver, Sheet}
 use Rattle.season.specs.declared.run.Run.{Run}
 use Rattle.season.specs.Theorems.{SheetSums}
 
@@ -34,13 +34,13 @@ judged-by bytes size run e₁ e₂ = ap (λ (t : Bool). judged t (firstBadRun 0 
 
 module _ (bytes : List ℕ) where
   -- the three ways to be refused, and the one to be accepted
-  pub part-of-a-run : (length bytes % runBytes ≡ 0 → ⊥) → firstOf (sheetReasons bytes) ≡ some (reasonOf Length)
-  unfolding judged unless firstOf reasonOf
+  pub part-of-a-run : (length bytes % runBytes ≡ 0 → ⊥) → firstOf (sheetReasons bytes) ≡ some (sheetReasonOf Length)
+  unfolding judged unless firstOf sheetReasonOf
   part-of-a-run h = judged-by bytes false (firstBadRun 0 (runsIn bytes))
       (and-first-fails _ (leb (length bytes) (mostRuns * runBytes)) (ne-eqb (length bytes % runBytes) 0 h)) refl
 
-  pub too-many : mostRuns * runBytes < length bytes → firstOf (sheetReasons bytes) ≡ some (reasonOf Length)
-  unfolding judged unless firstOf reasonOf
+  pub too-many : mostRuns * runBytes < length bytes → firstOf (sheetReasons bytes) ≡ some (sheetReasonOf Length)
+  unfolding judged unless firstOf sheetReasonOf
   too-many h = judged-by bytes false (firstBadRun 0 (runsIn bytes))
       (and-second-fails (eqb (length bytes % runBytes) 0) _ (lt-leb (length bytes) (mostRuns * runBytes) h)) refl
 
@@ -49,8 +49,8 @@ module _ (bytes : List ℕ) where
   size-passes h l = and-both _ _ (eq-eqb (length bytes % runBytes) 0 h) (le-leb (length bytes) (mostRuns * runBytes) l)
 
   pub bad-run : (i : ℕ) → length bytes % runBytes ≡ 0 → length bytes ≤ mostRuns * runBytes
-      → firstBadRun 0 (runsIn bytes) ≡ At i → firstOf (sheetReasons bytes) ≡ some (reasonOf (BadRun i))
-  unfolding judged unless foundAt firstOf reasonOf
+      → firstBadRun 0 (runsIn bytes) ≡ At i → firstOf (sheetReasons bytes) ≡ some (sheetReasonOf (BadRun i))
+  unfolding judged unless foundAt firstOf sheetReasonOf
   bad-run i h l e = judged-by bytes true (At i) (size-passes h l) e
 
   pub no-reason : length bytes % runBytes ≡ 0 → length bytes ≤ mostRuns * runBytes → firstBadRun 0 (runsIn bytes)
@@ -59,7 +59,7 @@ module _ (bytes : List ℕ) where
   no-reason h l e = judged-by bytes true Nowhere (size-passes h l) e
 
   -- the program's answers are the definition's
-  pub refused-is : (r : Refusal) → firstOf (sheetReasons bytes) ≡ some (reasonOf r) → Sheet bytes (Refused r)
+  pub refused-is : (r : Refusal) → firstOf (sheetReasons bytes) ≡ some (sheetReasonOf r) → Sheet bytes (Refused r)
   unfolding reasonFor totalsFor totalsAfter
   refused-is r e = record { reason = sym e; totals = sym (ap (λ (o : Option Reason). totalsAfter o (totalsOf (runsIn bytes))) e) }
 

@@ -96,14 +96,14 @@ totalsOf rs = record {
 }
 
 -- The number and place of each refusal.
-unfoldable pub reasonOf : Refusal → Reason
-reasonOf Length = reasonAt 21 0
-reasonOf (BadRun i) = reasonAt 22 i
+unfoldable pub sheetReasonOf : Refusal → Reason
+sheetReasonOf Length = reasonAt 21 0
+sheetReasonOf (BadRun i) = reasonAt 22 i
 
 -- The reason of an answer if it is a refusal, and its totals if it is not.
 unfoldable pub reasonFor : Answer → Option Reason
 reasonFor (Accepted totals) = none
-reasonFor (Refused r) = some (reasonOf r)
+reasonFor (Refused r) = some (sheetReasonOf r)
 
 unfoldable pub totalsFor : Answer → Option Totals
 totalsFor (Accepted totals) = some totals

@@ -5,7 +5,7 @@ use gates::place::Place;
 ghost use mathlib.Core.Path.{_≡_};
 ghost use Prim.Native.Nat.{_*_};
 ghost use lib.ListN.{length};
-ghost use Rattle.season.specs.Season.{runBytes, firstRuns, firstBadRun, totalsOf, reasonOf, Sheet};
+ghost use Rattle.season.specs.Season.{runBytes, firstRuns, firstBadRun, totalsOf, sheetReasonOf, Sheet};
 ghost use Rattle.season.specs.inner.Sums.{plusRun, PlusReady, SumsReady};
 
 // The most bytes of a sheet: 4,096 runs.
@@ -36,7 +36,7 @@ pub enum Answer {
 impl Refusal {
     // The number of the reason.
     pub fn number(self) -> usize
-        ensures { λ r. ⌜ r ≡ (reasonOf self) .number ⌝ }
+        ensures { λ r. ⌜ r ≡ (sheetReasonOf self) .number ⌝ }
     {
         match self {
             Refusal::Length => 21,
@@ -46,7 +46,7 @@ impl Refusal {
 
     // Its place, 0 if it has none.
     pub fn place(self) -> usize
-        ensures { λ r. ⌜ r ≡ (reasonOf self) .place ⌝ }
+        ensures { λ r. ⌜ r ≡ (sheetReasonOf self) .place ⌝ }
     {
         match self {
             Refusal::Length => 0,

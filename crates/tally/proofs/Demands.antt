@@ -31,7 +31,7 @@ use Rattle.tally.specs.Test.{testReasons, testOutcome}
 use Rattle.tally.specs.Write.{writeReasons, writeOutcome}
 use Rattle.tally.specs.Run.{RunResult, bufferReasons, runReasons, runResultAfter, runResult}
 use Rattle.tally.specs.Hiding.{closingBytes}
-use Rattle.tally.specs.Demands.{Memory, listIn, RunAccuracy, CountAccuracy, ThreeDemands}
+use Rattle.tally.specs.Demands.{TallyMemory, listIn, RunAccuracy, CountAccuracy, ThreeDemands}
 use Rattle.tally.proofs.Rules.{rule-says}
 use Rattle.tally.proofs.PlainFacts.{plain-first, plain-length, plain-says}
 use Rattle.tally.proofs.CountReason.{count-accepts}
@@ -211,7 +211,7 @@ run-memory s table ballots tape wires board =
       lengths = (long .0, (long .1, tt));
     }
 
-memory : Memory
+memory : TallyMemory
 unfolding Each
 memory =
     record {

@@ -19,13 +19,13 @@ use Rattle.jury.specs.Reason.{Reason, reasonAt, unless, foundAt, listReason, fi
 use Rattle.jury.specs.Ballots.{ones, rowsOf, firstBadRow, gradedReasons, rankedReasons, ballotReasons}
 use Rattle.jury.specs.Rankings.{rankPlace, before, orElse, firstOver, notAsymmetricAt, notAsymmetricInRow, notAsymmetricInBallot, firstNotAsymmetric, neitherAfterNorBefore, notWeakOrderAfter, notWeakOrder, firstNotWeakOrder}
 use Rattle.basics.specs.Below.{someBelow}
-use Rattle.basics.specs.Lists.{sum, tabulate}
+use Rattle.basics.specs.Lists.{sum, tabulate, all, maximum}
 use Rattle.jury.specs.Counts.{byteOf, countUpTo, countOf, countsOf}
 use Rattle.rule_judgment.specs.Median.{medianFrom, medianOf}
 use Rattle.jury.specs.ClosingBytes.{eightBytes}
 use Rattle.rule_judgment.specs.Judgment.{strike, strikes, sequenceOf, precedes, nonePrecedes, judgmentOf}
 use Rattle.jury.proofs.Limits.{bounds}
-use Rattle.rule_schulze.specs.Schulze.{link, weakest, candidates, without, selections, maximum, simplePaths, strongest, every, wins, closingBytes}
+use Rattle.rule_schulze.specs.Schulze.{link, weakest, allCandidates, without, selections, simplePaths, strongest, wins, schulzeOf}
 use Rattle.rule_schulze.specs.Votes.{votes}
 use Rattle.tally.specs.Rule.{closingFor}
 use Rattle.tally.specs.Count.{countReason, closingAfter, plainClosing}
@@ -100,7 +100,7 @@ unfolding edges refused countReason isRanking gradedLimits rankedLimits withinLi
     firstOver someBelow notAsymmetricAt notAsymmetricInRow notAsymmetricInBallot firstNotAsymmetric
     neitherAfterNorBefore notWeakOrderAfter notWeakOrder firstNotWeakOrder firstAboveOne byteOf countUpTo countOf
     tabulate countsOf sum medianFrom medianOf strike strikes sequenceOf precedes nonePrecedes judgmentOf closingFor
-    link weakest candidates without selections maximum simplePaths strongest every wins closingBytes votes flatMap
+    link weakest allCandidates without selections maximum simplePaths strongest all wins schulzeOf votes flatMap
     eightBytes closingAfter plainClosing
 edges-closing = refl
 

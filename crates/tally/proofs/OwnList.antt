@@ -17,8 +17,8 @@ use Rattle.jury.specs.Width.{widthOf}
 use Rattle.jury.specs.Accepted.{AcceptedBallots}
 use Rattle.jury.proofs.AcceptedLaws as ballots-laws
 use Rattle.jury.proofs.Limits.{Ranked, ranked, ranked-bytes, graded-kind, ranked-kind}
-use Rattle.graded_circuit.specs.OwnList as graded
-use Rattle.graded_circuit.specs.Bound as graded-bound
+use Rattle.graded_circuit.specs.OwnList.{ownGrading}
+use Rattle.graded_circuit.specs.Bound.{gradingBound}
 use Rattle.graded_circuit.proofs.Accuracy.{own, own-list-is-accurate}
 use Rattle.graded_circuit.proofs.OwnListLaws.{own-list-keeps-the-bound, own-list-short}
 use Rattle.ranked_circuit.specs.OwnRanking.{ownRanking, rankingBound, OwnRankingHolds}
@@ -33,21 +33,21 @@ use Rattle.tally.proofs.TestReasons.{list-accepted}
 use Rattle.basics.proofs.Flags.{either}
 
 -- the list and the bound of each kind
-pub own-graded : (s : Shape) → isRanking s ≡ false → ownList s ≡ graded.ownList s
+pub own-graded : (s : Shape) → isRanking s ≡ false → ownList s ≡ ownGrading s
 unfolding ownList
-own-graded s e = ap (λ (t : Bool). cond t (ownRanking (s .candidates) (s .ballots)) (graded.ownList s)) e
+own-graded s e = ap (λ (t : Bool). cond t (ownRanking (s .candidates) (s .ballots)) (ownGrading s)) e
 
 pub own-ranked : (s : Shape) → isRanking s ≡ true → ownList s ≡ ownRanking (s .candidates) (s .ballots)
 unfolding ownList
-own-ranked s e = ap (λ (t : Bool). cond t (ownRanking (s .candidates) (s .ballots)) (graded.ownList s)) e
+own-ranked s e = ap (λ (t : Bool). cond t (ownRanking (s .candidates) (s .ballots)) (ownGrading s)) e
 
-bound-graded : (s : Shape) → isRanking s ≡ false → gateBound s ≡ graded-bound.gateBound s
+bound-graded : (s : Shape) → isRanking s ≡ false → gateBound s ≡ gradingBound s
 unfolding gateBound
-bound-graded s e = ap (λ (t : Bool). cond t (rankingBound (s .candidates) (s .ballots) (widthOf (s .ballots))) (graded-bound.gateBound s)) e
+bound-graded s e = ap (λ (t : Bool). cond t (rankingBound (s .candidates) (s .ballots) (widthOf (s .ballots))) (gradingBound s)) e
 
 bound-ranked : (s : Shape) → isRanking s ≡ true → gateBound s ≡ rankingBound (s .candidates) (s .ballots) (widthOf (s .ballots))
 unfolding gateBound
-bound-ranked s e = ap (λ (t : Bool). cond t (rankingBound (s .candidates) (s .ballots) (widthOf (s .ballots))) (graded-bound.gateBound s)) e
+bound-ranked s e = ap (λ (t : Bool). cond t (rankingBound (s .candidates) (s .ballots) (widthOf (s .ballots))) (gradingBound s)) e
 
 module _ (s : Shape) (w : withinLimits s ≡ true) where
   -- what the kinds have in common
@@ -60,7 +60,7 @@ module _ (s : Shape) (w : withinLimits s ≡ true) where
   graded-holds : isRanking s ≡ false → Holds
   graded-holds e =
       let g = graded-kind s w e in
-      let gs = graded.ownList s in
+      let gs = ownGrading s in
       record {
         takes = subst (λ (gs : List Gate). tested (ballotBytes s) (s .candidates) (numbersOf gs)
             ≡ Accepted (length gs) (conditionalCount gs)) (sym (own-graded s e))

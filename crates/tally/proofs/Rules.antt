@@ -18,7 +18,7 @@ use Rattle.basics.proofs.Tabulate.{length-tabulate}
 use Rattle.rule_judgment.specs.Judgment.{judgmentOf}
 use Rattle.rule_judgment.proofs.Winners.{judgment-length}
 use Rattle.rule_judgment.proofs.Theorems.{bytes-say, each-gets}
-use Rattle.rule_schulze.specs.Schulze.{wins, closingBytes}
+use Rattle.rule_schulze.specs.Schulze.{wins, schulzeOf}
 use Rattle.rule_schulze.specs.Votes.{votes}
 use Rattle.rule_schulze.proofs.Winning.{closing-at, closing-one}
 use Rattle.tally.specs.Rule.{closingFor, Wins}
@@ -40,12 +40,12 @@ none-exactly x h iff = (
 module _ (s : Shape) (xs : List ℕ) where
   pub closing-graded : isRanking s ≡ false → closingFor s xs ≡ judgmentOf (countsOf s xs)
   unfolding closingFor
-  closing-graded e = ap (λ (t : Bool). cond t (closingBytes (votes (s .candidates) (s .ballots) xs) (s .candidates))
+  closing-graded e = ap (λ (t : Bool). cond t (schulzeOf (votes (s .candidates) (s .ballots) xs) (s .candidates))
       (judgmentOf (countsOf s xs))) e
 
-  pub closing-ranked : isRanking s ≡ true → closingFor s xs ≡ closingBytes (votes (s .candidates) (s .ballots) xs) (s .candidates)
+  pub closing-ranked : isRanking s ≡ true → closingFor s xs ≡ schulzeOf (votes (s .candidates) (s .ballots) xs) (s .candidates)
   unfolding closingFor
-  closing-ranked e = ap (λ (t : Bool). cond t (closingBytes (votes (s .candidates) (s .ballots) xs) (s .candidates))
+  closing-ranked e = ap (λ (t : Bool). cond t (schulzeOf (votes (s .candidates) (s .ballots) xs) (s .candidates))
       (judgmentOf (countsOf s xs))) e
 
   -- a byte for each candidate
@@ -54,8 +54,8 @@ module _ (s : Shape) (xs : List ℕ) where
       either (isRanking s) (λ e. ap length (closing-ranked e) ∙ ranked-length)
       (λ e. ap length (closing-graded e) ∙ judgment-length (countsOf s xs) ∙ counts-length s xs)
     where
-      ranked-length : length (closingBytes (votes (s .candidates) (s .ballots) xs) (s .candidates)) ≡ s .candidates
-      ranked-length = unfold closingBytes in
+      ranked-length : length (schulzeOf (votes (s .candidates) (s .ballots) xs) (s .candidates)) ≡ s .candidates
+      ranked-length = unfold schulzeOf in
           (length-tabulate (s .candidates)
           (λ i. cond {A = ℕ} (wins (votes (s .candidates) (s .ballots) xs) (s .candidates) i) 1 0))
 
@@ -81,7 +81,7 @@ module _ (s : Shape) (xs : List ℕ) where
         )
 
     module _ (e : isRanking s ≡ true) (i : ℕ) (h : i < s .candidates) where
-      ranked-byte : getD (closingFor s xs) i 0 ≡ getD (closingBytes (votes (s .candidates) (s .ballots) xs) (s .candidates)) i 0
+      ranked-byte : getD (closingFor s xs) i 0 ≡ getD (schulzeOf (votes (s .candidates) (s .ballots) xs) (s .candidates)) i 0
       ranked-byte = ap (λ (bytes : List ℕ). getD bytes i 0) (closing-ranked e)
 
       ranked-winner : (getD (closingFor s xs) i 0 ≡ 1) ↔ Wins s xs i

@@ -16,8 +16,8 @@ use Rattle.jury.specs.declared.shape.Shape.{Shape}
 use Rattle.jury.specs.Shape.{withinLimits}
 use Rattle.jury.specs.Reason.{Reason, reasonAt, unless, firstOf}
 use Rattle.tally.specs.OwnList.{ownList}
-use Rattle.tally.specs.Answer.{refused, accepted, outcome, Size, sizeOf}
-use Rattle.tally.specs.Write.{writeReasons, writeOutcome, writeResultAfter, writeResult}
+use Rattle.tally.specs.Answer.{refused, accepted, outcome, Size, sizeOf, overwritten}
+use Rattle.tally.specs.Write.{writeReasons, writeOutcome, writeResult}
 use Rattle.tally.specs.Demands.{listIn}
 use Rattle.tally.proofs.TestReasons.{never}
 
@@ -33,10 +33,10 @@ module _ (s : Shape) (table : List ℕ) where
   -- the answer and the table, by the first reason that applies
   pub write-refused : (r : Reason) → firstOf (writeReasons s table) ≡ some r → (writeOutcome s table ≡ refused r)
       × (writeResult s table ≡ table)
-  unfolding writeOutcome outcome writeResult writeResultAfter
+  unfolding writeOutcome outcome writeResult overwritten
   write-refused r e = (
     ap (λ (o : Option Reason). outcome o (sizeOf (ownList s))) e,
-    ap (λ (o : Option Reason). writeResultAfter o (numbersOf (ownList s)) table) e,
+    ap (λ (o : Option Reason). overwritten o (numbersOf (ownList s)) table) e,
   )
 
   pub outside : withinLimits s ≡ false → firstOf (writeReasons s table) ≡ some (reasonAt 1 0)
@@ -55,10 +55,10 @@ module _ (s : Shape) (table : List ℕ) where
   pub write-accepted : firstOf (writeReasons s table) ≡ none
       → (writeOutcome s table ≡ accepted (sizeOf (ownList s)))
       × (writeResult s table ≡ numbersOf (ownList s) ++ drop (length (numbersOf (ownList s))) table)
-  unfolding writeOutcome outcome writeResult writeResultAfter
+  unfolding writeOutcome outcome writeResult overwritten
   write-accepted e = (
     ap (λ (o : Option Reason). outcome o (sizeOf (ownList s))) e,
-    ap (λ (o : Option Reason). writeResultAfter o (numbersOf (ownList s)) table) e,
+    ap (λ (o : Option Reason). overwritten o (numbersOf (ownList s)) table) e,
   )
 
   -- an accepted write, as facts

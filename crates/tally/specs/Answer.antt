@@ -1,10 +1,10 @@
 -- What the entry points answer: a reason with its place [order], or the values of [accepted] and [measure].
 use mathlib.Core.Option.{Option, none, some}
 use mathlib.Core.Bool.{Bool, false, _||_}
-use mathlib.Core.List.{List, [], _∷_}
+use mathlib.Core.List.{List, [], _∷_, _++_}
 use Prim.Native.Nat.{ℕ}
 use lib.Dec.{eqb}
-use lib.ListN.{length}
+use lib.ListN.{length, drop}
 use Rattle.gates.specs.Gate.{Gate}
 use Rattle.gates.specs.Board.{conditionalCount}
 use Rattle.jury.specs.Reason.{Reason, reasonOf}
@@ -20,6 +20,16 @@ pub data Outcome (Values : Type 0) : Type 0 where
 unfoldable pub outcome : {Values : Type 0} → Option Reason → Values → Outcome Values
 outcome (some r) values = refused r
 outcome none values = accepted values
+
+-- A lent table afterwards: new if the call is accepted, unchanged on a refusal.
+unfoldable pub afterwards : Option Reason → List ℕ → List ℕ → List ℕ
+afterwards (some r) new old = old
+afterwards none new old = new
+
+-- The same for a table of which the new numbers fill only the start: what comes after them is unchanged.
+unfoldable pub overwritten : Option Reason → List ℕ → List ℕ → List ℕ
+overwritten (some r) new old = old
+overwritten none new old = new ++ drop (length new) old
 
 -- Whether a reason has one of these numbers.
 unfoldable pub hasNumberIn : List ℕ → Reason → Bool

@@ -23,7 +23,7 @@ use Rattle.tally.specs.Run.{BoardCall, runResult}
 use Rattle.tally.specs.Hiding.{closingBytes, RunTellsNoMore}
 
 -- Demand 1 for the five entry points. Measure, test and count are lent nothing to write to.
-pub record Memory : Type 0 where
+pub record TallyMemory : Type 0 where
   pub measure : (s : Shape) → KeepsMemory (1 ∷ []) (measureOutcome s) [] []
   pub write : (s : Shape) (table : List ℕ)
       → KeepsMemory (1 ∷ 2 ∷ []) (writeOutcome s table) (record { before = table; after = writeResult s table } ∷ []) []
@@ -69,7 +69,7 @@ pub record CountAccuracy : Type 0 where
   pub eight-bytes : (s : Shape) (ballots : List ℕ) → length (plainClosing s ballots) ≡ 8
 
 pub record ThreeDemands : Type 0 where
-  pub memory : Memory
+  pub memory : TallyMemory
   pub accuracy : (s : Shape) (table : List ℕ) (size : Size) → writeOutcome s table ≡ accepted size
       → RunAccuracy s table size
   pub counting : CountAccuracy

@@ -49,8 +49,8 @@ BoardTellsNoMore {Inputs} call ballotsOf =
     × BoardsHide s table (ballotsOf s x) (ballotsOf s y) (call s table x) (call s table y) vs ws bs ds
 
 -- Two runs, and all accepted runs.
-abbrev pub Hidden : (s : Shape) (table xs ys vs ws bs ds : List ℕ) → Type 0
-Hidden s table xs ys = BoardsHide s table xs ys (runResult s table xs) (runResult s table ys)
+abbrev pub RunsHide : (s : Shape) (table xs ys vs ws bs ds : List ℕ) → Type 0
+RunsHide s table xs ys = BoardsHide s table xs ys (runResult s table xs) (runResult s table ys)
 
 abbrev pub RunTellsNoMore : Type 0
 RunTellsNoMore = BoardTellsNoMore runResult (λ s ballots. ballots)

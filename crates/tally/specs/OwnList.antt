@@ -6,15 +6,15 @@ use Rattle.gates.specs.Gate.{Gate}
 use Rattle.jury.specs.declared.shape.Shape.{Shape}
 use Rattle.jury.specs.Shape.{isRanking}
 use Rattle.jury.specs.Width.{widthOf}
-use Rattle.graded_circuit.specs.OwnList as graded
-use Rattle.graded_circuit.specs.Bound as graded-bound
+use Rattle.graded_circuit.specs.OwnList.{ownGrading}
+use Rattle.graded_circuit.specs.Bound.{gradingBound}
 use Rattle.ranked_circuit.specs.OwnRanking.{ownRanking, rankingBound}
 
 unfoldable pub ownList : Shape → List Gate
-ownList s = cond (isRanking s) (ownRanking (s .candidates) (s .ballots)) (graded.ownList s)
+ownList s = cond (isRanking s) (ownRanking (s .candidates) (s .ballots)) (ownGrading s)
 
 unfoldable pub gateBound : Shape → ℕ
 gateBound s =
     cond (isRanking s)
     (rankingBound (s .candidates) (s .ballots) (widthOf (s .ballots)))
-    (graded-bound.gateBound s)
+    (gradingBound s)

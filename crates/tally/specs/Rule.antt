@@ -7,21 +7,21 @@ use Rattle.jury.specs.declared.shape.Shape.{Shape}
 use Rattle.jury.specs.Shape.{isRanking}
 use Rattle.jury.specs.Counts.{countsOf}
 use Rattle.rule_judgment.specs.Judgment.{judgmentOf}
-use Rattle.rule_judgment.specs.Winner as judgment
+use Rattle.rule_judgment.specs.Winner.{JudgmentWinner}
 use Rattle.rule_schulze.specs.Votes.{votes}
-use Rattle.rule_schulze.specs.Schulze.{closingBytes}
-use Rattle.rule_schulze.specs.Winner.{Winner}
+use Rattle.rule_schulze.specs.Schulze.{schulzeOf}
+use Rattle.rule_schulze.specs.Winner.{SchulzeWinner}
 
 -- The closing bytes that the rule gives the ballots of a jury.
 unfoldable pub closingFor : Shape → List ℕ → List ℕ
 closingFor s xs =
     cond (isRanking s)
-    (closingBytes (votes (s .candidates) (s .ballots) xs) (s .candidates))
+    (schulzeOf (votes (s .candidates) (s .ballots) xs) (s .candidates))
     (judgmentOf (countsOf s xs))
 
 -- Who wins, said without a computation.
 pub record Wins (s : Shape) (xs : List ℕ) (i : ℕ) : Type 0 where
   -- with grades: no candidate's sequence comes before that of i
-  pub graded : isRanking s ≡ false → judgment.Wins (countsOf s xs) i
+  pub graded : isRanking s ≡ false → JudgmentWinner (countsOf s xs) i
   -- with rankings: nobody's strongest path to i is stronger than the one from i back
-  pub ranked : isRanking s ≡ true → Winner (votes (s .candidates) (s .ballots) xs) (s .candidates) i
+  pub ranked : isRanking s ≡ true → SchulzeWinner (votes (s .candidates) (s .ballots) xs) (s .candidates) i

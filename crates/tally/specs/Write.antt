@@ -1,17 +1,17 @@
 -- The entry point [write].
 use mathlib.Core.Path.{_≡_}
-use mathlib.Core.Option.{Option, none, some}
-use mathlib.Core.List.{List, [], _∷_, _++_}
+use mathlib.Core.Option.{Option}
+use mathlib.Core.List.{List, [], _∷_}
 use Prim.Native.Nat.{ℕ, _*_, _≤_}
 use lib.Dec.{T, leb}
-use lib.ListN.{length, drop}
+use lib.ListN.{length}
 use Rattle.gates.specs.Gate.{numbersOf}
 use Rattle.gates.specs.Wires.{wiresOf, outputsOf}
 use Rattle.jury.specs.declared.shape.Shape.{Shape}
 use Rattle.jury.specs.Shape.{withinLimits}
 use Rattle.jury.specs.Reason.{Reason, unless, firstOf}
 use Rattle.jury.specs.Accepted.{AcceptedBallots}
-use Rattle.tally.specs.Answer.{Outcome, accepted, outcome, Size, sizeOf}
+use Rattle.tally.specs.Answer.{Outcome, accepted, outcome, Size, sizeOf, overwritten}
 use Rattle.tally.specs.Rule.{closingFor}
 use Rattle.tally.specs.OwnList.{ownList, gateBound}
 use Rattle.tally.specs.Test.{testOutcome}
@@ -23,13 +23,9 @@ writeReasons s table = unless (withinLimits s) 1 ∷ unless (leb (4 * length (ow
 unfoldable pub writeOutcome : Shape → List ℕ → Outcome Size
 writeOutcome s table = outcome (firstOf (writeReasons s table)) (sizeOf (ownList s))
 
--- The table afterwards: the list's numbers, then the old contents; after a refusal, only the old contents.
-unfoldable pub writeResultAfter : Option Reason → List ℕ → List ℕ → List ℕ
-writeResultAfter (some r) numbers table = table
-writeResultAfter none numbers table = numbers ++ drop (length numbers) table
-
+-- The table afterwards.
 unfoldable pub writeResult : Shape → List ℕ → List ℕ
-writeResult s table = writeResultAfter (firstOf (writeReasons s table)) (numbersOf (ownList s)) table
+writeResult s table = overwritten (firstOf (writeReasons s table)) (numbersOf (ownList s)) table
 
 -- What holds for the own list of a shape within its limits.
 pub record OwnListHolds (s : Shape) : Type 0 where

@@ -49,6 +49,6 @@ fn closing_bytes(shape: Shape, ballots: &[u8]) -> [u8; 8]
         rule_schulze::count::closing_bytes(ballots, shape.candidates, shape.ballots)
     } else {
         let counts = jury::counts::counts(shape, ballots);
-        rule_judgment::rule::winners(shape, counts)
+        rule_judgment::rule::winners(shape, &counts)
     }
 }

@@ -15,13 +15,13 @@ use Rattle.gates.specs.declared.place.Place.the-variants.{At, Nowhere}
 use Rattle.jury.specs.declared.shape.Shape.{Shape}
 use Rattle.jury.specs.Shape.{withinLimits, ballotBytes}
 use Rattle.jury.specs.Reason.{Reason, reasonAt, unless, foundAt, firstOf}
-use Rattle.tally.specs.Answer.{Outcome, refused, accepted, outcome, sizeOf}
+use Rattle.tally.specs.Answer.{Outcome, refused, accepted, outcome, sizeOf, overwritten}
 use Rattle.tally.specs.Test.{testReasons, testOutcome}
 use Rattle.tally.proofs.TestReasons.{orElse, first-append}
 use Rattle.tally.proofs.RunReasons.{outcome-refused}
 use Rattle.text.specs.Answer.{TextResult}
 use Rattle.text.specs.Text.{textOf, linesOf, firstMalformed, gatesIn}
-use Rattle.text.specs.Write.{textReasons, textOutcome, outputAfter, textWritten}
+use Rattle.text.specs.Write.{textReasons, textOutcome, textWritten}
 use Rattle.text.specs.Read.{readReasons, readOutcome, numbersRead}
 
 -- the result of a call is equal if its two parts are
@@ -58,13 +58,13 @@ module _ (s : Shape) (table output : List ℕ) where
   -- what a refused and an accepted call leave
   pub text-refused : (r : Reason) → firstOf (textReasons s table output) ≡ some r
       → (refused r ≡ textOutcome s table output) × (output ≡ textWritten s table output)
-  unfolding textOutcome textWritten outcome outputAfter
+  unfolding textOutcome textWritten outcome overwritten
   text-refused r e = (rw e, rw e)
 
   pub text-accepted : firstOf (textReasons s table output) ≡ none
       → (accepted (length (textOf (gatesOf table))) ≡ textOutcome s table output)
       × (textOf (gatesOf table) ++ drop (length (textOf (gatesOf table))) output ≡ textWritten s table output)
-  unfolding textOutcome textWritten outcome outputAfter
+  unfolding textOutcome textWritten outcome overwritten
   text-accepted e = (rw e, rw e)
 
 module _ (s : Shape) (text output : List ℕ) where
@@ -123,12 +123,12 @@ module _ (s : Shape) (text output : List ℕ) where
 
   pub read-refused : (r : Reason) → firstOf (readReasons s text output) ≡ some r
       → (refused r ≡ readOutcome s text output) × (output ≡ numbersRead s text output)
-  unfolding readOutcome numbersRead outcome outputAfter
+  unfolding readOutcome numbersRead outcome overwritten
   read-refused r e = (rw e, rw e)
 
   pub read-accepted : firstOf (readReasons s text output) ≡ none
       → (accepted (4 * length (linesOf text)) ≡ readOutcome s text output)
       × (numbersOf (gatesIn (linesOf text)) ++ drop (length (numbersOf (gatesIn (linesOf text)))) output
       ≡ numbersRead s text output)
-  unfolding readOutcome numbersRead outcome outputAfter
+  unfolding readOutcome numbersRead outcome overwritten
   read-accepted e = (rw e, rw e)

@@ -10,10 +10,9 @@ use Rattle.gates.specs.Test.{firstBad}
 use Rattle.jury.specs.declared.shape.Shape.{Shape}
 use Rattle.jury.specs.Shape.{withinLimits, ballotBytes}
 use Rattle.jury.specs.Reason.{Reason, unless, foundAt, firstOf}
-use Rattle.tally.specs.Answer.{Outcome, outcome}
+use Rattle.tally.specs.Answer.{Outcome, outcome, overwritten}
 use Rattle.text.specs.Answer.{TextResult}
 use Rattle.text.specs.Text.{linesOf, firstMalformed, gatesIn}
-use Rattle.text.specs.Write.{outputAfter}
 
 -- The reasons in checking order: 1; 2 for fewer than k lines or more than 1,048,576; 23 at the first malformed line,
 -- over all lines; 3 at the first bad gate; 24 for an output of fewer than four numbers a line.
@@ -32,7 +31,7 @@ readOutcome s text output = outcome (firstOf (readReasons s text output)) (4 * l
 
 unfoldable pub numbersRead : Shape → List ℕ → List ℕ → List ℕ
 numbersRead s text output =
-    outputAfter (firstOf (readReasons s text output)) (numbersOf (gatesIn (linesOf text))) output
+    overwritten (firstOf (readReasons s text output)) (numbersOf (gatesIn (linesOf text))) output
 
 abbrev pub readTextResult : Shape → (text output : List ℕ) → TextResult
 readTextResult s text output = record { answer = readOutcome s text output; output = numbersRead s text output }

@@ -1,13 +1,13 @@
 -- Writing a list as text.
-use mathlib.Core.Option.{Option, none, some}
+use mathlib.Core.Option.{Option}
 use mathlib.Core.List.{List, [], _∷_, _++_}
 use Prim.Native.Nat.{ℕ}
 use lib.Dec.{leb}
-use lib.ListN.{length, drop}
+use lib.ListN.{length}
 use Rattle.gates.specs.Gate.{gatesOf}
 use Rattle.jury.specs.declared.shape.Shape.{Shape}
 use Rattle.jury.specs.Reason.{Reason, unless, firstOf}
-use Rattle.tally.specs.Answer.{Outcome, outcome}
+use Rattle.tally.specs.Answer.{Outcome, outcome, overwritten}
 use Rattle.tally.specs.Test.{testReasons}
 use Rattle.text.specs.Answer.{TextResult}
 use Rattle.text.specs.Text.{textOf}
@@ -21,13 +21,9 @@ textReasons s table output =
 unfoldable pub textOutcome : Shape → List ℕ → List ℕ → Outcome ℕ
 textOutcome s table output = outcome (firstOf (textReasons s table output)) (length (textOf (gatesOf table)))
 
--- An output afterwards: what was written, then the old contents; after a refusal, only the old contents.
-unfoldable pub outputAfter : Option Reason → List ℕ → List ℕ → List ℕ
-outputAfter (some r) new output = output
-outputAfter none new output = new ++ drop (length new) output
-
+-- The output afterwards.
 unfoldable pub textWritten : Shape → List ℕ → List ℕ → List ℕ
-textWritten s table output = outputAfter (firstOf (textReasons s table output)) (textOf (gatesOf table)) output
+textWritten s table output = overwritten (firstOf (textReasons s table output)) (textOf (gatesOf table)) output
 
 abbrev pub writeTextResult : Shape → (table output : List ℕ) → TextResult
 writeTextResult s table output = record { answer = textOutcome s table output; output = textWritten s table output }

@@ -13,29 +13,29 @@ use borrow.Author.Tests.{eq-eqb, le-leb, lt-ltb}
 use Rattle.gates.specs.Gate.{gatesOf}
 use Rattle.gates.specs.Board.{conditionalCount, Bits}
 use Rattle.gate_levels.specs.Levels.{levelsOf, roundsOf}
-use Rattle.gate_levels.proofs.Filling.{same-refl}
 use Rattle.jury.specs.Shape.{ballotBytes}
 use Rattle.jury.specs.Reason.{firstOf}
 use Rattle.tally.specs.Answer.{sizeOf}
 use Rattle.tally.specs.Test.{testReasons}
 use Rattle.levels.specs.Answer.{depthsOf}
 use Rattle.trustee_shares.specs.Shares.{part, Held}
-use Rattle.trustee_shares.specs.Views.{piece, ballotsOf, dealtOf, GoodDealing}
+use Rattle.trustee_shares.specs.Views.{piece, ballotsOf, triplesOf, GoodDealing}
 use Rattle.trustee_shares.proofs.Tables.{length-piece}
 use Rattle.trustee_gates.specs.Dealing.{onlyBits}
 use Rattle.trustee_gates.proofs.Parity.{opened-bit}
 use Rattle.trustee_gates.proofs.Dealt.{only-bits-back}
 use Rattle.trustee_rounds.specs.Rounds.{enters, publishes, startWires, startPublished}
-use Rattle.trustee_rounds.specs.Together.{sumsFrom, sumsOf, turnOf, wiresAfter, publishedAfter, holdingsAfter}
+use Rattle.trustee_rounds.specs.Together.{sumsFrom, sumsOf, turnOf, partsAfter, publishedAfter, holdingsAfter}
 use Rattle.trustee_rounds.proofs.Publishing.{length-sums}
 use Rattle.trustee_rounds.proofs.Closing.{length-enters, length-publishes}
 use Rattle.trustees.specs.Call.{Call}
 use Rattle.trustees.proofs.Reasons.{CallPassed, passed-dealing}
-use Rattle.trustee_alone.specs.Own.{isTrustee, tablesFit}
+use Rattle.trustee_alone.specs.Own.{isTrustee, ownTablesFit}
 use Rattle.trustee_alone.specs.Start.{ownReasons, startReasons, startOutcome, startedWires, startedPublished}
 use Rattle.trustee_alone.specs.Rounds.{tableReasons, roundReasons, roundOutcome, ownTurn, wiresMade, publishedMade, roundedWires, roundedPublished}
 use Rattle.trustee_alone.specs.Demands.{heardBefore, CallsOf}
 use Rattle.trustee_alone.proofs.Memory.{length-closes}
+use Rattle.basics.proofs.Same.{same-refl}
 use Rattle.trustee_alone.proofs.Tests.{pass, end, behind, and-both, outcome-none, left-new}
 
 -- pieces of bits are bits
@@ -71,9 +71,9 @@ module _ (c : Call) (passed : CallPassed c) (p : ℕ) (l : p < c .trustees) wher
   parts-long = length-piece (c .trustees) (ballotBytes (c .shape)) (c .lent .dealing .ballotParts) p
       (good .ballot-size ∙ ap (λ (n : ℕ). (c .trustees) * n) (passed .ballotsPassed .size)) l
 
-  dealt-long : length (dealtOf (gatesOf (c .table)) (c .lent .dealing) p) ≡ 3 * conditionalCount (gatesOf (c .table))
-  unfolding dealtOf
-  dealt-long = length-piece (c .trustees) (3 * conditionalCount (gatesOf (c .table)))
+  triples-long : length (triplesOf (gatesOf (c .table)) (c .lent .dealing) p) ≡ 3 * conditionalCount (gatesOf (c .table))
+  unfolding triplesOf
+  triples-long = length-piece (c .trustees) (3 * conditionalCount (gatesOf (c .table)))
       (c .lent .dealing .dealerParts) p (good .dealer-size) l
 
   parts-bits : onlyBits (ballotsOf (ballotBytes (c .shape)) (c .lent .dealing) p) ≡ true
@@ -81,19 +81,19 @@ module _ (c : Call) (passed : CallPassed c) (p : ℕ) (l : p < c .trustees) wher
   parts-bits = only-bits-back (piece (ballotBytes (c .shape)) (c .lent .dealing .ballotParts) p)
       (piece-bits (ballotBytes (c .shape)) (c .lent .dealing .ballotParts) p (good .ballot-bits))
 
-  dealt-bits : onlyBits (dealtOf (gatesOf (c .table)) (c .lent .dealing) p) ≡ true
-  unfolding dealtOf
-  dealt-bits = only-bits-back (piece (3 * conditionalCount (gatesOf (c .table))) (c .lent .dealing .dealerParts) p)
+  triples-bits : onlyBits (triplesOf (gatesOf (c .table)) (c .lent .dealing) p) ≡ true
+  unfolding triplesOf
+  triples-bits = only-bits-back (piece (3 * conditionalCount (gatesOf (c .table))) (c .lent .dealing .dealerParts) p)
       (piece-bits (3 * conditionalCount (gatesOf (c .table))) (c .lent .dealing .dealerParts) p (good .dealer-bits))
 
   fits : (ws published : List ℕ) → length ws ≡ ballotBytes (c .shape) + length (gatesOf (c .table))
       → length published ≡ 2 * conditionalCount (gatesOf (c .table)) + c .shape .candidates
-      → tablesFit (ballotBytes (c .shape)) (c .shape .candidates) (sizeOf (gatesOf (c .table)))
-      (dealtOf (gatesOf (c .table)) (c .lent .dealing) p) ws published ≡ true
-  unfolding tablesFit sizeOf
+      → ownTablesFit (ballotBytes (c .shape)) (c .shape .candidates) (sizeOf (gatesOf (c .table)))
+      (triplesOf (gatesOf (c .table)) (c .lent .dealing) p) ws published ≡ true
+  unfolding ownTablesFit sizeOf
   fits ws published e f =
       rw (
-        eq-eqb (length (dealtOf (gatesOf (c .table)) (c .lent .dealing) p)) (3 * conditionalCount (gatesOf (c .table))) dealt-long,
+        eq-eqb (length (triplesOf (gatesOf (c .table)) (c .lent .dealing) p)) (3 * conditionalCount (gatesOf (c .table))) triples-long,
         eq-eqb (length ws) (ballotBytes (c .shape) + length (gatesOf (c .table))) e,
         eq-eqb (length published) (2 * conditionalCount (gatesOf (c .table)) + c .shape .candidates) f,
       )
@@ -102,7 +102,7 @@ module _ (c : Call) (passed : CallPassed c) (p : ℕ) (l : p < c .trustees) wher
   start-passes : (ws published : List ℕ) → length ws ≡ ballotBytes (c .shape) + length (gatesOf (c .table))
       → length published ≡ 2 * conditionalCount (gatesOf (c .table)) + c .shape .candidates
       → firstOf (startReasons (c .shape) (c .table) (c .trustees) p
-      (ballotsOf (ballotBytes (c .shape)) (c .lent .dealing) p) (dealtOf (gatesOf (c .table)) (c .lent .dealing) p)
+      (ballotsOf (ballotBytes (c .shape)) (c .lent .dealing) p) (triplesOf (gatesOf (c .table)) (c .lent .dealing) p)
       ws published) ≡ none
   unfolding startReasons ownReasons
   start-passes ws published e f =
@@ -110,7 +110,7 @@ module _ (c : Call) (passed : CallPassed c) (p : ℕ) (l : p < c .trustees) wher
       ∙ pass _ 17 _ (and-both _ _ true
       (eq-eqb (length (ballotsOf (ballotBytes (c .shape)) (c .lent .dealing) p)) (ballotBytes (c .shape))
       parts-long) (fits ws published e f))
-      ∙ pass _ 18 [] (and-both _ _ true parts-bits dealt-bits) ∙ end
+      ∙ pass _ 18 [] (and-both _ _ true parts-bits triples-bits) ∙ end
 
   -- no round changes a length
   pub lengths : (r : ℕ) → (length
@@ -118,7 +118,7 @@ module _ (c : Call) (passed : CallPassed c) (p : ℕ) (l : p < c .trustees) wher
       (c .lent .dealing) r .wireParts p) ≡ ballotBytes (c .shape) + length (gatesOf (c .table)))
       × (length (holdingsAfter (c .trustees) (ballotBytes (c .shape)) (gatesOf (c .table)) (c .shape .candidates)
       (c .lent .dealing) r .published p) ≡ 2 * conditionalCount (gatesOf (c .table)) + c .shape .candidates)
-  unfolding holdingsAfter startWires startPublished wiresAfter publishedAfter
+  unfolding holdingsAfter startWires startPublished partsAfter publishedAfter
   lengths zero = (
     length-append (ballotsOf (ballotBytes (c .shape)) (c .lent .dealing) p)
         (replicate (length (gatesOf (c .table))) 0)
@@ -155,7 +155,7 @@ module _ (c : Call) (passed : CallPassed c) (p : ℕ) (l : p < c .trustees) wher
   -- a round
   round-passes : (r : ℕ) → r ≤ roundsOf (ballotBytes (c .shape)) (gatesOf (c .table))
       → firstOf (roundReasons (c .shape) (c .table) (c .trustees) p r
-      (levelsOf (ballotBytes (c .shape)) (gatesOf (c .table))) (dealtOf (gatesOf (c .table)) (c .lent .dealing) p)
+      (levelsOf (ballotBytes (c .shape)) (gatesOf (c .table))) (triplesOf (gatesOf (c .table)) (c .lent .dealing) p)
       (heardBefore c r) (holdingsAfter (c .trustees) (ballotBytes (c .shape)) (gatesOf (c .table))
       (c .shape .candidates) (c .lent .dealing) r .wireParts p)
       (holdingsAfter (c .trustees) (ballotBytes (c .shape)) (gatesOf (c .table)) (c .shape .candidates)
@@ -164,7 +164,7 @@ module _ (c : Call) (passed : CallPassed c) (p : ℕ) (l : p < c .trustees) wher
   round-passes r e =
       let h = lengths r in
       behind (testReasons (c .shape) (c .table)) _ (passed .test .reasons) ∙ pass _ 16 _ trustee
-      ∙ pass _ 17 _ (fits _ _ (h .0) (h .1)) ∙ pass _ 18 _ dealt-bits
+      ∙ pass _ 17 _ (fits _ _ (h .0) (h .1)) ∙ pass _ 18 _ triples-bits
       ∙ pass _ 200 _ (same-refl (levelsOf (ballotBytes (c .shape)) (gatesOf (c .table))))
       ∙ pass _ 201 _ (le-leb r (roundsOf (ballotBytes (c .shape)) (gatesOf (c .table))) e)
       ∙ pass _ 202 [] (and-both _ _ true
@@ -173,7 +173,7 @@ module _ (c : Call) (passed : CallPassed c) (p : ℕ) (l : p < c .trustees) wher
 
   pub calls-of : CallsOf c p
   unfolding startOutcome startedWires startedPublished roundOutcome roundedWires roundedPublished wiresMade
-      publishedMade ownTurn holdingsAfter wiresAfter publishedAfter turnOf heardBefore
+      publishedMade ownTurn holdingsAfter partsAfter publishedAfter turnOf heardBefore
   calls-of =
       record {
         start = λ ws published e f.
@@ -188,13 +188,13 @@ module _ (c : Call) (passed : CallPassed c) (p : ℕ) (l : p < c .trustees) wher
             let why = round-passes r e in
             let h = holdingsAfter (c .trustees) (ballotBytes (c .shape)) (gatesOf (c .table)) (c .shape .candidates) (c .lent .dealing) r in
             let own = levelsOf (ballotBytes (c .shape)) (gatesOf (c .table)) in
-            let dealt = dealtOf (gatesOf (c .table)) (c .lent .dealing) p in
+            let triples = triplesOf (gatesOf (c .table)) (c .lent .dealing) p in
             record {
               answer = sym (outcome-none _ (depthsOf (ballotBytes (c .shape)) (gatesOf (c .table)))
                   (depthsOf (ballotBytes (c .shape)) (gatesOf (c .table))) why refl);
-              wires = sym (left-new _ (wiresMade (c .shape) (c .table) p r own dealt (heardBefore c r)
+              wires = sym (left-new _ (wiresMade (c .shape) (c .table) p r own triples (heardBefore c r)
                   (h .wireParts p)) (h .wireParts p) why);
-              bits = sym (left-new _ (publishedMade (c .shape) (c .table) p r own dealt (heardBefore c r)
+              bits = sym (left-new _ (publishedMade (c .shape) (c .table) p r own triples (heardBefore c r)
                   (h .wireParts p) (h .published p)) (h .published p) why);
             };
       }

@@ -18,32 +18,32 @@ use Rattle.tally.specs.Answer.{refused, accepted, Size, sizeOf}
 use Rattle.tally.specs.SaysWhoWins.{SaysWhoWins}
 use Rattle.jury.proofs.Limits.{some-bytes}
 use Rattle.trustee_shares.specs.Shares.{part, Held}
-use Rattle.trustee_shares.specs.Views.{joined, othersOf, Dealing, ballotsOf, dealtOf, wirePartsOf, publishedOf, View, viewOf}
+use Rattle.trustee_shares.specs.Views.{joined, othersOf, Dealing, ballotsOf, triplesOf, wirePartsOf, publishedOf, View, viewOf}
 use Rattle.trustee_shares.proofs.Accuracy.{opened-same}
 use Rattle.trustee_shares.proofs.Tables.{length-piece, joined-cong, joined-same, others-cong, others-same}
 use Rattle.trustee_rounds.specs.Rounds.{Turn, enters, publishes, closes}
-use Rattle.trustee_rounds.specs.Together.{sumsOf, turnOf, wiresAfter, publishedAfter}
+use Rattle.trustee_rounds.specs.Together.{sumsOf, turnOf, partsAfter, publishedAfter}
 use Rattle.trustee_rounds.proofs.Together.{earlier-follows, rounds-make-the-tally}
 use Rattle.trustees.specs.Call.{PartTables, Call, dealtAs, wirePartsIn, publishedIn, viewIn}
 use Rattle.trustees.specs.Reasons.{trusteesReasons}
 use Rattle.trustees.specs.Result.{TrusteesResult, trusteesResultAfter, trusteesResult, closingSums}
-use Rattle.trustees.specs.Demands.{inOneCall, Accuracy, OwnList, Hidden, Tallies}
+use Rattle.trustees.specs.Demands.{inOneCall, WayAccuracy, OwnList, ViewsHide, Tallies}
 use Rattle.trustees.proofs.Reasons.{CallPassed, call-passed, result-by}
 use Rattle.trustees.proofs.Sums.{call-ready, opened-closing}
 use Rattle.trustees.proofs.Demands as one-call
-use Rattle.trustee_alone.specs.Demands.{roundsIn, holdingsIn, partsAtEnd, publishedAtEnd, closingHeard, viewBefore, apart, NoEarlierView, AsTheOneCall, OwnTablesOnly, Demands}
+use Rattle.trustee_alone.specs.Demands.{roundsIn, holdingsIn, partsAtEnd, publishedAtEnd, closingHeard, viewBefore, apart, NoEarlierView, AsTheOneCall, OwnTablesOnly, AloneHolds}
 use Rattle.trustee_alone.proofs.Memory.{memory}
 use Rattle.trustee_alone.proofs.Apart.{lengths, calls-of}
 
 -- the turn by what it is made of
-turn-same : (t inputs : ℕ) (gs : List Gate) (d e : Dealing) (r : ℕ) (one other : Held) (p : ℕ) → dealtOf gs d p
-    ≡ dealtOf gs e p → sumsOf t (conditionalCount gs) one ≡ sumsOf t (conditionalCount gs) other
+turn-same : (t inputs : ℕ) (gs : List Gate) (d e : Dealing) (r : ℕ) (one other : Held) (p : ℕ) → triplesOf gs d p
+    ≡ triplesOf gs e p → sumsOf t (conditionalCount gs) one ≡ sumsOf t (conditionalCount gs) other
     → turnOf t inputs gs d r one p ≡ turnOf t inputs gs e r other p
 unfolding turnOf
 turn-same t inputs gs d e r one other p f g = rw (f, g)
 
 own-tables-only : OwnTablesOnly
-unfolding publishedAfter wiresAfter
+unfolding publishedAfter partsAfter
 own-tables-only t inputs k gs d e r one other p f g w q =
     let same = turn-same t inputs gs d e r (one .published) (other .published) p f g in
     let X : Turn → List ℕ → List ℕ → List ℕ =
@@ -127,7 +127,7 @@ module _ (c : Call) (size : Size) (yes : trusteesResult c .answer ≡ accepted s
   same-view q =
       let seen : ℕ → List (List ℕ) → List ℕ → View = λ n parts published. record {
         ballotParts = othersOf (c .trustees) q (ballotsOf n (c .lent .dealing));
-        dealerParts = othersOf (c .trustees) q (dealtOf (gatesOf (c .table)) (c .lent .dealing));
+        dealerParts = othersOf (c .trustees) q (triplesOf (gatesOf (c .table)) (c .lent .dealing));
         wireParts = parts;
         published = published;
       } in
@@ -139,9 +139,9 @@ module _ (c : Call) (size : Size) (yes : trusteesResult c .answer ≡ accepted s
       ∙ ap (λ (bits : List ℕ). seen (length (c .ballots)) final bits) joined-is
 
 -- demands 2 and 3 of the single call are those of trustees apart
-apart-accuracy : (c : Call) (size : Size) → trusteesResult c .answer ≡ accepted size → Accuracy apart c size
+apart-accuracy : (c : Call) (size : Size) → trusteesResult c .answer ≡ accepted size → WayAccuracy apart c size
 apart-accuracy c size e =
-    let a = one-call.demands .tallies .accuracy c size e in
+    let a = one-call.trustees-hold .tallies .accuracy c size e in
     let s = as-the-one-call c size e in
     record {
       own-size = a .own-size;
@@ -161,7 +161,7 @@ apart-own-list c size e o =
       says-who-wins = subst (SaysWhoWins (c .shape) (c .ballots)) (sym (s .same-closing)) (o .says-who-wins);
     }
 
-apart-hidden : (c c′ : Call) → Hidden inOneCall c c′ → Hidden apart c c′
+apart-hidden : (c c′ : Call) → ViewsHide inOneCall c c′ → ViewsHide apart c c′
 apart-hidden c c′ h =
     record {
       same-view = λ (q : ℕ) l d accept.
@@ -245,15 +245,15 @@ tallies : Tallies apart
 tallies =
     record {
       accuracy = apart-accuracy;
-      own-list = λ c table size answer w own e. apart-own-list c answer e (one-call.demands .tallies .own-list c table size answer w own e);
+      own-list = λ c table size answer w own e. apart-own-list c answer e (one-call.trustees-hold .tallies .own-list c table size answer w own e);
       hiding = λ c c′ first second shape table trustees a b closing.
           apart-hidden c c′
-          (one-call.demands .tallies .hiding c c′ first second shape table trustees a b
+          (one-call.trustees-hold .tallies .hiding c c′ first second shape table trustees a b
           (sym (as-the-one-call c first a .same-closing) ∙ closing ∙ as-the-one-call c′ second b .same-closing));
     }
 
-pub demands : Demands
-demands =
+pub alone-holds : AloneHolds
+alone-holds =
     record {
       memory = memory;
       own-tables-only = own-tables-only;

@@ -14,23 +14,22 @@ use Rattle.gates.specs.Board.{conditionalCount}
 use Rattle.jury.specs.declared.shape.Shape.{Shape}
 use Rattle.jury.specs.Shape.{ballotBytes}
 use Rattle.jury.specs.Reason.{Reason, reasonAt, firstOf}
-use Rattle.tally.specs.Answer.{refused, accepted, hasNumberIn, Size, sizeOf}
+use Rattle.tally.specs.Answer.{refused, accepted, hasNumberIn, Size, sizeOf, afterwards}
 use Rattle.tally.specs.Test.{testReasons}
 use Rattle.tally.proofs.Numbering.{All, first-fine, both, unless-fine, list-fine, outcome-fine, refused-fine}
 use Rattle.tally.specs.Memory.{Each}
 use Rattle.basics.proofs.Flags.{and-first, and-second}
 use Rattle.levels.specs.Answer.{depthsOf}
-use Rattle.levels.specs.Levels.{afterwards}
 use Rattle.tally.proofs.RunReasons.{outcome-refused, accepted-values}
 use Rattle.gate_levels.specs.Levels.{roundsOf}
 use Rattle.trustee_shares.specs.Views.{closingParts}
 use Rattle.trustee_rounds.specs.Rounds.{enters, publishes, closes, startWires, startPublished}
 use Rattle.trustee_rounds.proofs.Closing.{length-enters, length-publishes}
-use Rattle.trustee_alone.specs.Own.{tablesFit}
+use Rattle.trustee_alone.specs.Own.{ownTablesFit}
 use Rattle.trustee_alone.specs.Start.{ownReasons, startReasons, startOutcome, startedWires, startedPublished}
 use Rattle.trustee_alone.specs.Rounds.{tableReasons, roundReasons, roundOutcome, ownTurn, wiresMade, publishedMade, roundedWires, roundedPublished}
 use Rattle.trustee_alone.specs.Finish.{finishReasons, finishOutcome, finishedWires}
-use Rattle.trustee_alone.specs.Demands.{Memory}
+use Rattle.trustee_alone.specs.Demands.{AloneMemory}
 use Rattle.trustee_alone.proofs.Tests.{passed, both-passed, left-old, left-new}
 use Rattle.trustee_alone.proofs.Sizes.{fit}
 
@@ -55,17 +54,17 @@ finish-list : (s : Shape) (table : List ℕ) → All finish-numbers (testReasons
 unfolding All testReasons hasNumberIn reasonAt finish-numbers
 finish-list s table = (unless-fine finish-numbers _ 1 tt, (list-fine finish-numbers _ tt (λ g. tt), tt))
 
-start-all : (s : Shape) (table : List ℕ) (t p : ℕ) (parts dealt ws published : List ℕ)
-    → All start-numbers (startReasons s table t p parts dealt ws published)
+start-all : (s : Shape) (table : List ℕ) (t p : ℕ) (shares triples ws published : List ℕ)
+    → All start-numbers (startReasons s table t p shares triples ws published)
 unfolding All startReasons ownReasons hasNumberIn reasonAt start-numbers
-start-all s table t p parts dealt ws published =
+start-all s table t p shares triples ws published =
     both start-numbers (testReasons s table) _ (start-list s table)
     (unless-fine start-numbers _ 16 tt, (unless-fine start-numbers _ 17 tt, (unless-fine start-numbers _ 18 tt, tt)))
 
-round-all : (s : Shape) (table : List ℕ) (t p round : ℕ) (levels dealt heard ws published : List ℕ)
-    → All round-numbers (roundReasons s table t p round levels dealt heard ws published)
+round-all : (s : Shape) (table : List ℕ) (t p round : ℕ) (levels triples heard ws published : List ℕ)
+    → All round-numbers (roundReasons s table t p round levels triples heard ws published)
 unfolding All roundReasons tableReasons hasNumberIn reasonAt round-numbers
-round-all s table t p round levels dealt heard ws published =
+round-all s table t p round levels triples heard ws published =
     both round-numbers (testReasons s table) _ (round-list s table) (
       unless-fine round-numbers _ 16 tt,
       (
@@ -84,24 +83,24 @@ finish-all : (s : Shape) (table ws : List ℕ) → All finish-numbers (finishRea
 unfolding All finishReasons hasNumberIn reasonAt finish-numbers
 finish-all s table ws = both finish-numbers (testReasons s table) _ (finish-list s table) (unless-fine finish-numbers _ 17 tt, tt)
 
-pub start-number : (s : Shape) (table : List ℕ) (t p : ℕ) (parts dealt ws published : List ℕ) (r : Reason)
-    → startOutcome s table t p parts dealt ws published ≡ refused r → T (hasNumberIn (1 ∷ 2 ∷ 3 ∷ 16 ∷ 17 ∷ 18 ∷ []) r)
+pub start-number : (s : Shape) (table : List ℕ) (t p : ℕ) (shares triples ws published : List ℕ) (r : Reason)
+    → startOutcome s table t p shares triples ws published ≡ refused r → T (hasNumberIn (1 ∷ 2 ∷ 3 ∷ 16 ∷ 17 ∷ 18 ∷ []) r)
 unfolding startOutcome start-numbers
-start-number s table t p parts dealt ws published r e =
-    refused-fine start-numbers (startOutcome s table t p parts dealt ws published) r
+start-number s table t p shares triples ws published r e =
+    refused-fine start-numbers (startOutcome s table t p shares triples ws published) r
     (outcome-fine start-numbers _ _
-    (first-fine start-numbers (startReasons s table t p parts dealt ws published)
-    (start-all s table t p parts dealt ws published))) e
+    (first-fine start-numbers (startReasons s table t p shares triples ws published)
+    (start-all s table t p shares triples ws published))) e
 
-pub round-number : (s : Shape) (table : List ℕ) (t p round : ℕ) (levels dealt heard ws published : List ℕ)
-    (r : Reason) → roundOutcome s table t p round levels dealt heard ws published ≡ refused r
+pub round-number : (s : Shape) (table : List ℕ) (t p round : ℕ) (levels triples heard ws published : List ℕ)
+    (r : Reason) → roundOutcome s table t p round levels triples heard ws published ≡ refused r
     → T (hasNumberIn (1 ∷ 2 ∷ 3 ∷ 16 ∷ 17 ∷ 18 ∷ 200 ∷ 201 ∷ 202 ∷ []) r)
 unfolding roundOutcome round-numbers
-round-number s table t p round levels dealt heard ws published r e =
-    refused-fine round-numbers (roundOutcome s table t p round levels dealt heard ws published) r
+round-number s table t p round levels triples heard ws published r e =
+    refused-fine round-numbers (roundOutcome s table t p round levels triples heard ws published) r
     (outcome-fine round-numbers _ _
-    (first-fine round-numbers (roundReasons s table t p round levels dealt heard ws published)
-    (round-all s table t p round levels dealt heard ws published))) e
+    (first-fine round-numbers (roundReasons s table t p round levels triples heard ws published)
+    (round-all s table t p round levels triples heard ws published))) e
 
 pub finish-number : (s : Shape) (table ws : List ℕ) (r : Reason) → finishOutcome s table ws ≡ refused r
     → T (hasNumberIn (1 ∷ 2 ∷ 3 ∷ 17 ∷ []) r)
@@ -110,27 +109,27 @@ finish-number s table ws r e =
     refused-fine finish-numbers (finishOutcome s table ws) r
     (outcome-fine finish-numbers _ _ (first-fine finish-numbers (finishReasons s table ws) (finish-all s table ws))) e
 
-start-refused : (s : Shape) (table : List ℕ) (t p : ℕ) (parts dealt ws published : List ℕ) (r : Reason)
-    → startOutcome s table t p parts dealt ws published ≡ refused r
-    → (startedWires s table t p parts dealt ws published ≡ ws) × (startedPublished s table t p parts dealt ws published ≡ published)
+start-refused : (s : Shape) (table : List ℕ) (t p : ℕ) (shares triples ws published : List ℕ) (r : Reason)
+    → startOutcome s table t p shares triples ws published ≡ refused r
+    → (startedWires s table t p shares triples ws published ≡ ws) × (startedPublished s table t p shares triples ws published ≡ published)
 unfolding startOutcome startedWires startedPublished
-start-refused s table t p parts dealt ws published r e =
-    let o = firstOf (startReasons s table t p parts dealt ws published) in
+start-refused s table t p shares triples ws published r e =
+    let o = firstOf (startReasons s table t p shares triples ws published) in
     let why = outcome-refused o (sizeOf (gatesOf table)) r e in (
-      sym (left-old o (startWires (length (gatesOf table)) parts) ws r why),
+      sym (left-old o (startWires (length (gatesOf table)) shares) ws r why),
       sym (left-old o (startPublished (conditionalCount (gatesOf table)) (s .candidates)) published r why),
     )
 
-round-refused : (s : Shape) (table : List ℕ) (t p round : ℕ) (levels dealt heard ws published : List ℕ) (r : Reason)
-    → roundOutcome s table t p round levels dealt heard ws published ≡ refused r
-    → (roundedWires s table t p round levels dealt heard ws published ≡ ws)
-    × (roundedPublished s table t p round levels dealt heard ws published ≡ published)
+round-refused : (s : Shape) (table : List ℕ) (t p round : ℕ) (levels triples heard ws published : List ℕ) (r : Reason)
+    → roundOutcome s table t p round levels triples heard ws published ≡ refused r
+    → (roundedWires s table t p round levels triples heard ws published ≡ ws)
+    × (roundedPublished s table t p round levels triples heard ws published ≡ published)
 unfolding roundOutcome roundedWires roundedPublished
-round-refused s table t p round levels dealt heard ws published r e =
-    let o = firstOf (roundReasons s table t p round levels dealt heard ws published) in
+round-refused s table t p round levels triples heard ws published r e =
+    let o = firstOf (roundReasons s table t p round levels triples heard ws published) in
     let why = outcome-refused o (depthsOf (ballotBytes s) (gatesOf table)) r e in (
-      sym (left-old o (wiresMade s table p round levels dealt heard ws) ws r why),
-      sym (left-old o (publishedMade s table p round levels dealt heard ws published) published r why),
+      sym (left-old o (wiresMade s table p round levels triples heard ws) ws r why),
+      sym (left-old o (publishedMade s table p round levels triples heard ws published) published r why),
     )
 
 finish-refused : (s : Shape) (table ws : List ℕ) (r : Reason) → finishOutcome s table ws ≡ refused r → finishedWires s table ws ≡ ws
@@ -161,44 +160,44 @@ unfolding afterwards
 kept (some r) new old h = refl
 kept none new old h = h refl
 
-start-fit : (s : Shape) (table : List ℕ) (t p : ℕ) (parts dealt ws published : List ℕ)
-    → firstOf (startReasons s table t p parts dealt ws published) ≡ none
-    → (length (startWires (length (gatesOf table)) parts) ≡ length ws)
+start-fit : (s : Shape) (table : List ℕ) (t p : ℕ) (shares triples ws published : List ℕ)
+    → firstOf (startReasons s table t p shares triples ws published) ≡ none
+    → (length (startWires (length (gatesOf table)) shares) ≡ length ws)
     × (length (startPublished (conditionalCount (gatesOf table)) (s .candidates)) ≡ length published)
 unfolding startReasons ownReasons startWires startPublished
-start-fit s table t p parts dealt ws published e =
+start-fit s table t p shares triples ws published e =
     let inputs = ballotBytes s in
     let gs = gatesOf table in
     let two = both-passed (testReasons s table) _ e in
     let at17 = passed _ 17 _ (passed _ 16 _ (two .1) .1) .0 in
-    let a = eqb (length parts) inputs in
-    let b = tablesFit inputs (s .candidates) (sizeOf gs) dealt ws published in
-    let long = eqb-true (length parts) inputs (and-first a b at17) in
-    let f = fit inputs (s .candidates) gs dealt ws published (and-second a b at17) in (
-      length-append parts (replicate (length gs) 0) ∙ ap (λ (n : ℕ). length parts + n) (length-replicate {A = ℕ} (length gs) 0)
+    let a = eqb (length shares) inputs in
+    let b = ownTablesFit inputs (s .candidates) (sizeOf gs) triples ws published in
+    let long = eqb-true (length shares) inputs (and-first a b at17) in
+    let f = fit inputs (s .candidates) gs triples ws published (and-second a b at17) in (
+      length-append shares (replicate (length gs) 0) ∙ ap (λ (n : ℕ). length shares + n) (length-replicate {A = ℕ} (length gs) 0)
           ∙ ap (λ (n : ℕ). n + length gs) long ∙ sym (f .wires-length),
       length-replicate {A = ℕ} (2 * conditionalCount gs + s .candidates) 0 ∙ sym (f .published-length),
     )
 
-start-lengths : (s : Shape) (table : List ℕ) (t p : ℕ) (parts dealt ws published : List ℕ)
-    → (length (startedWires s table t p parts dealt ws published) ≡ length ws)
-    × (length (startedPublished s table t p parts dealt ws published) ≡ length published)
+start-lengths : (s : Shape) (table : List ℕ) (t p : ℕ) (shares triples ws published : List ℕ)
+    → (length (startedWires s table t p shares triples ws published) ≡ length ws)
+    × (length (startedPublished s table t p shares triples ws published) ≡ length published)
 unfolding startedWires startedPublished
-start-lengths s table t p parts dealt ws published =
-    let o = firstOf (startReasons s table t p parts dealt ws published) in (
-      kept o (startWires (length (gatesOf table)) parts) ws (λ e. start-fit s table t p parts dealt ws published e .0),
+start-lengths s table t p shares triples ws published =
+    let o = firstOf (startReasons s table t p shares triples ws published) in (
+      kept o (startWires (length (gatesOf table)) shares) ws (λ e. start-fit s table t p shares triples ws published e .0),
       kept o (startPublished (conditionalCount (gatesOf table)) (s .candidates)) published
-          (λ e. start-fit s table t p parts dealt ws published e .1),
+          (λ e. start-fit s table t p shares triples ws published e .1),
     )
 
-round-lengths : (s : Shape) (table : List ℕ) (t p round : ℕ) (levels dealt heard ws published : List ℕ)
-    → (length (roundedWires s table t p round levels dealt heard ws published) ≡ length ws)
-    × (length (roundedPublished s table t p round levels dealt heard ws published) ≡ length published)
+round-lengths : (s : Shape) (table : List ℕ) (t p round : ℕ) (levels triples heard ws published : List ℕ)
+    → (length (roundedWires s table t p round levels triples heard ws published) ≡ length ws)
+    × (length (roundedPublished s table t p round levels triples heard ws published) ≡ length published)
 unfolding roundedWires roundedPublished wiresMade publishedMade
-round-lengths s table t p round levels dealt heard ws published =
-    let o = firstOf (roundReasons s table t p round levels dealt heard ws published) in
+round-lengths s table t p round levels triples heard ws published =
+    let o = firstOf (roundReasons s table t p round levels triples heard ws published) in
     let gs = gatesOf table in
-    let u = ownTurn s p round levels dealt heard in
+    let u = ownTurn s p round levels triples heard in
     let W = enters u gs 0 0 ws in (
       kept o W ws (λ e. length-enters u gs 0 0 ws),
       kept o (closes round (roundsOf (ballotBytes s) gs) (conditionalCount gs) (s .candidates) W (publishes u W gs 0 0 published)) published
@@ -211,23 +210,23 @@ unfolding finishedWires
 finish-length s table ws = kept (firstOf (finishReasons s table ws)) (replicate (length ws) 0) ws
     (λ e. length-replicate {A = ℕ} (length ws) 0)
 
-pub memory : Memory
+pub memory : AloneMemory
 unfolding Each
 memory =
     record {
-      start = λ s table t p parts dealt ws published.
-          let long = start-lengths s table t p parts dealt ws published in
+      start = λ s table t p shares triples ws published.
+          let long = start-lengths s table t p shares triples ws published in
           record {
-            number = start-number s table t p parts dealt ws published;
-            refusal = λ r e. let q = start-refused s table t p parts dealt ws published r e in (q .0, (q .1, tt));
+            number = start-number s table t p shares triples ws published;
+            refusal = λ r e. let q = start-refused s table t p shares triples ws published r e in (q .0, (q .1, tt));
             empties = λ size e. tt;
             lengths = (long .0, (long .1, tt));
           };
-      round = λ s table t p round levels dealt heard ws published.
-          let long = round-lengths s table t p round levels dealt heard ws published in
+      round = λ s table t p round levels triples heard ws published.
+          let long = round-lengths s table t p round levels triples heard ws published in
           record {
-            number = round-number s table t p round levels dealt heard ws published;
-            refusal = λ r e. let q = round-refused s table t p round levels dealt heard ws published r e in (q .0, (q .1, tt));
+            number = round-number s table t p round levels triples heard ws published;
+            refusal = λ r e. let q = round-refused s table t p round levels triples heard ws published r e in (q .0, (q .1, tt));
             empties = λ depths e. tt;
             lengths = (long .0, (long .1, tt));
           };

@@ -7,25 +7,24 @@ use Prim.Native.Nat.{ℕ}
 use Rattle.jury.specs.declared.shape.Shape.{Shape}
 use Rattle.jury.specs.Shape.{withinLimits}
 use Rattle.jury.specs.Reason.{reasonAt, unless, firstOf}
-use Rattle.tally.specs.Answer.{refused, outcome}
+use Rattle.tally.specs.Answer.{refused, outcome, afterwards}
 use Rattle.tally.specs.Test.{testReasons}
-use Rattle.levels.specs.Levels.{afterwards}
 use Rattle.trustee_alone.specs.Start.{startReasons, startOutcome, startedWires, startedPublished, startResult}
 use Rattle.trustee_alone.specs.Rounds.{roundReasons, roundOutcome, roundedWires, roundedPublished, roundResult}
 use Rattle.trustee_alone.specs.Finish.{finishReasons, finishOutcome, finishedWires, finishResult}
 
 module _ (s : Shape) (w : withinLimits s ≡ false) where
-  pub outside-start : (table : List ℕ) (t p : ℕ) (parts dealt wireParts published : List ℕ)
-      → startResult s table t p parts dealt wireParts published
+  pub outside-start : (table : List ℕ) (t p : ℕ) (shares triples wireParts published : List ℕ)
+      → startResult s table t p shares triples wireParts published
       ≡ record { answer = refused (reasonAt 1 0); wires = wireParts; published = published }
   unfolding startOutcome startedWires startedPublished startReasons testReasons outcome afterwards firstOf unless
-  outside-start table t p parts dealt wireParts published = rw w refl
+  outside-start table t p shares triples wireParts published = rw w refl
 
-  pub outside-round : (table : List ℕ) (t p round : ℕ) (levels dealt heard wireParts published : List ℕ)
-      → roundResult s table t p round levels dealt heard wireParts published
+  pub outside-round : (table : List ℕ) (t p round : ℕ) (levels triples heard wireParts published : List ℕ)
+      → roundResult s table t p round levels triples heard wireParts published
       ≡ record { answer = refused (reasonAt 1 0); wires = wireParts; published = published }
   unfolding roundOutcome roundedWires roundedPublished roundReasons testReasons outcome afterwards firstOf unless
-  outside-round table t p round levels dealt heard wireParts published = rw w refl
+  outside-round table t p round levels triples heard wireParts published = rw w refl
 
   pub outside-finish : (table wireParts : List ℕ) → finishResult s table wireParts
       ≡ record { answer = refused (reasonAt 1 0); wires = wireParts }

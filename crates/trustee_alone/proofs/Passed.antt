@@ -11,7 +11,6 @@ use Rattle.gates.specs.Gate.{gatesOf}
 use Rattle.gates.specs.Board.{conditionalCount}
 use Rattle.gate_levels.specs.Levels.{levelsOf, roundsOf}
 use Rattle.gate_levels.proofs.Laws.{length-levels}
-use Rattle.gate_levels.proofs.Filling.{same-true}
 use Rattle.jury.specs.declared.shape.Shape.{Shape}
 use Rattle.jury.specs.Shape.{ballotBytes}
 use Rattle.jury.specs.Reason.{firstOf}
@@ -23,11 +22,12 @@ use Rattle.levels.proofs.Reasons.{ListFacts, list-facts}
 use Rattle.trustee_gates.specs.Dealing.{onlyBits}
 use Rattle.trustee_alone.specs.Rounds.{tableReasons, roundReasons}
 use Rattle.trustee_alone.proofs.Tests.{passed, both-passed, outcome-none}
+use Rattle.basics.proofs.Same.{same-true}
 use Rattle.trustee_alone.proofs.Sizes.{Fit, fit}
 
-pub record Passed (s : Shape) (table : List ℕ) (round : ℕ) (levels dealt heard wireParts published : List ℕ) : Type 0 where
+pub record Passed (s : Shape) (table : List ℕ) (round : ℕ) (levels triples heard wireParts published : List ℕ) : Type 0 where
   pub facts : ListFacts s table (length (gatesOf table)) (conditionalCount (gatesOf table))
-  pub lengths : Fit (ballotBytes s) (s .candidates) (gatesOf table) dealt wireParts published
+  pub lengths : Fit (ballotBytes s) (s .candidates) (gatesOf table) triples wireParts published
   pub levels-are : levels ≡ levelsOf (ballotBytes s) (gatesOf table)
   pub levels-length : length levels ≡ length (gatesOf table)
   pub early : round ≤ roundsOf (ballotBytes s) (gatesOf table)
@@ -41,11 +41,11 @@ facts-by s table e = list-facts s table _ _
     (test-passed s table (sizeOf (gatesOf table))
     (sym (outcome-none (firstOf (testReasons s table)) (sizeOf (gatesOf table)) (sizeOf (gatesOf table)) e refl)))
 
-pub round-passed : (s : Shape) (table : List ℕ) (t p round : ℕ) (levels dealt heard wireParts published : List ℕ)
-    → firstOf (roundReasons s table t p round levels dealt heard wireParts published) ≡ none
-    → Passed s table round levels dealt heard wireParts published
+pub round-passed : (s : Shape) (table : List ℕ) (t p round : ℕ) (levels triples heard wireParts published : List ℕ)
+    → firstOf (roundReasons s table t p round levels triples heard wireParts published) ≡ none
+    → Passed s table round levels triples heard wireParts published
 unfolding roundReasons tableReasons
-round-passed s table t p round levels dealt heard wireParts published e =
+round-passed s table t p round levels triples heard wireParts published e =
     let inputs = ballotBytes s in
     let gs = gatesOf table in
     let two = both-passed (testReasons s table) _ e in
@@ -58,7 +58,7 @@ round-passed s table t p round levels dealt heard wireParts published e =
     let same = same-true levels (levelsOf inputs gs) (at200 .0) in
     record {
       facts = facts-by s table (two .0);
-      lengths = fit inputs (s .candidates) gs dealt wireParts published (at17 .0);
+      lengths = fit inputs (s .candidates) gs triples wireParts published (at17 .0);
       levels-are = same;
       levels-length = ap length same ∙ length-levels inputs gs;
       early = leb-true round (roundsOf inputs gs) (at201 .0);

@@ -15,9 +15,8 @@ use Rattle.gates.specs.Board.{conditionalCount}
 use Rattle.gates.proofs.Counting.{count-most}
 use Rattle.gate_levels.specs.Levels.{levelsOf, roundsOf}
 use Rattle.gate_levels.specs.declared.level.Compared.the-variants.{Own, Other}
-use Rattle.gate_levels.specs.Compared.{sameNumbers, compared}
+use Rattle.gate_levels.specs.Compared.{compared}
 use Rattle.gate_levels.proofs.Laws.{length-levels}
-use Rattle.gate_levels.proofs.Filling.{same-true}
 use Rattle.jury.specs.declared.shape.Shape.{Shape}
 use Rattle.jury.specs.Shape.{ballotBytes}
 use Rattle.basics.proofs.Flags.{and-first, and-second}
@@ -26,7 +25,9 @@ use Rattle.tally.specs.Answer.{sizeOf}
 use Rattle.levels.proofs.Reasons.{ListFacts}
 use Rattle.trustees.specs.inner.Sizes.{SmallSizes}
 use Rattle.trustee_rounds.specs.Rounds.{startWires, startPublished}
-use Rattle.trustee_alone.specs.Own.{tablesFit}
+use Rattle.trustee_alone.specs.Own.{ownTablesFit}
+use Rattle.basics.specs.Lists.{sameNumbers}
+use Rattle.basics.proofs.Same.{same-true}
 use Rattle.trustee_alone.specs.inner.Ready.{TablesReady}
 
 pub tables-ready : (s : Shape) (table : List ℕ) (gates conditional : ℕ) → ListFacts s table gates conditional
@@ -60,21 +61,21 @@ size-is g c table e f = ap (λ (n : ℕ). record { gates = n; conditional = c })
     ∙ ap (λ (n : ℕ). record { gates = length (gatesOf table); conditional = n }) f
 
 -- the three lengths
-pub record Fit (inputs k : ℕ) (gs : List Gate) (dealt wireParts published : List ℕ) : Type 0 where
-  pub dealt-length : length dealt ≡ 3 * conditionalCount gs
+pub record Fit (inputs k : ℕ) (gs : List Gate) (triples wireParts published : List ℕ) : Type 0 where
+  pub triples-length : length triples ≡ 3 * conditionalCount gs
   pub wires-length : length wireParts ≡ inputs + length gs
   pub published-length : length published ≡ 2 * conditionalCount gs + k
 
-pub fit : (inputs k : ℕ) (gs : List Gate) (dealt wireParts published : List ℕ)
-    → tablesFit inputs k (sizeOf gs) dealt wireParts published ≡ true → Fit inputs k gs dealt wireParts published
-unfolding tablesFit sizeOf
-fit inputs k gs dealt wireParts published e =
-    let a = eqb (length dealt) (3 * conditionalCount gs) in
+pub fit : (inputs k : ℕ) (gs : List Gate) (triples wireParts published : List ℕ)
+    → ownTablesFit inputs k (sizeOf gs) triples wireParts published ≡ true → Fit inputs k gs triples wireParts published
+unfolding ownTablesFit sizeOf
+fit inputs k gs triples wireParts published e =
+    let a = eqb (length triples) (3 * conditionalCount gs) in
     let b = eqb (length wireParts) (inputs + length gs) in
     let c = eqb (length published) (2 * conditionalCount gs + k) in
     let two = and-first (a && b) c e in
     record {
-      dealt-length = eqb-true (length dealt) (3 * conditionalCount gs) (and-first a b two);
+      triples-length = eqb-true (length triples) (3 * conditionalCount gs) (and-first a b two);
       wires-length = eqb-true (length wireParts) (inputs + length gs) (and-second a b two);
       published-length = eqb-true (length published) (2 * conditionalCount gs + k) (and-second (a && b) c e);
     }

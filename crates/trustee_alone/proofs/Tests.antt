@@ -7,9 +7,8 @@ use mathlib.Core.List.{List, [], _∷_, _++_}
 use Prim.Native.Nat.{ℕ}
 use native.Mathlib.Omega.{arith}
 use Rattle.jury.specs.Reason.{Reason, reasonAt, unless, firstOf}
-use Rattle.tally.specs.Answer.{Outcome, refused, accepted, outcome, Size}
+use Rattle.tally.specs.Answer.{Outcome, refused, accepted, outcome, Size, afterwards}
 use Rattle.tally.proofs.TestReasons.{orElse, first-append}
-use Rattle.levels.specs.Levels.{afterwards}
 use Rattle.trustee_alone.specs.Own.{OwnResult}
 use Rattle.trustee_alone.specs.Finish.{FinishResult}
 

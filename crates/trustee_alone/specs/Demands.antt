@@ -14,7 +14,7 @@ use Rattle.tally.specs.Answer.{accepted, Size, sizeOf}
 use Rattle.tally.specs.Memory.{Lent, KeepsMemory}
 use Rattle.levels.specs.Answer.{depthsOf}
 use Rattle.trustee_shares.specs.Shares.{opened, part, Held}
-use Rattle.trustee_shares.specs.Views.{piece, joined, othersOf, Dealing, ballotsOf, dealtOf, View}
+use Rattle.trustee_shares.specs.Views.{piece, joined, othersOf, Dealing, ballotsOf, triplesOf, View}
 use Rattle.trustee_rounds.specs.Together.{sumsOf, Holdings, publishedAfter, holdingsAfter}
 use Rattle.trustees.specs.Call.{Call, wirePartsIn}
 use Rattle.trustees.specs.Result.{trusteesResult}
@@ -28,16 +28,16 @@ abbrev pub lent : (before after : List ℕ) → Lent
 lent before after = record { before = before; after = after }
 
 -- Demand 1. Start and rounds may write to the wire parts and the published bits; finish empties the wire parts.
-pub record Memory : Type 0 where
-  pub start : (s : Shape) (table : List ℕ) (t p : ℕ) (parts dealt ws published : List ℕ)
-      → KeepsMemory (1 ∷ 2 ∷ 3 ∷ 16 ∷ 17 ∷ 18 ∷ []) (startOutcome s table t p parts dealt ws published)
-      (lent ws (startedWires s table t p parts dealt ws published)
-      ∷ lent published (startedPublished s table t p parts dealt ws published) ∷ []) []
-  pub round : (s : Shape) (table : List ℕ) (t p round : ℕ) (levels dealt heard ws published : List ℕ)
+pub record AloneMemory : Type 0 where
+  pub start : (s : Shape) (table : List ℕ) (t p : ℕ) (shares triples ws published : List ℕ)
+      → KeepsMemory (1 ∷ 2 ∷ 3 ∷ 16 ∷ 17 ∷ 18 ∷ []) (startOutcome s table t p shares triples ws published)
+      (lent ws (startedWires s table t p shares triples ws published)
+      ∷ lent published (startedPublished s table t p shares triples ws published) ∷ []) []
+  pub round : (s : Shape) (table : List ℕ) (t p round : ℕ) (levels triples heard ws published : List ℕ)
       → KeepsMemory (1 ∷ 2 ∷ 3 ∷ 16 ∷ 17 ∷ 18 ∷ 200 ∷ 201 ∷ 202 ∷ [])
-      (roundOutcome s table t p round levels dealt heard ws published)
-      (lent ws (roundedWires s table t p round levels dealt heard ws published)
-      ∷ lent published (roundedPublished s table t p round levels dealt heard ws published) ∷ []) []
+      (roundOutcome s table t p round levels triples heard ws published)
+      (lent ws (roundedWires s table t p round levels triples heard ws published)
+      ∷ lent published (roundedPublished s table t p round levels triples heard ws published) ∷ []) []
   pub finish : (s : Shape) (table ws : List ℕ)
       → KeepsMemory (1 ∷ 2 ∷ 3 ∷ 17 ∷ []) (finishOutcome s table ws) (lent ws (finishedWires s table ws) ∷ [])
       (lent ws (finishedWires s table ws) ∷ [])
@@ -58,11 +58,11 @@ unfoldable pub heardBefore : Call → ℕ → List ℕ
 heardBefore c r = sumsOf (c .trustees) (conditionalCount (gatesOf (c .table))) (holdingsIn c r .published)
 
 -- What trustee p brings: its parts of the ballots, and its triples.
-abbrev pub partsIn : Call → Held
-partsIn c p = ballotsOf (inputsIn c) (c .lent .dealing) p
+abbrev pub sharesIn : Call → Held
+sharesIn c p = ballotsOf (inputsIn c) (c .lent .dealing) p
 
-abbrev pub dealtIn : Call → Held
-dealtIn c p = dealtOf (gatesOf (c .table)) (c .lent .dealing) p
+abbrev pub triplesIn : Call → Held
+triplesIn c p = triplesOf (gatesOf (c .table)) (c .lent .dealing) p
 
 -- What all hold and have published, trustee after trustee, after rounds 0 to R.
 abbrev pub partsAtEnd : Call → Held
@@ -84,8 +84,8 @@ closingHeard c =
 abbrev pub viewBefore : (r q : ℕ) → Call → View
 viewBefore r q c =
     record {
-      ballotParts = othersOf (c .trustees) q (partsIn c);
-      dealerParts = othersOf (c .trustees) q (dealtIn c);
+      ballotParts = othersOf (c .trustees) q (sharesIn c);
+      dealerParts = othersOf (c .trustees) q (triplesIn c);
       wireParts = othersOf (c .trustees) q (holdingsIn c r .wireParts);
       published = joined (c .trustees) (holdingsIn c r .published);
     }
@@ -119,22 +119,22 @@ pub record AsTheOneCall (c : Call) : Type 0 where
 -- The start of trustee p on these tables, and its round r, are accepted and leave what it holds when all run
 -- together.
 pub record StartOf (c : Call) (p : ℕ) (ws published : List ℕ) : Type 0 where
-  pub answer : startOutcome (c .shape) (c .table) (c .trustees) p (partsIn c p) (dealtIn c p) ws published
+  pub answer : startOutcome (c .shape) (c .table) (c .trustees) p (sharesIn c p) (triplesIn c p) ws published
       ≡ accepted (sizeOf (gatesOf (c .table)))
-  pub wires : startedWires (c .shape) (c .table) (c .trustees) p (partsIn c p) (dealtIn c p) ws published
+  pub wires : startedWires (c .shape) (c .table) (c .trustees) p (sharesIn c p) (triplesIn c p) ws published
       ≡ holdingsIn c 0 .wireParts p
-  pub bits : startedPublished (c .shape) (c .table) (c .trustees) p (partsIn c p) (dealtIn c p) ws published
+  pub bits : startedPublished (c .shape) (c .table) (c .trustees) p (sharesIn c p) (triplesIn c p) ws published
       ≡ holdingsIn c 0 .published p
 
 pub record RoundOf (c : Call) (p r : ℕ) : Type 0 where
   pub answer : roundOutcome (c .shape) (c .table) (c .trustees) p r (levelsOf (inputsIn c) (gatesOf (c .table)))
-      (dealtIn c p) (heardBefore c r) (holdingsIn c r .wireParts p) (holdingsIn c r .published p)
+      (triplesIn c p) (heardBefore c r) (holdingsIn c r .wireParts p) (holdingsIn c r .published p)
       ≡ accepted (depthsOf (inputsIn c) (gatesOf (c .table)))
   pub wires : roundedWires (c .shape) (c .table) (c .trustees) p r (levelsOf (inputsIn c) (gatesOf (c .table)))
-      (dealtIn c p) (heardBefore c r) (holdingsIn c r .wireParts p) (holdingsIn c r .published p)
+      (triplesIn c p) (heardBefore c r) (holdingsIn c r .wireParts p) (holdingsIn c r .published p)
       ≡ holdingsIn c (suc r) .wireParts p
   pub bits : roundedPublished (c .shape) (c .table) (c .trustees) p r (levelsOf (inputsIn c) (gatesOf (c .table)))
-      (dealtIn c p) (heardBefore c r) (holdingsIn c r .wireParts p) (holdingsIn c r .published p)
+      (triplesIn c p) (heardBefore c r) (holdingsIn c r .wireParts p) (holdingsIn c r .published p)
       ≡ holdingsIn c (suc r) .published p
 
 -- Trustee p in such an election: its start, on any tables of the right lengths, and every round up to R. This ties
@@ -149,14 +149,14 @@ pub record CallsOf (c : Call) (p : ℕ) : Type 0 where
 abbrev pub OwnTablesOnly : Type 0
 OwnTablesOnly =
     (t inputs k : ℕ) (gs : List Gate) (d e : Dealing) (r : ℕ) (one other : Holdings) (p : ℕ)
-    → dealtOf gs d p ≡ dealtOf gs e p
+    → triplesOf gs d p ≡ triplesOf gs e p
     → sumsOf t (conditionalCount gs) (one .published) ≡ sumsOf t (conditionalCount gs) (other .published)
     → one .wireParts p ≡ other .wireParts p → one .published p ≡ other .published p
     → publishedAfter t inputs gs k d r one p ≡ publishedAfter t inputs gs k e r other p
 
 -- Demands 2 and 3 of `apart` are those of the single call, for the elections that it accepts.
-pub record Demands : Type 0 where
-  pub memory : Memory
+pub record AloneHolds : Type 0 where
+  pub memory : AloneMemory
   pub own-tables-only : OwnTablesOnly
   pub tallies : Tallies apart
   pub no-earlier-view : NoEarlierView

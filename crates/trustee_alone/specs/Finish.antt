@@ -8,9 +8,8 @@ use Rattle.gates.specs.Gate.{gatesOf}
 use Rattle.jury.specs.declared.shape.Shape.{Shape}
 use Rattle.jury.specs.Shape.{ballotBytes}
 use Rattle.jury.specs.Reason.{Reason, unless, firstOf}
-use Rattle.tally.specs.Answer.{Outcome, outcome, Size, sizeOf}
+use Rattle.tally.specs.Answer.{Outcome, outcome, Size, sizeOf, afterwards}
 use Rattle.tally.specs.Test.{testReasons}
-use Rattle.levels.specs.Levels.{afterwards}
 
 -- The reasons in checking order: 1, 2 and 3 of the list, then 17 if the wire parts have the wrong length.
 unfoldable pub finishReasons : Shape → List ℕ → List ℕ → List (Option Reason)

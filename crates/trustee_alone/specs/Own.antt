@@ -11,9 +11,9 @@ unfoldable pub isTrustee : ℕ → ℕ → Bool
 isTrustee t p = leb 2 t && leb t 5 && ltb p t
 
 -- The lengths of its triples, wire parts and published bits.
-unfoldable pub tablesFit : ℕ → ℕ → Size → List ℕ → List ℕ → List ℕ → Bool
-tablesFit inputs k size dealt wireParts published =
-    eqb (length dealt) (3 * size .conditional) && eqb (length wireParts) (inputs + size .gates)
+unfoldable pub ownTablesFit : ℕ → ℕ → Size → List ℕ → List ℕ → List ℕ → Bool
+ownTablesFit inputs k size triples wireParts published =
+    eqb (length triples) (3 * size .conditional) && eqb (length wireParts) (inputs + size .gates)
     && eqb (length published) (2 * size .conditional + k)
 
 -- What a call leaves: its answer, the wire parts and what is published.

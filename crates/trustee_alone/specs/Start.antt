@@ -10,48 +10,47 @@ use Rattle.gates.specs.Board.{conditionalCount}
 use Rattle.jury.specs.declared.shape.Shape.{Shape}
 use Rattle.jury.specs.Shape.{ballotBytes}
 use Rattle.jury.specs.Reason.{Reason, unless, firstOf}
-use Rattle.tally.specs.Answer.{Outcome, outcome, Size, sizeOf}
+use Rattle.tally.specs.Answer.{Outcome, outcome, Size, sizeOf, afterwards}
 use Rattle.tally.specs.Test.{testReasons}
-use Rattle.levels.specs.Levels.{afterwards}
 use Rattle.trustee_gates.specs.Dealing.{onlyBits}
 use Rattle.trustee_rounds.specs.Rounds.{startWires, startPublished}
-use Rattle.trustee_alone.specs.Own.{isTrustee, tablesFit, OwnResult}
+use Rattle.trustee_alone.specs.Own.{isTrustee, ownTablesFit, OwnResult}
 
 -- The tests of what one trustee brings, in checking order: 16, 17, 18. Whether parts add up, only all trustees
 -- together could tell.
 unfoldable pub ownReasons : ℕ → ℕ → Size → ℕ → ℕ → List ℕ → List ℕ → List ℕ → List ℕ → List (Option Reason)
-ownReasons inputs k size t p parts dealt wireParts published =
+ownReasons inputs k size t p shares triples wireParts published =
     unless (isTrustee t p) 16
-    ∷ unless (eqb (length parts) inputs && tablesFit inputs k size dealt wireParts published) 17
-    ∷ unless (onlyBits parts && onlyBits dealt) 18
+    ∷ unless (eqb (length shares) inputs && ownTablesFit inputs k size triples wireParts published) 17
+    ∷ unless (onlyBits shares && onlyBits triples) 18
     ∷ []
 
 -- All reasons: 1, 2 and 3 of the list come first.
 unfoldable pub startReasons : Shape → List ℕ → ℕ → ℕ → List ℕ → List ℕ → List ℕ → List ℕ → List (Option Reason)
-startReasons s table t p parts dealt wireParts published =
+startReasons s table t p shares triples wireParts published =
     testReasons s table
-    ++ ownReasons (ballotBytes s) (s .candidates) (sizeOf (gatesOf table)) t p parts dealt wireParts published
+    ++ ownReasons (ballotBytes s) (s .candidates) (sizeOf (gatesOf table)) t p shares triples wireParts published
 
 -- The answer: a reason, or G and C.
 unfoldable pub startOutcome : Shape → List ℕ → ℕ → ℕ → List ℕ → List ℕ → List ℕ → List ℕ → Outcome Size
-startOutcome s table t p parts dealt wireParts published =
-    outcome (firstOf (startReasons s table t p parts dealt wireParts published)) (sizeOf (gatesOf table))
+startOutcome s table t p shares triples wireParts published =
+    outcome (firstOf (startReasons s table t p shares triples wireParts published)) (sizeOf (gatesOf table))
 
 -- Both tables afterwards; a refusal changes nothing.
 unfoldable pub startedWires : Shape → List ℕ → ℕ → ℕ → List ℕ → List ℕ → List ℕ → List ℕ → List ℕ
-startedWires s table t p parts dealt wireParts published =
-    afterwards (firstOf (startReasons s table t p parts dealt wireParts published))
-    (startWires (length (gatesOf table)) parts) wireParts
+startedWires s table t p shares triples wireParts published =
+    afterwards (firstOf (startReasons s table t p shares triples wireParts published))
+    (startWires (length (gatesOf table)) shares) wireParts
 
 unfoldable pub startedPublished : Shape → List ℕ → ℕ → ℕ → List ℕ → List ℕ → List ℕ → List ℕ → List ℕ
-startedPublished s table t p parts dealt wireParts published =
-    afterwards (firstOf (startReasons s table t p parts dealt wireParts published))
+startedPublished s table t p shares triples wireParts published =
+    afterwards (firstOf (startReasons s table t p shares triples wireParts published))
     (startPublished (conditionalCount (gatesOf table)) (s .candidates)) published
 
 abbrev pub startResult : Shape → List ℕ → ℕ → ℕ → List ℕ → List ℕ → List ℕ → List ℕ → OwnResult Size
-startResult s table t p parts dealt wireParts published =
+startResult s table t p shares triples wireParts published =
     record {
-      answer = startOutcome s table t p parts dealt wireParts published;
-      wires = startedWires s table t p parts dealt wireParts published;
-      published = startedPublished s table t p parts dealt wireParts published;
+      answer = startOutcome s table t p shares triples wireParts published;
+      wires = startedWires s table t p shares triples wireParts published;
+      published = startedPublished s table t p shares triples wireParts published;
     }

@@ -3,7 +3,7 @@ use trustees::test::LEAST_TRUSTEES;
 use trustees::test::MOST_TRUSTEES;
 ghost use mathlib.Core.Path.{_≡_};
 ghost use Rattle.trustees.specs.inner.Sizes.{SmallSizes};
-ghost use Rattle.trustee_alone.specs.Own.{isTrustee, tablesFit};
+ghost use Rattle.trustee_alone.specs.Own.{isTrustee, ownTablesFit};
 
 // Whether t is 2 to 5, and p, counted from 0, is one of the t trustees.
 pub(crate) fn is_trustee(t: usize, p: usize) -> bool
@@ -24,17 +24,17 @@ pub(crate) fn tables_fit(
     k: usize,
     gates: usize,
     conditional: usize,
-    dealt: &[u8],
+    triples: &[u8],
     wires: &[u8],
     published: &[u8],
 ) -> bool
     requires { ⌜ SmallSizes inputs k gates conditional ⌝ }
     ensures { λ r. ⌜
-        r ≡ tablesFit inputs k (record { gates = gates; conditional = conditional }) (now (dealt .entry))
+        r ≡ ownTablesFit inputs k (record { gates = gates; conditional = conditional }) (now (triples .entry))
         (now (wires .entry)) (now (published .entry))
         ⌝ }
 {
-    if dealt.len() != 3 * conditional {
+    if triples.len() != 3 * conditional {
         return false;
     }
     if wires.len() != inputs + gates {

@@ -28,7 +28,7 @@ fn test_tables(
     round: usize,
     table: &[u32],
     levels: &[u32],
-    dealt: &[u8],
+    triples: &[u8],
     heard: &[u8],
     wires: &[u8],
     published: &[u8],
@@ -38,7 +38,7 @@ fn test_tables(
         depthsOutcome r
         ≡ outcome
         (firstOf
-        (tableReasons inputs k (gatesOf (now (table .entry))) t p round (now (levels .entry)) (now (dealt .entry))
+        (tableReasons inputs k (gatesOf (now (table .entry))) t p round (now (levels .entry)) (now (triples .entry))
         (now (heard .entry)) (now (wires .entry)) (now (published .entry))))
         (depthsOf inputs (gatesOf (now (table .entry))))
         ⌝ }
@@ -46,10 +46,10 @@ fn test_tables(
     if !own::is_trustee(t, p) {
         return Answer::Refused(LevelRefusal::OfCore(Refusal::Trustees));
     }
-    if !own::tables_fit(inputs, k, gates, conditional, dealt, wires, published) {
+    if !own::tables_fit(inputs, k, gates, conditional, triples, wires, published) {
         return Answer::Refused(LevelRefusal::OfCore(Refusal::PartTables));
     }
-    if !dealing::only_bits(dealt) {
+    if !dealing::only_bits(triples) {
         return Answer::Refused(LevelRefusal::OfCore(Refusal::Dealing));
     }
     if levels.len() != gates {
@@ -82,7 +82,7 @@ fn test_round(
     p: usize,
     round: usize,
     levels: &[u32],
-    dealt: &[u8],
+    triples: &[u8],
     heard: &[u8],
     wires: &[u8],
     published: &[u8],
@@ -91,7 +91,7 @@ fn test_round(
         depthsOutcome r
         ≡ outcome
         (firstOf
-        (roundReasons shape (now (table .entry)) t p round (now (levels .entry)) (now (dealt .entry))
+        (roundReasons shape (now (table .entry)) t p round (now (levels .entry)) (now (triples .entry))
         (now (heard .entry)) (now (wires .entry)) (now (published .entry))))
         (depthsOf (ballotBytes shape) (gatesOf (now (table .entry))))
         ⌝ }
@@ -108,7 +108,7 @@ fn test_round(
             round,
             table,
             levels,
-            dealt,
+            triples,
             heard,
             wires,
             published,
@@ -125,14 +125,14 @@ pub fn round(
     p: usize,
     round: usize,
     levels: &[u32],
-    dealt: &[u8],
+    triples: &[u8],
     heard: &[u8],
     wires: &mut [u8],
     published: &mut [u8],
 ) -> Answer
     ensures { λ r.
         ⌜ record { answer = depthsOutcome r; wires = now (wires .exit); published = now (published .exit) }
-        ≡ roundResult shape (now (table .entry)) t p round (now (levels .entry)) (now (dealt .entry))
+        ≡ roundResult shape (now (table .entry)) t p round (now (levels .entry)) (now (triples .entry))
         (now (heard .entry)) (now (wires .entry)) (now (published .entry)) ⌝ }
 {
     let answer = test_round(
@@ -142,7 +142,7 @@ pub fn round(
         p,
         round,
         levels,
-        dealt,
+        triples,
         heard,
         wires,
         published,
@@ -169,7 +169,7 @@ pub fn round(
         k,
         table,
         levels,
-        dealt,
+        triples,
         heard,
         wires,
         published,

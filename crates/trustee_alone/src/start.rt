@@ -19,8 +19,8 @@ fn test_own(
     conditional: usize,
     t: usize,
     p: usize,
-    parts: &[u8],
-    dealt: &[u8],
+    shares: &[u8],
+    triples: &[u8],
     wires: &[u8],
     published: &[u8],
 ) -> Verdict
@@ -28,23 +28,23 @@ fn test_own(
     ensures { λ r. ⌜
         refusedFor r
         ≡ firstOf
-        (ownReasons inputs k (record { gates = gates; conditional = conditional }) t p (now (parts .entry))
-        (now (dealt .entry)) (now (wires .entry)) (now (published .entry)))
+        (ownReasons inputs k (record { gates = gates; conditional = conditional }) t p (now (shares .entry))
+        (now (triples .entry)) (now (wires .entry)) (now (published .entry)))
         ⌝ }
 {
     if !own::is_trustee(t, p) {
         return Verdict::Refused(Refusal::Trustees);
     }
-    if parts.len() != inputs {
+    if shares.len() != inputs {
         return Verdict::Refused(Refusal::PartTables);
     }
-    if !own::tables_fit(inputs, k, gates, conditional, dealt, wires, published) {
+    if !own::tables_fit(inputs, k, gates, conditional, triples, wires, published) {
         return Verdict::Refused(Refusal::PartTables);
     }
-    if !dealing::only_bits(parts) {
+    if !dealing::only_bits(shares) {
         return Verdict::Refused(Refusal::Dealing);
     }
-    if !dealing::only_bits(dealt) {
+    if !dealing::only_bits(triples) {
         return Verdict::Refused(Refusal::Dealing);
     }
     Verdict::Accepted
@@ -56,14 +56,14 @@ pub fn start(
     table: &[u32],
     t: usize,
     p: usize,
-    parts: &[u8],
-    dealt: &[u8],
+    shares: &[u8],
+    triples: &[u8],
     wires: &mut [u8],
     published: &mut [u8],
 ) -> Answer
     ensures { λ r.
         ⌜ record { answer = outcomeOf r; wires = now (wires .exit); published = now (published .exit) }
-        ≡ startResult shape (now (table .entry)) t p (now (parts .entry)) (now (dealt .entry)) (now (wires .entry))
+        ≡ startResult shape (now (table .entry)) t p (now (shares .entry)) (now (triples .entry)) (now (wires .entry))
         (now (published .entry)) ⌝ }
 {
     let answer = tally::test::test(shape, table);
@@ -79,15 +79,15 @@ pub fn start(
         conditional,
         t,
         p,
-        parts,
-        dealt,
+        shares,
+        triples,
         wires,
         published,
     ) {
         return Answer::Refused(reason);
     }
     basics::table::empty(wires);
-    bytes::copy(parts, wires);
+    bytes::copy(shares, wires);
     basics::table::empty(published);
     answer
 }

@@ -11,7 +11,7 @@ use borrow.Author.Tests.{leb-true, le-leb, eqb-true, eq-eqb, ltb-true, ltb-false
 use Rattle.gates.specs.Gate.{Gate}
 use Rattle.gates.specs.Board.{conditionalCount, Bits}
 use Rattle.trustee_shares.specs.Shares.{opened, part, uOf, vOf, productOf}
-use Rattle.trustee_shares.specs.Views.{piece, Dealing, ballotsOf, dealtOf, GoodDealing}
+use Rattle.trustee_shares.specs.Views.{piece, Dealing, ballotsOf, triplesOf, GoodDealing}
 use Rattle.trustee_gates.specs.Dealing.{onlyBits, addsUp, productAddsUp, productsAddUp, dealtWell}
 use Rattle.trustee_gates.proofs.Tests.{each-passes, all-pass}
 
@@ -34,7 +34,7 @@ only-bits-back xs b = sym (all-pass (λ j. leb (getD xs j 0) 1) (length xs) (λ 
 module _ (t : ℕ) (gs : List Gate) (xs : List ℕ) (d : Dealing) where
   pub dealt-good : length (d .ballotParts) ≡ t * length xs → length (d .dealerParts) ≡ t * (3 * conditionalCount gs)
       → dealtWell t (conditionalCount gs) xs d ≡ true → GoodDealing t gs xs d
-  unfolding dealtWell addsUp productsAddUp productAddsUp ballotsOf dealtOf
+  unfolding dealtWell addsUp productsAddUp productAddsUp ballotsOf triplesOf
   dealt-good lb ld e =
       let n = length xs in
       let C = conditionalCount gs in
@@ -56,7 +56,7 @@ module _ (t : ℕ) (gs : List Gate) (xs : List ℕ) (d : Dealing) where
       }
 
   pub good-dealt : GoodDealing t gs xs d → dealtWell t (conditionalCount gs) xs d ≡ true
-  unfolding dealtWell addsUp productsAddUp productAddsUp ballotsOf dealtOf
+  unfolding dealtWell addsUp productsAddUp productAddsUp ballotsOf triplesOf
   good-dealt g =
       let n = length xs in
       let C = conditionalCount gs in

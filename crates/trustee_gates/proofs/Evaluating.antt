@@ -9,10 +9,10 @@ use lib.Seq.{take-all, take-at, sets, sets-eq, length-sets}
 use Rattle.gates.specs.Gate.{Gate}
 use Rattle.gates.specs.Board.{conditionalCount}
 use Rattle.trustee_shares.specs.Shares.{Held, partsOf}
-use Rattle.trustee_shares.specs.Views.{piece, joined, Dealing, ballotsOf, dealtOf, wirePartsOf, maskedFactors, closingParts, publishedOf}
+use Rattle.trustee_shares.specs.Views.{piece, joined, Dealing, ballotsOf, triplesOf, wirePartsOf, maskedFactors, closingParts, publishedOf}
 use Rattle.trustee_shares.proofs.Tables.{length-piece, length-joined, piece-joined, whole-table, joined-cong}
 use Rattle.trustee_shares.proofs.Publishing.{length-masked}
-use Rattle.trustee_gates.specs.Tables.{eachPuts}
+use Rattle.trustee_gates.specs.inner.Tables.{eachPuts}
 use Rattle.trustee_gates.proofs.Puts.{length-puts, puts-at}
 use Rattle.trustee_gates.proofs.Running.{parts-cong, length-parts}
 
@@ -52,13 +52,13 @@ module _ (t inputs : ℕ) (gs : List Gate) (k : ℕ) (d : Dealing) (ws published
         ∙ take-sets (piece sizeW ws p) (take inputs xs) inputs (ap length all ∙ ballot-long p h)
         (omega (arith, length-piece t sizeW ws p wires-length h)) ∙ all
 
-    parts-are : (p : ℕ) → p < t → partsOf t (dealtOf gs d) (λ q. take inputs (piece sizeW ws₁ q)) 0 gs p ≡ wirePartsOf t inputs gs d p
+    parts-are : (p : ℕ) → p < t → partsOf t (triplesOf gs d) (λ q. take inputs (piece sizeW ws₁ q)) 0 gs p ≡ wirePartsOf t inputs gs d p
     unfolding wirePartsOf
-    parts-are p h = parts-cong t (dealtOf gs d) gs (λ q. take inputs (piece sizeW ws₁ q)) (ballotsOf inputs d) 0 inputs-there p h
+    parts-are p h = parts-cong t (triplesOf gs d) gs (λ q. take inputs (piece sizeW ws₁ q)) (ballotsOf inputs d) 0 inputs-there p h
 
     parts-long : (p : ℕ) → p < t → length (wirePartsOf t inputs gs d p) ≡ sizeW
     unfolding wirePartsOf ballotsOf
-    parts-long p h = length-parts t (dealtOf gs d) gs (piece inputs (d .ballotParts)) 0 inputs p (ballot-long p h) ∙ sym size-is
+    parts-long p h = length-parts t (triplesOf gs d) gs (piece inputs (d .ballotParts)) 0 inputs p (ballot-long p h) ∙ sym size-is
 
     -- the tables after the gates
     module _ (ws₂ published₂ : List ℕ)
@@ -66,36 +66,36 @@ module _ (t inputs : ℕ) (gs : List Gate) (k : ℕ) (d : Dealing) (ws published
         (f₂ : published₂ ≡ joined t (λ p. sets (piece sizeP published p) 0
         (maskedFactors (partsOf t (piece (3 * C) (d .dealerParts)) (λ q. take inputs (piece sizeW ws₁ q)) 0 gs
         p) (piece (3 * C) (d .dealerParts) p) 0 gs))) where
-      dealt-are : piece (3 * C) (d .dealerParts) ≡ dealtOf gs d
-      unfolding dealtOf
-      dealt-are = ap (λ (n : ℕ). piece (3 * n) (d .dealerParts)) count
+      triples-are : piece (3 * C) (d .dealerParts) ≡ triplesOf gs d
+      unfolding triplesOf
+      triples-are = ap (λ (n : ℕ). piece (3 * n) (d .dealerParts)) count
 
       pub wires-are : ws₂ ≡ joined t (wirePartsOf t inputs gs d)
       wires-are =
-          e₂ ∙ ap (λ (f : Held). joined t (partsOf t f (λ p. take inputs (piece sizeW ws₁ p)) 0 gs)) dealt-are
-          ∙ joined-cong t (partsOf t (dealtOf gs d) (λ p. take inputs (piece sizeW ws₁ p)) 0 gs) (wirePartsOf t inputs gs d) parts-are
+          e₂ ∙ ap (λ (f : Held). joined t (partsOf t f (λ p. take inputs (piece sizeW ws₁ p)) 0 gs)) triples-are
+          ∙ joined-cong t (partsOf t (triplesOf gs d) (λ p. take inputs (piece sizeW ws₁ p)) 0 gs) (wirePartsOf t inputs gs d) parts-are
 
       pub wires-long : length ws₂ ≡ t * sizeW
       wires-long = ap length wires-are ∙ length-joined sizeW (wirePartsOf t inputs gs d) t parts-long
 
       factors : Held
-      factors = λ p. maskedFactors (wirePartsOf t inputs gs d p) (dealtOf gs d p) 0 gs
+      factors = λ p. maskedFactors (wirePartsOf t inputs gs d p) (triplesOf gs d p) 0 gs
 
       factors-long : (p : ℕ) → length (factors p) ≡ 2 * C
       unfolding factors
-      factors-long p = omega (arith, length-masked (wirePartsOf t inputs gs d p) (dealtOf gs d p) 0 gs)
+      factors-long p = omega (arith, length-masked (wirePartsOf t inputs gs d p) (triplesOf gs d p) 0 gs)
 
       published-are : published₂ ≡ joined t (λ p. sets (piece sizeP published p) 0 (factors p))
       unfolding factors
       published-are =
           f₂ ∙ ap (λ (f : Held). joined t
           (λ p. sets (piece sizeP published p) 0
-          (maskedFactors (partsOf t f (λ q. take inputs (piece sizeW ws₁ q)) 0 gs p) (f p) 0 gs))) dealt-are
+          (maskedFactors (partsOf t f (λ q. take inputs (piece sizeW ws₁ q)) 0 gs p) (f p) 0 gs))) triples-are
           ∙ joined-cong t (λ p. sets (piece sizeP published p) 0
-          (maskedFactors (partsOf t (dealtOf gs d) (λ q. take inputs (piece sizeW ws₁ q)) 0 gs p) (dealtOf gs d p) 0
+          (maskedFactors (partsOf t (triplesOf gs d) (λ q. take inputs (piece sizeW ws₁ q)) 0 gs p) (triplesOf gs d p) 0
           gs))
-          (λ p. sets (piece sizeP published p) 0 (maskedFactors (wirePartsOf t inputs gs d p) (dealtOf gs d p) 0 gs))
-          (λ (p : ℕ) h. ap (λ (l : List ℕ). sets (piece sizeP published p) 0 (maskedFactors l (dealtOf gs d p) 0 gs)) (parts-are p h))
+          (λ p. sets (piece sizeP published p) 0 (maskedFactors (wirePartsOf t inputs gs d p) (triplesOf gs d p) 0 gs))
+          (λ (p : ℕ) h. ap (λ (l : List ℕ). sets (piece sizeP published p) 0 (maskedFactors l (triplesOf gs d p) 0 gs)) (parts-are p h))
 
       piece-long : (p : ℕ) → p < t → length (piece sizeP published p) ≡ sizeP
       piece-long p h = length-piece t sizeP published p published-length h

@@ -13,7 +13,7 @@ use lib.Seq.{getD-take, getD-drop, take-take, drop-drop, sets, length-sets, drop
 use borrow.Author.Tests.{eqb-true, eqb-false, ltb-true, ltb-false}
 use Rattle.trustee_shares.specs.Shares.{part, Held}
 use Rattle.trustee_shares.specs.Views.{piece}
-use Rattle.trustee_gates.specs.Tables.{eachPuts}
+use Rattle.trustee_gates.specs.inner.Tables.{eachPuts}
 use Rattle.basics.proofs.Arithmetic.{row-within}
 
 -- an entry of a piece, by its place in the table

@@ -1,8 +1,7 @@
 -- The tests of a dealing: reason 18 (request 2.7).
-use mathlib.Core.Path.{_≡_}
 use mathlib.Core.Bool.{Bool, _&&_}
 use mathlib.Core.List.{List}
-use Prim.Native.Nat.{ℕ, _*_, _<_}
+use Prim.Native.Nat.{ℕ, _*_}
 use lib.Dec.{eqb, leb}
 use lib.ListN.{length, getD}
 use Rattle.trustee_shares.specs.Shares.{opened, part, uOf, vOf, productOf, Held}
@@ -20,19 +19,14 @@ addsUp t ballots parts = allBelow (length ballots)
 
 -- The parts of the i-th product add up to the product of the bits u and v.
 unfoldable pub productAddsUp : ℕ → Held → ℕ → Bool
-productAddsUp t dealt i = eqb (opened t (λ p. productOf (dealt p) i))
-    (opened t (λ p. uOf (dealt p) i) * opened t (λ p. vOf (dealt p) i))
+productAddsUp t triples i = eqb (opened t (λ p. productOf (triples p) i))
+    (opened t (λ p. uOf (triples p) i) * opened t (λ p. vOf (triples p) i))
 
 unfoldable pub productsAddUp : ℕ → ℕ → List ℕ → Bool
-productsAddUp t conditional dealt = allBelow conditional (productAddsUp t (piece (3 * conditional) dealt))
+productsAddUp t conditional triples = allBelow conditional (productAddsUp t (piece (3 * conditional) triples))
 
 -- A good dealing of these ballots for this many conditional gates: all parts are bits, and they add up.
 unfoldable pub dealtWell : ℕ → ℕ → List ℕ → Dealing → Bool
 dealtWell t conditional ballots d =
     onlyBits (d .ballotParts) && onlyBits (d .dealerParts) && addsUp t ballots (d .ballotParts)
     && productsAddUp t conditional (d .dealerParts)
-
--- What testing the products of the triples asks for.
-pub record ProductsReady (t conditional : ℕ) (dealt : List ℕ) : Type 0 where
-  pub few : conditional < 1073741824
-  pub long : length dealt ≡ t * (3 * conditional)

@@ -1,4 +1,2 @@
-pub mod Tables
-pub mod Gate
-pub mod Evaluate
 pub mod Dealing
+pub mod inner

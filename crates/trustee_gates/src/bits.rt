@@ -28,8 +28,8 @@ pub(crate) fn enter_once(p: usize, x: u8) -> u8
 pub fn product_bit(p: usize, u: u8, v: u8, product: u8, first: u8, second: u8) -> u8
     ensures { λ r. ⌜ r ≡ (product + first * v + second * u + entered p (first * second)) % 2 ⌝ }
 {
-    let dealt = plus(product, times(first, v));
-    let masked = plus(dealt, times(second, u));
+    let triples = plus(product, times(first, v));
+    let masked = plus(triples, times(second, u));
     plus(masked, enter_once(p, times(first, second)))
 }
 

@@ -5,7 +5,8 @@ ghost use mathlib.Core.Path.{_≡_};
 ghost use Prim.Native.Nat.{_+_, _*_, _<_};
 ghost use lib.ListN.{length};
 ghost use Rattle.trustee_shares.specs.Views.{piece};
-ghost use Rattle.trustee_gates.specs.Dealing.{onlyBits, addsUp, productAddsUp, productsAddUp, ProductsReady};
+ghost use Rattle.trustee_gates.specs.inner.Tables.{ProductsReady};
+ghost use Rattle.trustee_gates.specs.Dealing.{onlyBits, addsUp, productAddsUp, productsAddUp};
 
 // Whether all parts are 0 or 1.
 pub fn only_bits(parts: &[u8]) -> bool
@@ -37,24 +38,24 @@ pub fn adds_up(t: usize, ballots: &[u8], parts: &[u8]) -> bool
 }
 
 // Whether the parts of the i-th product add up to it.
-fn product_adds_up(t: usize, size: usize, i: usize, dealt: &[u8]) -> bool
-    requires { ⌜ (3 * i + 2 < size) × (length (now dealt) ≡ t * size) ⌝ }
-    ensures { λ r. ⌜ r ≡ productAddsUp t (piece size (now (dealt .entry))) i ⌝ }
+fn product_adds_up(t: usize, size: usize, i: usize, triples: &[u8]) -> bool
+    requires { ⌜ (3 * i + 2 < size) × (length (now triples) ≡ t * size) ⌝ }
+    ensures { λ r. ⌜ r ≡ productAddsUp t (piece size (now (triples .entry))) i ⌝ }
 {
-    let u = table::open(dealt, size, t, 3 * i);
-    let v = table::open(dealt, size, t, 3 * i + 1);
-    table::open(dealt, size, t, 3 * i + 2) == bits::times(u, v)
+    let u = table::open(triples, size, t, 3 * i);
+    let v = table::open(triples, size, t, 3 * i + 1);
+    table::open(triples, size, t, 3 * i + 2) == bits::times(u, v)
 }
 
 // Whether the parts of each triple's product add up to it.
-pub fn products_add_up(t: usize, conditional: usize, dealt: &[u8]) -> bool
-    requires { ⌜ ProductsReady t conditional (now dealt) ⌝ }
-    ensures { λ r. ⌜ r ≡ productsAddUp t conditional (now (dealt .entry)) ⌝ }
+pub fn products_add_up(t: usize, conditional: usize, triples: &[u8]) -> bool
+    requires { ⌜ ProductsReady t conditional (now triples) ⌝ }
+    ensures { λ r. ⌜ r ≡ productsAddUp t conditional (now (triples .entry)) ⌝ }
 {
     let size = 3 * conditional;
     let mut i = 0;
     while i < conditional {
-        if !product_adds_up(t, size, i, dealt) {
+        if !product_adds_up(t, size, i, triples) {
             return false;
         }
         i += 1;

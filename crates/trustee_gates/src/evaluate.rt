@@ -9,13 +9,13 @@ ghost use mathlib.Core.Path.{_≡_};
 ghost use Prim.Native.Nat.{_+_, _*_, _<_};
 ghost use lib.ListN.{length};
 ghost use Rattle.gates.specs.inner.Step.{gateAt};
-ghost use Rattle.trustee_gates.specs.Gate.{gateOf};
-ghost use Rattle.trustee_gates.specs.Evaluate.{RunReady, EvaluateReady, GatesRan, Evaluated};
+ghost use Rattle.trustee_gates.specs.inner.Gate.{gateOfNumbers};
+ghost use Rattle.trustee_gates.specs.inner.Evaluate.{RunReady, EvaluateReady, GatesRan, Evaluated};
 
 // Gate g of a table.
 pub fn numbers_at(table: &[u32], g: usize) -> Numbers
     requires { ⌜ 4 * g + 3 < length (now table) ⌝ }
-    ensures { λ r. ⌜ gateOf r ≡ gateAt (now (table .entry)) g ⌝ }
+    ensures { λ r. ⌜ gateOfNumbers r ≡ gateAt (now (table .entry)) g ⌝ }
 {
     let at = 4 * g;
     Numbers {
@@ -32,13 +32,13 @@ fn run_gates(
     pieces: Pieces,
     inputs: usize,
     table: &[u32],
-    dealt: &[u8],
+    triples: &[u8],
     wires: &mut [u8],
     published: &mut [u8],
 )
-    requires { ⌜ RunReady t pieces inputs (now table) (now dealt) (now wires) (now published) ⌝ }
+    requires { ⌜ RunReady t pieces inputs (now table) (now triples) (now wires) (now published) ⌝ }
     ensures { λ _. ⌜
-        GatesRan t pieces inputs (now (table .entry)) (now (dealt .entry)) (now (wires .entry))
+        GatesRan t pieces inputs (now (table .entry)) (now (triples .entry)) (now (wires .entry))
         (now (published .entry)) (now (wires .exit)) (now (published .exit))
         ⌝ }
 {
@@ -55,7 +55,7 @@ fn run_gates(
             numbers,
             inputs + g,
             i,
-            dealt,
+            triples,
             wires,
             published,
         );
@@ -71,16 +71,16 @@ pub fn evaluate(
     table: &[u32],
     conditional: usize,
     k: usize,
-    parts: &[u8],
-    dealt: &[u8],
+    shares: &[u8],
+    triples: &[u8],
     wires: &mut [u8],
     published: &mut [u8],
 )
-    requires { ⌜ EvaluateReady t inputs (now table) conditional k (now parts) (now dealt) (now wires)
+    requires { ⌜ EvaluateReady t inputs (now table) conditional k (now shares) (now triples) (now wires)
         (now published) ⌝ }
     ensures { λ _. ⌜
         Evaluated t inputs (now (table .entry)) k
-        (record { ballotParts = now (parts .entry); dealerParts = now (dealt .entry) }) (now (wires .exit))
+        (record { ballotParts = now (shares .entry); dealerParts = now (triples .entry) }) (now (wires .exit))
         (now (published .exit))
         ⌝ }
 {
@@ -88,10 +88,10 @@ pub fn evaluate(
     let factors = 2 * conditional;
     let pieces = Pieces {
         wires: size,
-        dealt: 3 * conditional,
+        triples: 3 * conditional,
         published: factors + k,
     };
-    table::copy_pieces(t, inputs, parts, inputs, 0, wires, size, 0);
-    run_gates(t, pieces, inputs, table, dealt, wires, published);
+    table::copy_pieces(t, inputs, shares, inputs, 0, wires, size, 0);
+    run_gates(t, pieces, inputs, table, triples, wires, published);
     table::copy_pieces(t, k, wires, size, size - k, published, factors + k, factors);
 }

@@ -6,15 +6,15 @@ ghost use mathlib.Core.Path.{_≡_};
 ghost use mathlib.Core.List.{_∷_, []};
 ghost use Rattle.trustee_shares.specs.Shares.{secondFactor, maskedFirst, maskedSecond, productPart, partOfKind, part};
 ghost use Rattle.trustee_shares.specs.Views.{piece};
-ghost use Rattle.trustee_gates.specs.Tables.{eachPuts};
-ghost use Rattle.trustee_gates.specs.Gate.{gateOf, InWires, InDealt, PublishReady, ProductReady, FreeReady, GateReady};
-ghost use Rattle.trustee_gates.specs.Gate.{FactorReady, Published, GateRan};
+ghost use Rattle.trustee_gates.specs.inner.Tables.{eachPuts};
+ghost use Rattle.trustee_gates.specs.inner.Gate.{gateOfNumbers, InWires, InTriples, PublishReady, ProductReady, FreeReady, GateReady};
+ghost use Rattle.trustee_gates.specs.inner.Gate.{FactorReady, Published, GateRan};
 ghost use Rattle.gates.specs.inner.Marked.{Marked};
 
 // How many entries of each table belong to one trustee.
 pub struct Pieces {
     pub wires: usize,
-    pub dealt: usize,
+    pub triples: usize,
     pub published: usize,
 }
 
@@ -35,7 +35,7 @@ pub struct Opened {
 // Trustee p's bit of the second factor.
 fn second_factor(size: usize, gate: Numbers, p: usize, wires: &[u8]) -> u8
     requires { ⌜ InWires size gate p (now wires) ⌝ }
-    ensures { λ r. ⌜ r ≡ secondFactor (piece size (now (wires .entry)) p) (gateOf gate) ⌝ }
+    ensures { λ r. ⌜ r ≡ secondFactor (piece size (now (wires .entry)) p) (gateOfNumbers gate) ⌝ }
 {
     let b = table::entry(wires, size, p, gate.b);
     if gate.kind == kind::CHOICE {
@@ -50,16 +50,16 @@ pub fn masked_first(
     gate: Numbers,
     i: usize,
     p: usize,
-    dealt: &[u8],
+    triples: &[u8],
     wires: &[u8],
 ) -> u8
-    requires { ⌜ FactorReady pieces gate i p (now dealt) (now wires) ⌝ }
+    requires { ⌜ FactorReady pieces gate i p (now triples) (now wires) ⌝ }
     ensures { λ r.
         ⌜ r ≡ maskedFirst (piece (pieces .wires) (now (wires .entry)) p)
-        (piece (pieces .dealt) (now (dealt .entry)) p) i (gateOf gate) ⌝ }
+        (piece (pieces .triples) (now (triples .entry)) p) i (gateOfNumbers gate) ⌝ }
 {
     let a = table::entry(wires, pieces.wires, p, gate.a);
-    bits::plus(a, table::entry(dealt, pieces.dealt, p, 3 * i))
+    bits::plus(a, table::entry(triples, pieces.triples, p, 3 * i))
 }
 
 // Trustee p's bit of the second factor, masked.
@@ -68,16 +68,16 @@ pub fn masked_second(
     gate: Numbers,
     i: usize,
     p: usize,
-    dealt: &[u8],
+    triples: &[u8],
     wires: &[u8],
 ) -> u8
-    requires { ⌜ FactorReady pieces gate i p (now dealt) (now wires) ⌝ }
+    requires { ⌜ FactorReady pieces gate i p (now triples) (now wires) ⌝ }
     ensures { λ r.
         ⌜ r ≡ maskedSecond (piece (pieces .wires) (now (wires .entry)) p)
-        (piece (pieces .dealt) (now (dealt .entry)) p) i (gateOf gate) ⌝ }
+        (piece (pieces .triples) (now (triples .entry)) p) i (gateOfNumbers gate) ⌝ }
 {
     let factor = second_factor(pieces.wires, gate, p, wires);
-    bits::plus(factor, table::entry(dealt, pieces.dealt, p, 3 * i + 1))
+    bits::plus(factor, table::entry(triples, pieces.triples, p, 3 * i + 1))
 }
 
 // Each trustee publishes its masked bits of both factors; their sums are opened on the way.
@@ -86,13 +86,13 @@ fn publish(
     pieces: Pieces,
     gate: Numbers,
     i: usize,
-    dealt: &[u8],
+    triples: &[u8],
     wires: &[u8],
     published: &mut [u8],
 ) -> Opened
-    requires { ⌜ PublishReady t pieces gate i (now dealt) (now wires) (now published) ⌝ }
+    requires { ⌜ PublishReady t pieces gate i (now triples) (now wires) (now published) ⌝ }
     ensures { λ r. ⌜
-        Published t pieces gate i (now (dealt .entry)) (now (wires .entry)) (now (published .entry)) r
+        Published t pieces gate i (now (triples .entry)) (now (wires .entry)) (now (published .entry)) r
         (now (published .exit))
         ⌝ }
 {
@@ -101,8 +101,8 @@ fn publish(
     let mut second = 0;
     let mut p = 0;
     while p < t {
-        let x = masked_first(pieces, gate, i, p, dealt, wires);
-        let y = masked_second(pieces, gate, i, p, dealt, wires);
+        let x = masked_first(pieces, gate, i, p, triples, wires);
+        let y = masked_second(pieces, gate, i, p, triples, wires);
         let at = p * size + 2 * i;
         published[at] = x;
         published[at + 1] = y;
@@ -114,13 +114,13 @@ fn publish(
 }
 
 // Trustee p's bit of the product of both factors.
-fn product_part(size: usize, i: usize, p: usize, opened: Opened, dealt: &[u8]) -> u8
-    requires { ⌜ InDealt size i p (now dealt) ⌝ }
-    ensures { λ r. ⌜ r ≡ productPart p (piece size (now (dealt .entry)) p) i (opened .first) (opened .second) ⌝ }
+fn product_part(size: usize, i: usize, p: usize, opened: Opened, triples: &[u8]) -> u8
+    requires { ⌜ InTriples size i p (now triples) ⌝ }
+    ensures { λ r. ⌜ r ≡ productPart p (piece size (now (triples .entry)) p) i (opened .first) (opened .second) ⌝ }
 {
-    let u = table::entry(dealt, size, p, 3 * i);
-    let v = table::entry(dealt, size, p, 3 * i + 1);
-    let product = table::entry(dealt, size, p, 3 * i + 2);
+    let u = table::entry(triples, size, p, 3 * i);
+    let v = table::entry(triples, size, p, 3 * i + 1);
+    let product = table::entry(triples, size, p, 3 * i + 2);
     bits::product_bit(p, u, v, product, opened.first, opened.second)
 }
 
@@ -145,22 +145,22 @@ fn enter_products(
     own: usize,
     i: usize,
     opened: Opened,
-    dealt: &[u8],
+    triples: &[u8],
     wires: &mut [u8],
 )
-    requires { ⌜ ProductReady t pieces gate own i (now dealt) (now wires) ⌝ }
+    requires { ⌜ ProductReady t pieces gate own i (now triples) (now wires) ⌝ }
     ensures { λ _.
         ⌜ now (wires .exit) ≡ eachPuts t (pieces .wires) own
         (λ p. partOfKind p (gate .kind) (part (piece (pieces .wires) (now (wires .entry)) p) (gate .a))
         (part (piece (pieces .wires) (now (wires .entry)) p) (gate .b))
         (part (piece (pieces .wires) (now (wires .entry)) p) (gate .c))
-        (productPart p (piece (pieces .dealt) (now (dealt .entry)) p) i (opened .first) (opened .second))
+        (productPart p (piece (pieces .triples) (now (triples .entry)) p) i (opened .first) (opened .second))
         ∷ []) (now (wires .entry)) ⌝ }
 {
     let size = pieces.wires;
     let mut p = 0;
     while p < t {
-        let z = product_part(pieces.dealt, i, p, opened, dealt);
+        let z = product_part(pieces.triples, i, p, opened, triples);
         wires[p * size + own] = new_part(size, gate, p, z, wires);
         p += 1;
     }
@@ -189,19 +189,19 @@ pub(crate) fn run_gate(
     gate: Numbers,
     own: usize,
     i: usize,
-    dealt: &[u8],
+    triples: &[u8],
     wires: &mut [u8],
     published: &mut [u8],
 ) -> usize
-    requires { ⌜ Marked (now marks) (GateReady t pieces gate own i (now dealt) (now wires) (now published)) ⌝ }
+    requires { ⌜ Marked (now marks) (GateReady t pieces gate own i (now triples) (now wires) (now published)) ⌝ }
     ensures { λ r. ⌜
-        GateRan t pieces gate own i (now (dealt .entry)) (now (wires .entry)) (now (published .entry)) r
+        GateRan t pieces gate own i (now (triples .entry)) (now (wires .entry)) (now (published .entry)) r
         (now (wires .exit)) (now (published .exit))
         ⌝ }
 {
     if kind::conditional(marks, gate.kind) {
-        let opened = publish(t, pieces, gate, i, dealt, wires, published);
-        enter_products(t, pieces, gate, own, i, opened, dealt, wires);
+        let opened = publish(t, pieces, gate, i, triples, wires, published);
+        enter_products(t, pieces, gate, own, i, opened, triples, wires);
         return i + 1;
     }
     enter_free(t, pieces.wires, gate, own, wires);

@@ -6,7 +6,7 @@ ghost use lib.ListN.{length, take, drop};
 ghost use lib.Seq.{sets};
 ghost use Rattle.trustee_shares.specs.Shares.{opened, part};
 ghost use Rattle.trustee_shares.specs.Views.{piece};
-ghost use Rattle.trustee_gates.specs.Tables.{eachPuts, CopyReady, EntryReady, OpenReady};
+ghost use Rattle.trustee_gates.specs.inner.Tables.{eachPuts, CopyReady, EntryReady, OpenReady};
 
 // Trustee p's entry at an index of its piece.
 pub(crate) fn entry(table: &[u8], size: usize, p: usize, index: usize) -> u8

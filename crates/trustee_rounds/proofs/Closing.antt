@@ -37,7 +37,7 @@ length-publishes-gate : (u : Turn) (ws : List ℕ) (g i : ℕ) (x : Gate) (publi
     → length (publishesGate u ws g i x published) ≡ length published
 unfolding publishesGate
 length-publishes-gate u ws g i x published =
-    let entries = maskedFirst ws (u .dealt) i x ∷ maskedSecond ws (u .dealt) i x ∷ [] in
+    let entries = maskedFirst ws (u .triples) i x ∷ maskedSecond ws (u .triples) i x ∷ [] in
     length-cond (conditionalOf (x .kind) && eqb (getD (u .levels) g 0) (suc (u .round)))
     (sets published (2 * i) entries) published (length-sets published (2 * i) entries)
 

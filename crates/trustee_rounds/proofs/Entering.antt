@@ -18,14 +18,14 @@ use Rattle.trustee_shares.specs.Shares.{part, productPart, partOfKind, Held, op
 use Rattle.trustee_shares.proofs.Exchange.{ignores}
 use Rattle.trustee_rounds.specs.Rounds.{Turn, heardPart, entersGate, enters}
 
-module _ (t inputs : ℕ) (dealt final : Held) (levels : List ℕ) where
+module _ (t inputs : ℕ) (triples final : Held) (levels : List ℕ) where
   -- Gate g of the list, which i conditional gates precede: its kind is known, its operands are below it and determine
   -- its level, and each trustee's final part of its wire follows from the final parts of theirs.
   pub record GateFits (g i : ℕ) (x : Gate) : Type 0 where
     pub known : x .kind < 8
     pub below : Below (inputs + g) x
     pub level : getD levels g 0 ≡ gateLevel inputs levels x
-    pub new : (p : ℕ) → p < t → part (final p) (inputs + g) ≡ newPart t dealt final i x p
+    pub new : (p : ℕ) → p < t → part (final p) (inputs + g) ≡ newPart t triples final i x p
 
   abbrev pub Fits : List Gate → ℕ → ℕ → Type 0
   Fits [] g i = Unit {0}
@@ -39,14 +39,14 @@ module _ (t inputs : ℕ) (dealt final : Held) (levels : List ℕ) where
     -- The sums that a gate of this round needs have been heard.
     abbrev pub HeardGate : ℕ → ℕ → Gate → Type 0
     HeardGate g i x = conditionalOf (x .kind) ≡ true → getD levels g 0 ≡ r
-        → (part heard (2 * i) ≡ openedFirst t dealt final i x) × (part heard (2 * i + 1) ≡ openedSecond t dealt final i x)
+        → (part heard (2 * i) ≡ openedFirst t triples final i x) × (part heard (2 * i + 1) ≡ openedSecond t triples final i x)
 
     abbrev pub Heard : List Gate → ℕ → ℕ → Type 0
     Heard [] g i = Unit {0}
     Heard (x ∷ xs) g i = HeardGate g i x × Heard xs (suc g) (i + markOf x)
 
     abbrev pub turn : Turn
-    turn = record { trustee = p; round = r; inputs = inputs; levels = levels; dealt = dealt p; heard = heard }
+    turn = record { trustee = p; round = r; inputs = inputs; levels = levels; triples = triples p; heard = heard }
 
     -- The wire parts during a round, before gate g of `size` gates.
     pub record Stands (size : ℕ) (ws : List ℕ) (g : ℕ) : Type 0 where
@@ -91,8 +91,8 @@ module _ (t inputs : ℕ) (dealt final : Held) (levels : List ℕ) where
         rw (ea, eb, ec) (go (conditionalOf (x .kind)) refl) ∙ sym (fits .new p l)
       where
         go : (b : Bool) → conditionalOf (x .kind) ≡ b
-            → by x (productPart p (dealt p) i (part heard (2 * i)) (part heard (2 * i + 1)))
-            ≡ by x (productPart p (dealt p) i (openedFirst t dealt final i x) (openedSecond t dealt final i x))
+            → by x (productPart p (triples p) i (part heard (2 * i)) (part heard (2 * i + 1)))
+            ≡ by x (productPart p (triples p) i (openedFirst t triples final i x) (openedSecond t triples final i x))
         go true e = let h = heard-gate e is in rw (h .0, h .1)
         go false e = ignores p (x .kind) (part (final p) (x .a)) (part (final p) (x .b)) (part (final p) (x .c)) _ _ (fits .known) e
 

@@ -23,7 +23,7 @@ use Rattle.trustee_shares.specs.Shares.{part, maskedFirst, maskedSecond, produc
 use Rattle.trustee_shares.specs.Views.{piece}
 use Rattle.trustee_shares.proofs.Accuracy.{count-mark, mark-one}
 use Rattle.trustee_gates.specs.declared.gate.Numbers.{Numbers}
-use Rattle.trustee_gates.specs.Gate.{gateOf}
+use Rattle.trustee_gates.specs.inner.Gate.{gateOfNumbers}
 use Rattle.trustee_rounds.specs.Rounds.{Turn, heardPart, entersGate, enters, publishesGate, publishes}
 use Rattle.trustee_rounds.specs.inner.Passes.{GateIn, PartReady, PublishReady}
 use Rattle.trustee_rounds.proofs.Closing.{length-cond}
@@ -71,9 +71,9 @@ module _ (inputs : ℕ) (table : List ℕ) where
         })
 
     -- by the numbers that were read
-    module _ (n : Numbers) (is : gateOf n ≡ gateAt table g) where
+    module _ (n : Numbers) (is : gateOfNumbers n ≡ gateAt table g) where
       pub mark-by : (m : ℕ) → m ≡ cond (conditionalOf (n .kind)) 1 0 → i + m ≡ i + markOf (gateAt table g)
-      mark-by m e = ap (λ (k : ℕ). i + k) (e ∙ sym (mark-is (gateOf n)) ∙ ap markOf is)
+      mark-by m e = ap (λ (k : ℕ). i + k) (e ∙ sym (mark-is (gateOfNumbers n)) ∙ ap markOf is)
 
       pub mark-small : (m : ℕ) → m ≡ cond (conditionalOf (n .kind)) 1 0 → i + m ≤ conditionalCount (gatesOf table)
       mark-small m e = omega (arith, mark-by m e, count-here)
@@ -89,10 +89,10 @@ module _ (inputs : ℕ) (table : List ℕ) where
       conditional-here : conditionalOf (n .kind) ≡ true → i + 1 ≤ conditionalCount (gatesOf table)
       conditional-here e = omega (arith, count-here, mark-one (gateAt table g) (ap (λ (x : Gate). conditionalOf (x .kind)) (sym is) ∙ e))
 
-      pub part-ready : (dealt heard ws : List ℕ) → length ws ≡ inputs + length (gatesOf table) → length dealt ≡ 3
+      pub part-ready : (triples heard ws : List ℕ) → length ws ≡ inputs + length (gatesOf table) → length triples ≡ 3
           * conditionalCount (gatesOf table) → length heard ≡ 2 * conditionalCount (gatesOf table)
-          → PartReady n i dealt heard ws
-      part-ready dealt heard ws lw ld lh =
+          → PartReady n i triples heard ws
+      part-ready triples heard ws lw ld lh =
           record {
             operands = gate-in ws lw;
             known = omega (arith, known, ap (λ (x : Gate). x .kind) is);
@@ -100,10 +100,10 @@ module _ (inputs : ℕ) (table : List ℕ) where
             sums-in = λ e. omega (arith, conditional-here e);
           }
 
-      pub publish-ready : (dealt ws published : List ℕ) → length ws ≡ inputs + length (gatesOf table) → length dealt
+      pub publish-ready : (triples ws published : List ℕ) → length ws ≡ inputs + length (gatesOf table) → length triples
           ≡ 3 * conditionalCount (gatesOf table) → 2 * conditionalCount (gatesOf table) ≤ length published
-          → PublishReady n i dealt ws published
-      publish-ready dealt ws published lw ld lp =
+          → PublishReady n i triples ws published
+      publish-ready triples ws published lw ld lp =
           record {
             operands = gate-in ws lw;
             triple-in = λ e. omega (arith, conditional-here e);
@@ -122,11 +122,11 @@ pub enter-start : (u : Turn) (table ws : List ℕ) → firstBad (u .inputs) 0 (g
 enter-start u table ws good long = record { ahead = ahead-start (u .inputs) table good; long = long; rest = refl }
 
 module _ (u : Turn) (table ws₀ ws : List ℕ) (g i : ℕ) (left : EnterLeft u table ws₀ ws g i) (pos : 1 ≤ u .inputs)
-    (h : g < length (gatesOf table)) (n : Numbers) (is : gateOf n ≡ gateAt table g) where
+    (h : g < length (gatesOf table)) (n : Numbers) (is : gateOfNumbers n ≡ gateAt table g) where
   pub enter-turn : (level : ℕ) (ws′ : List ℕ) (m i′ g′ : ℕ) → level ≡ getD (u .levels) g 0
       → ws′ ≡ cond (eqb level (u .round))
       (set ws (u .inputs + g) (partOfKind (u .trustee) (n .kind) (part ws (n .a)) (part ws (n .b)) (part ws (n .c))
-      (productPart (u .trustee) (u .dealt) i (part (u .heard) (2 * i)) (part (u .heard) (2 * i + 1))))) ws
+      (productPart (u .trustee) (u .triples) i (part (u .heard) (2 * i)) (part (u .heard) (2 * i + 1))))) ws
       → m ≡ cond (conditionalOf (n .kind)) 1 0 → i′ ≡ i + m → g′ ≡ suc g → EnterLeft u table ws₀ ws′ g′ i′
   unfolding enters
   enter-turn level ws′ m i′ g′ el ew em ei eg =
@@ -142,11 +142,11 @@ module _ (u : Turn) (table ws₀ ws : List ℕ) (g i : ℕ) (left : EnterLeft u 
             ∙ sym (ap (λ (gs : List Gate). enters u gs g i ws) (starts (u .inputs) table g i (left .ahead) pos h)) ∙ left .rest;
       }
     where
-      stored : ws′ ≡ entersGate u g i (gateOf n) ws
+      stored : ws′ ≡ entersGate u g i (gateOfNumbers n) ws
       stored = unfold entersGate heardPart in ew
           ∙ ap (λ (k : ℕ). cond (eqb k (u .round))
           (set ws (u .inputs + g) (partOfKind (u .trustee) (n .kind) (part ws (n .a)) (part ws (n .b))
-          (part ws (n .c)) (productPart (u .trustee) (u .dealt) i (part (u .heard) (2 * i))
+          (part ws (n .c)) (productPart (u .trustee) (u .triples) i (part (u .heard) (2 * i))
           (part (u .heard) (2 * i + 1))))) ws) el
 
 pub enter-end : (u : Turn) (table ws₀ ws : List ℕ) (g i : ℕ) → EnterLeft u table ws₀ ws g i → length (gatesOf table)
@@ -168,10 +168,10 @@ publish-start u table ws published good = record { ahead = ahead-start (u .input
 
 module _ (u : Turn) (table ws published₀ published : List ℕ) (g i : ℕ)
     (left : PublishLeft u table ws published₀ published g i) (pos : 1 ≤ u .inputs) (h : g < length (gatesOf table))
-    (n : Numbers) (is : gateOf n ≡ gateAt table g) where
+    (n : Numbers) (is : gateOfNumbers n ≡ gateAt table g) where
   pub publish-turn : (level next : ℕ) (published′ : List ℕ) (m i′ g′ : ℕ) → level ≡ getD (u .levels) g 0 → next ≡ suc (u .round)
       → published′ ≡ cond (conditionalOf (n .kind) && eqb level next)
-      (sets published (2 * i) (maskedFirst ws (u .dealt) i (gateOf n) ∷ maskedSecond ws (u .dealt) i (gateOf n) ∷
+      (sets published (2 * i) (maskedFirst ws (u .triples) i (gateOfNumbers n) ∷ maskedSecond ws (u .triples) i (gateOfNumbers n) ∷
       [])) published
       → m ≡ cond (conditionalOf (n .kind)) 1 0 → i′ ≡ i + m → g′ ≡ suc g → PublishLeft u table ws published₀ published′ g′ i′
   unfolding publishes
@@ -183,7 +183,7 @@ module _ (u : Turn) (table ws published₀ published : List ℕ) (g i : ℕ)
         ahead = ahead-turn (u .inputs) table g i (left .ahead) pos h i′ g′ mk eg;
         long = ap length ep ∙ length-cond (conditionalOf (n .kind) && eqb level next) _ published
             (length-sets published (2 * i)
-            (maskedFirst ws (u .dealt) i (gateOf n) ∷ maskedSecond ws (u .dealt) i (gateOf n) ∷ [])) ∙ left .long;
+            (maskedFirst ws (u .triples) i (gateOfNumbers n) ∷ maskedSecond ws (u .triples) i (gateOfNumbers n) ∷ [])) ∙ left .long;
         rest = ap (λ (k : ℕ). publishes u ws (drop k (gatesOf table)) k i′ published′) eg
             ∙ ap (λ (k : ℕ). publishes u ws (drop (suc g) (gatesOf table)) (suc g) k published′) mk
             ∙ ap (λ (l : List ℕ). publishes u ws (drop (suc g) (gatesOf table)) (suc g) (i + markOf x) l) e
@@ -191,15 +191,15 @@ module _ (u : Turn) (table ws published₀ published : List ℕ) (g i : ℕ)
             (starts (u .inputs) table g i (left .ahead) pos h)) ∙ left .rest;
       }
     where
-      stored : published′ ≡ publishesGate u ws g i (gateOf n) published
+      stored : published′ ≡ publishesGate u ws g i (gateOfNumbers n) published
       stored =
           unfold publishesGate in ep
           ∙ ap (λ (k : ℕ). cond (conditionalOf (n .kind) && eqb k next)
-          (sets published (2 * i) (maskedFirst ws (u .dealt) i (gateOf n) ∷ maskedSecond ws (u .dealt) i
-          (gateOf n) ∷ [])) published) el
+          (sets published (2 * i) (maskedFirst ws (u .triples) i (gateOfNumbers n) ∷ maskedSecond ws (u .triples) i
+          (gateOfNumbers n) ∷ [])) published) el
           ∙ ap (λ (k : ℕ). cond (conditionalOf (n .kind) && eqb (getD (u .levels) g 0) k)
-          (sets published (2 * i) (maskedFirst ws (u .dealt) i (gateOf n) ∷ maskedSecond ws (u .dealt) i
-          (gateOf n) ∷ [])) published) en
+          (sets published (2 * i) (maskedFirst ws (u .triples) i (gateOfNumbers n) ∷ maskedSecond ws (u .triples) i
+          (gateOfNumbers n) ∷ [])) published) en
 
 pub publish-end : (u : Turn) (table ws published₀ published : List ℕ) (g i : ℕ)
     → PublishLeft u table ws published₀ published g i → length (gatesOf table) ≤ g → published

@@ -25,15 +25,15 @@ use Rattle.trustee_rounds.proofs.Entering.{GateFits, Fits, Heard, turn,
 use Rattle.trustee_shares.proofs.Publishing.{mark-none}
 
 -- masked factors depend only on the parts of the operands
-first-same : (ws vs dealt : List ℕ) (i : ℕ) (x : Gate) → part ws (x .a) ≡ part vs (x .a) → maskedFirst ws dealt i x
-    ≡ maskedFirst vs dealt i x
+first-same : (ws vs triples : List ℕ) (i : ℕ) (x : Gate) → part ws (x .a) ≡ part vs (x .a) → maskedFirst ws triples i x
+    ≡ maskedFirst vs triples i x
 unfolding maskedFirst firstFactor
-first-same ws vs dealt i x e = rw e
+first-same ws vs triples i x e = rw e
 
-second-same : (ws vs dealt : List ℕ) (i : ℕ) (x : Gate) → part ws (x .b) ≡ part vs (x .b) → part ws (x .c)
-    ≡ part vs (x .c) → maskedSecond ws dealt i x ≡ maskedSecond vs dealt i x
+second-same : (ws vs triples : List ℕ) (i : ℕ) (x : Gate) → part ws (x .b) ≡ part vs (x .b) → part ws (x .c)
+    ≡ part vs (x .c) → maskedSecond ws triples i x ≡ maskedSecond vs triples i x
 unfolding maskedSecond secondFactor
-second-same ws vs dealt i x e f = rw (e, f)
+second-same ws vs triples i x e f = rw (e, f)
 
 -- the sums of what is published
 sum-at : (t n j m : ℕ) (published : Held) → m < n → getD (sumsFrom t n j published) m 0 ≡ opened t (λ p. part (published p) (j + m))
@@ -55,12 +55,12 @@ unfolding sumsOf part
 sums-at t conditional j published h = sum-at t (2 * conditional) 0 j published h
     ∙ ap (λ (i : ℕ). opened t (λ p. getD (published p) i 0)) (zero-add j)
 
-module _ (t inputs : ℕ) (dealt final : Held) (levels : List ℕ) where
+module _ (t inputs : ℕ) (triples final : Held) (levels : List ℕ) where
   -- What trustee p has published for gate g once all levels below n are.
   abbrev pub ShownGate : ℕ → ℕ → List ℕ → ℕ → ℕ → Gate → Type 0
   ShownGate p n published g i x = conditionalOf (x .kind) ≡ true
-      → (part published (2 * i) ≡ cond (ltb (getD levels g 0) n) (maskedFirst (final p) (dealt p) i x) 0)
-      × (part published (2 * i + 1) ≡ cond (ltb (getD levels g 0) n) (maskedSecond (final p) (dealt p) i x) 0)
+      → (part published (2 * i) ≡ cond (ltb (getD levels g 0) n) (maskedFirst (final p) (triples p) i x) 0)
+      × (part published (2 * i + 1) ≡ cond (ltb (getD levels g 0) n) (maskedSecond (final p) (triples p) i x) 0)
 
   abbrev pub Shown : ℕ → ℕ → List ℕ → List Gate → ℕ → ℕ → Type 0
   Shown p n published [] g i = Unit {0}
@@ -78,7 +78,7 @@ module _ (t inputs : ℕ) (dealt final : Held) (levels : List ℕ) where
   -- what the sums of all are
   pub heard-shown : (gs : List Gate) (g i r conditional : ℕ) (published : Held) → i + conditionalCount gs ≤ conditional
       → ((p : ℕ) → p < t → Shown p (suc r) (published p) gs g i) → (p : ℕ)
-      → Heard t inputs dealt final levels p r (sumsOf t conditional published) gs g i
+      → Heard t inputs triples final levels p r (sumsOf t conditional published) gs g i
   unfolding openedFirst openedSecond
   heard-shown [] g i r conditional published room s p = tt
   heard-shown (x ∷ xs) g i r conditional published room s p = (
@@ -87,18 +87,18 @@ module _ (t inputs : ℕ) (dealt final : Held) (levels : List ℕ) where
         let m = mark-one x is in
         let l : getD levels g 0 < suc r = omega arith in (
           sums-at t conditional (2 * i) published (omega arith)
-              ∙ opened-same t (λ q. part (published q) (2 * i)) (λ q. maskedFirst (final q) (dealt q) i x)
-              (λ (q : ℕ) h. s q h .0 is .0 ∙ ap (λ (b : Bool). cond b (maskedFirst (final q) (dealt q) i x) 0)
+              ∙ opened-same t (λ q. part (published q) (2 * i)) (λ q. maskedFirst (final q) (triples q) i x)
+              (λ (q : ℕ) h. s q h .0 is .0 ∙ ap (λ (b : Bool). cond b (maskedFirst (final q) (triples q) i x) 0)
               (lt-ltb (getD levels g 0) (suc r) l)),
           sums-at t conditional (2 * i + 1) published (omega arith)
-              ∙ opened-same t (λ q. part (published q) (2 * i + 1)) (λ q. maskedSecond (final q) (dealt q) i x)
-              (λ (q : ℕ) h. s q h .0 is .1 ∙ ap (λ (b : Bool). cond b (maskedSecond (final q) (dealt q) i x) 0)
+              ∙ opened-same t (λ q. part (published q) (2 * i + 1)) (λ q. maskedSecond (final q) (triples q) i x)
+              (λ (q : ℕ) h. s q h .0 is .1 ∙ ap (λ (b : Bool). cond b (maskedSecond (final q) (triples q) i x) 0)
               (lt-ltb (getD levels g 0) (suc r) l)),
         ),
     heard-shown xs (suc g) (i + markOf x) r conditional published (omega (arith, count-mark x xs)) (λ (q : ℕ) h. s q h .1) p,
   )
 
-  module _ (p r : ℕ) (heard ws : List ℕ) (size : ℕ) (stands : Stands t inputs dealt final levels p r heard size ws size) where
+  module _ (p r : ℕ) (heard ws : List ℕ) (size : ℕ) (stands : Stands t inputs triples final levels p r heard size ws size) where
     -- one gate: its two places are right, and those of other gates unchanged
     record Turned (published published′ : List ℕ) (g i : ℕ) (x : Gate) : Type 0 where
       long : length published′ ≡ length published
@@ -107,17 +107,17 @@ module _ (t inputs : ℕ) (dealt final : Held) (levels : List ℕ) where
       behind : (j : ℕ) → 2 * (i + markOf x) ≤ j → part published′ j ≡ part published j
 
     turned : (published : List ℕ) (g i : ℕ) (x : Gate) → g < size → i + markOf x ≤ i + 1 → 2 * (i + markOf x)
-        ≤ length published → GateFits t inputs dealt final levels g i x
+        ≤ length published → GateFits t inputs triples final levels g i x
         → ShownGate p (suc r) published g i x
-        → Turned published (publishesGate (turn t inputs dealt final levels p r heard) ws g i x published) g i x
+        → Turned published (publishesGate (turn t inputs triples final levels p r heard) ws g i x published) g i x
     unfolding publishesGate part
     turned published g i x m few room fits shown = go (conditionalOf (x .kind)) refl (eqb (getD levels g 0) (suc r)) refl
       where
         first : ℕ
-        first = maskedFirst ws (dealt p) i x
+        first = maskedFirst ws (triples p) i x
 
         second : ℕ
-        second = maskedSecond ws (dealt p) i x
+        second = maskedSecond ws (triples p) i x
 
         go : (b : Bool) → conditionalOf (x .kind) ≡ b → (e : Bool) → eqb (getD levels g 0) (suc r) ≡ e
             → Turned published (cond (b && e) (set (set published (2 * i) first) (suc (2 * i)) second) published) g i x
@@ -132,10 +132,10 @@ module _ (t inputs : ℕ) (dealt final : Held) (levels : List ℕ) where
             record {
               long = refl;
               shows = λ yes. (
-                shown yes .0 ∙ later (maskedFirst (final p) (dealt p) i x)
+                shown yes .0 ∙ later (maskedFirst (final p) (triples p) i x)
                     (ltb (getD levels g 0) (suc r)) refl,
                 shown yes .1
-                    ∙ later (maskedSecond (final p) (dealt p) i x) (ltb (getD levels g 0) (suc r)) refl,
+                    ∙ later (maskedSecond (final p) (triples p) i x) (ltb (getD levels g 0) (suc r)) refl,
               );
               before = λ (j : ℕ) h. refl;
               behind = λ (j : ℕ) h. refl;
@@ -153,7 +153,7 @@ module _ (t inputs : ℕ) (dealt final : Held) (levels : List ℕ) where
             let o = operand-levels inputs levels x in
             let mark : cond {A = ℕ} (conditionalOf (x .kind)) 1 0 ≡ 1 = ap (λ (b : Bool). cond {A = ℕ} b 1 0) is in
             let own = fits .level in
-            let at = wire-there t inputs dealt final levels p r heard size ws size stands in
+            let at = wire-there t inputs triples final levels p r heard size ws size stands in
             let ea = at (x .a) (omega (arith, fits .below .a-below)) (omega (arith, o .a-level)) in
             let eb = at (x .b) (omega (arith, fits .below .b-below)) (omega (arith, o .b-level)) in
             let ec = at (x .c) (omega (arith, fits .below .c-below)) (omega (arith, o .c-level)) in
@@ -165,12 +165,12 @@ module _ (t inputs : ℕ) (dealt final : Held) (levels : List ℕ) where
               shows = λ again. (
                 getD-set-other (set published (2 * i) first) (suc (2 * i)) (2 * i) second 0 (λ e. omega arith)
                     ∙ getD-set-same published (2 * i) first 0 (omega arith)
-                    ∙ first-same ws (final p) (dealt p) i x ea
-                    ∙ sym (ap (λ (b : Bool). cond b (maskedFirst (final p) (dealt p) i x) 0) yes),
+                    ∙ first-same ws (final p) (triples p) i x ea
+                    ∙ sym (ap (λ (b : Bool). cond b (maskedFirst (final p) (triples p) i x) 0) yes),
                 ap (λ (j : ℕ). getD (set (set published (2 * i) first) (suc (2 * i)) second) j 0) more
                     ∙ getD-set-same (set published (2 * i) first) (suc (2 * i)) second 0 (omega arith)
-                    ∙ second-same ws (final p) (dealt p) i x eb ec
-                    ∙ sym (ap (λ (b : Bool). cond b (maskedSecond (final p) (dealt p) i x) 0) yes),
+                    ∙ second-same ws (final p) (triples p) i x eb ec
+                    ∙ sym (ap (λ (b : Bool). cond b (maskedSecond (final p) (triples p) i x) 0) yes),
               );
               before = λ (j : ℕ) h. getD-set-other (set published (2 * i) first) (suc (2 * i)) j second 0
                   (λ e. omega arith) ∙ getD-set-other published (2 * i) j first 0 (λ e. omega arith);
@@ -186,15 +186,15 @@ module _ (t inputs : ℕ) (dealt final : Held) (levels : List ℕ) where
       pub behind : (j : ℕ) → 2 * (i + conditionalCount gs) ≤ j → part published′ j ≡ part published j
 
     pub published-end : (gs : List Gate) (g i : ℕ) (published : List ℕ) → g + length gs ≡ size → 2
-        * (i + conditionalCount gs) ≤ length published → Fits t inputs dealt final levels gs g i
+        * (i + conditionalCount gs) ≤ length published → Fits t inputs triples final levels gs g i
         → Shown p (suc r) published gs g i
-        → Published published (publishes (turn t inputs dealt final levels p r heard) ws gs g i published) gs g i
+        → Published published (publishes (turn t inputs triples final levels p r heard) ws gs g i published) gs g i
     unfolding publishes
     published-end [] g i published e room fits s =
         record { long = refl; shows = tt; before = λ (j : ℕ) h. refl; behind = λ (j : ℕ) h. refl }
     published-end (x ∷ xs) g i published e room fits s =
         let c = count-mark x xs in
-        let pub₁ = publishesGate (turn t inputs dealt final levels p r heard) ws g i x published in
+        let pub₁ = publishesGate (turn t inputs triples final levels p r heard) ws g i x published in
         let one = turned published g i x (omega arith) (omega (arith, mark-most x)) (omega arith) (fits .0) (s .0) in
         let rest = published-end xs (suc g) (i + markOf x) pub₁ (omega arith) (omega (arith, one .long)) (fits .1)
         (shown-same p (suc r) xs (suc g) (i + markOf x) published pub₁ (one .behind) (s .1)) in
@@ -220,7 +220,7 @@ module _ (t inputs : ℕ) (dealt final : Held) (levels : List ℕ) where
   -- once all levels are done, the places of the gates are the masked factors
   pub all-shown : (p n : ℕ) (published : List ℕ) (gs : List Gate) (g i : ℕ) → ((h : ℕ) → getD levels h 0 < n) → 2
       * (i + conditionalCount gs) ≤ length published → Shown p n published gs g i
-      → take (2 * conditionalCount gs) (drop (2 * i) published) ≡ maskedFactors (final p) (dealt p) i gs
+      → take (2 * conditionalCount gs) (drop (2 * i) published) ≡ maskedFactors (final p) (triples p) i gs
   unfolding maskedFactors
   all-shown p n published [] g i small room s = rw count-nil
   all-shown p n published (x ∷ xs) g i small room s =
@@ -228,20 +228,20 @@ module _ (t inputs : ℕ) (dealt final : Held) (levels : List ℕ) where
       (all-shown p n published xs (suc g) (i + markOf x) small (omega (arith, count-mark x xs)) (s .1))
     where
       first : ℕ
-      first = maskedFirst (final p) (dealt p) i x
+      first = maskedFirst (final p) (triples p) i x
 
       second : ℕ
-      second = maskedSecond (final p) (dealt p) i x
+      second = maskedSecond (final p) (triples p) i x
 
       yes : ltb (getD levels g 0) n ≡ true
       yes = lt-ltb (getD levels g 0) n (small g)
 
       go : (b : Bool) → conditionalOf (x .kind) ≡ b
           → take (2 * conditionalCount xs) (drop (2 * (i + markOf x)) published)
-          ≡ maskedFactors (final p) (dealt p) (i + markOf x) xs
+          ≡ maskedFactors (final p) (triples p) (i + markOf x) xs
           → take (2 * conditionalCount (x ∷ xs)) (drop (2 * i) published)
-          ≡ cond b (maskedFirst (final p) (dealt p) i x ∷ maskedSecond (final p) (dealt p) i x ∷ maskedFactors
-          (final p) (dealt p) (i + 1) xs) (maskedFactors (final p) (dealt p) i xs)
+          ≡ cond b (maskedFirst (final p) (triples p) i x ∷ maskedSecond (final p) (triples p) i x ∷ maskedFactors
+          (final p) (triples p) (i + 1) xs) (maskedFactors (final p) (triples p) i xs)
       go false is rest =
           let c = count-mark x xs in
           let z = mark-none x is in
@@ -250,7 +250,7 @@ module _ (t inputs : ℕ) (dealt final : Held) (levels : List ℕ) where
           let f : i + markOf x ≡ i = omega arith in
           ap (λ (m : ℕ). take (2 * m) (drop (2 * i) published)) a
           ∙ ap (λ (m : ℕ). take (2 * conditionalCount xs) (drop (2 * m) published)) b
-          ∙ rest ∙ ap (λ (m : ℕ). maskedFactors (final p) (dealt p) m xs) f
+          ∙ rest ∙ ap (λ (m : ℕ). maskedFactors (final p) (triples p) m xs) f
       go true is rest =
           let c = count-mark x xs in
           let o = mark-one x is in
@@ -268,35 +268,35 @@ module _ (t inputs : ℕ) (dealt final : Held) (levels : List ℕ) where
           ∙ ap (λ (v : ℕ). v ∷ getD published (suc (2 * i)) 0 ∷ take (2 * conditionalCount xs) (drop (suc (suc (2 * i))) published)) va
           ∙ ap (λ (v : ℕ). first ∷ v ∷ take (2 * conditionalCount xs) (drop (suc (suc (2 * i))) published)) vb
           ∙ ap (λ (m : ℕ). first ∷ second ∷ take (2 * conditionalCount xs) (drop m published)) b
-          ∙ ap (λ (l : List ℕ). first ∷ second ∷ l) (rest ∙ ap (λ (m : ℕ). maskedFactors (final p) (dealt p) m xs) f)
+          ∙ ap (λ (l : List ℕ). first ∷ second ∷ l) (rest ∙ ap (λ (m : ℕ). maskedFactors (final p) (triples p) m xs) f)
 
 -- Two dealings of one list that end with equal factors have shown the same of them at any time.
 module _ (inputs : ℕ) (levels : List ℕ) (p n : ℕ) where
   heads : {x x′ y y′ : ℕ} {r r′ : List ℕ} → _≡_ {A = List ℕ} (x ∷ y ∷ r) (x′ ∷ y′ ∷ r′) → (x ≡ x′) × (y ≡ y′) × (r ≡ r′)
   heads e = (ap (λ (l : List ℕ). getD l 0 0) e, ap (λ (l : List ℕ). getD l 1 0) e, ap (λ (l : List ℕ). drop 2 l) e)
 
-  pub same-shown : (t : ℕ) (dealt final dealt′ final′ : Held) (gs : List Gate) (g i : ℕ) (a b : List ℕ)
-      → Shown t inputs dealt final levels p n a gs g i → Shown t inputs dealt′ final′ levels p n b gs g i
-      → maskedFactors (final p) (dealt p) i gs ≡ maskedFactors (final′ p) (dealt′ p) i gs
+  pub same-shown : (t : ℕ) (triples final triples′ final′ : Held) (gs : List Gate) (g i : ℕ) (a b : List ℕ)
+      → Shown t inputs triples final levels p n a gs g i → Shown t inputs triples′ final′ levels p n b gs g i
+      → maskedFactors (final p) (triples p) i gs ≡ maskedFactors (final′ p) (triples′ p) i gs
       → (j : ℕ) → 2 * i ≤ j → j < 2 * (i + conditionalCount gs) → part a j ≡ part b j
   unfolding maskedFactors
-  same-shown t dealt final dealt′ final′ [] g i a b s s′ e j low high = absurd (omega (arith, count-nil))
-  same-shown t dealt final dealt′ final′ (x ∷ xs) g i a b s s′ e j low high =
+  same-shown t triples final triples′ final′ [] g i a b s s′ e j low high = absurd (omega (arith, count-nil))
+  same-shown t triples final triples′ final′ (x ∷ xs) g i a b s s′ e j low high =
       let few : j < 2 * (i + markOf x + conditionalCount xs) = omega (arith, count-mark x xs) in
-      go (λ f l. same-shown t dealt final dealt′ final′ xs (suc g) (i + markOf x) a b (s .1) (s′ .1) f j l few)
+      go (λ f l. same-shown t triples final triples′ final′ xs (suc g) (i + markOf x) a b (s .1) (s′ .1) f j l few)
       (conditionalOf (x .kind)) refl e
     where
-      go : (maskedFactors (final p) (dealt p) (i + markOf x) xs
-          ≡ maskedFactors (final′ p) (dealt′ p) (i + markOf x) xs → 2 * (i + markOf x) ≤ j → part a j ≡ part b j)
+      go : (maskedFactors (final p) (triples p) (i + markOf x) xs
+          ≡ maskedFactors (final′ p) (triples′ p) (i + markOf x) xs → 2 * (i + markOf x) ≤ j → part a j ≡ part b j)
           → (c : Bool) → conditionalOf (x .kind) ≡ c
-          → cond c (maskedFirst (final p) (dealt p) i x ∷ maskedSecond (final p) (dealt p) i x ∷ maskedFactors
-          (final p) (dealt p) (i + 1) xs) (maskedFactors (final p) (dealt p) i xs)
-          ≡ cond c (maskedFirst (final′ p) (dealt′ p) i x ∷ maskedSecond (final′ p) (dealt′ p) i x ∷ maskedFactors
-          (final′ p) (dealt′ p) (i + 1) xs) (maskedFactors (final′ p) (dealt′ p) i xs)
+          → cond c (maskedFirst (final p) (triples p) i x ∷ maskedSecond (final p) (triples p) i x ∷ maskedFactors
+          (final p) (triples p) (i + 1) xs) (maskedFactors (final p) (triples p) i xs)
+          ≡ cond c (maskedFirst (final′ p) (triples′ p) i x ∷ maskedSecond (final′ p) (triples′ p) i x ∷ maskedFactors
+          (final′ p) (triples′ p) (i + 1) xs) (maskedFactors (final′ p) (triples′ p) i xs)
           → part a j ≡ part b j
       go more false is f =
           let same : i ≡ i + markOf x = omega (arith, mark-none x is) in
-          more (subst (λ (m : ℕ). maskedFactors (final p) (dealt p) m xs ≡ maskedFactors (final′ p) (dealt′ p) m xs)
+          more (subst (λ (m : ℕ). maskedFactors (final p) (triples p) m xs ≡ maskedFactors (final′ p) (triples′ p) m xs)
           same f) (omega (arith, low, mark-none x is))
       go more true is f =
           let h = heads f in
@@ -307,8 +307,8 @@ module _ (inputs : ℕ) (levels : List ℕ) (p n : ℕ) where
           s .0 is .1 ∙ ap (λ (v : ℕ). cond (ltb (getD levels g 0) n) v 0) (h .1) ∙ sym (s′ .0 is .1) in
           let same : i + 1 ≡ i + markOf x = omega arith in
           place first second
-          (λ l. more (subst (λ (m : ℕ). maskedFactors (final p) (dealt p) m xs
-          ≡ maskedFactors (final′ p) (dealt′ p) m xs) same (h .2)) (omega (arith, one, l)))
+          (λ l. more (subst (λ (m : ℕ). maskedFactors (final p) (triples p) m xs
+          ≡ maskedFactors (final′ p) (triples′ p) m xs) same (h .2)) (omega (arith, one, l)))
         where
           place : part a (2 * i) ≡ part b (2 * i) → part a (2 * i + 1) ≡ part b (2 * i + 1)
               → (2 * i + 2 ≤ j → part a j ≡ part b j) → part a j ≡ part b j

@@ -20,34 +20,34 @@ use Rattle.gates.proofs.Goodness.{good-gate}
 use Rattle.gates.proofs.Laws.{AllGood, all-good}
 use Rattle.gate_levels.specs.Levels.{levelsOf, roundsOf}
 use Rattle.gates.proofs.Reading.{Below, operands-below}
-use Rattle.gate_levels.proofs.Laws.{Leveled, levels-leveled, operand-levels, largest-most}
+use Rattle.gate_levels.proofs.Laws.{Leveled, levels-leveled, operand-levels, maximum-most}
 use Rattle.trustee_shares.specs.Shares.{part, Held, newPart, markOf, partsOf}
-use Rattle.trustee_shares.specs.Views.{Dealing, ballotsOf, dealtOf, wirePartsOf, maskedFactors, closingParts, publishedOf}
+use Rattle.trustee_shares.specs.Views.{Dealing, ballotsOf, triplesOf, wirePartsOf, maskedFactors, closingParts, publishedOf}
 use Rattle.trustee_shares.proofs.Accuracy.{part-new}
 use Rattle.trustee_shares.proofs.Publishing.{length-masked}
 use Rattle.trustee_gates.proofs.Running.{SameParts, new-cong, parts-keep, length-parts}
 use Rattle.trustee_rounds.specs.Rounds.{Turn, enters, publishes, closes, startWires, startPublished}
-use Rattle.trustee_rounds.specs.Together.{sumsOf, Holdings, turnOf, wiresAfter, publishedAfter, holdingsAfter, RoundsMakeTheTally, EarlierFollows}
+use Rattle.trustee_rounds.specs.Together.{sumsOf, Holdings, turnOf, partsAfter, publishedAfter, holdingsAfter, RoundsMakeTheTally, EarlierFollows}
 use Rattle.trustee_rounds.proofs.Entering.{Fits, Heard, reached, turn, Stands, stands-end}
 use Rattle.trustee_rounds.proofs.Publishing.{Shown, heard-shown, Published, published-end, all-shown, same-shown}
 
 -- a list's own levels and parts fit each of its gates
-fits-list : (t inputs : ℕ) (dealt final : Held) (levels : List ℕ) → 1 ≤ inputs
+fits-list : (t inputs : ℕ) (triples final : Held) (levels : List ℕ) → 1 ≤ inputs
     → (gs : List Gate) (g i : ℕ) (held : Held) → ((p : ℕ) → p < t → length (held p) ≡ inputs + g)
-    → ((p : ℕ) → p < t → final p ≡ partsOf t dealt held i gs p) → AllGood (inputs + g) gs
-    → Leveled inputs levels g gs → Fits t inputs dealt final levels gs g i
+    → ((p : ℕ) → p < t → final p ≡ partsOf t triples held i gs p) → AllGood (inputs + g) gs
+    → Leveled inputs levels g gs → Fits t inputs triples final levels gs g i
 unfolding partsOf
-fits-list t inputs dealt final levels pos [] g i held long is good leveled = tt
-fits-list t inputs dealt final levels pos (x ∷ xs) g i held long is good leveled = (
+fits-list t inputs triples final levels pos [] g i held long is good leveled = tt
+fits-list t inputs triples final levels pos (x ∷ xs) g i held long is good leveled = (
   record {
     known = good-gate own x (good .0) .known;
     below = below;
     level = leveled .0;
     new = λ (p : ℕ) l.
-        ap (λ (r : List ℕ). part r own) (is p l) ∙ parts-keep t dealt xs next (i + markOf x) (suc own) p own (next-long p l) (omega arith)
-        ∙ part-new (held p) (newPart t dealt held i x p) own (long p l) ∙ new-cong t dealt held final i x same p l;
+        ap (λ (r : List ℕ). part r own) (is p l) ∙ parts-keep t triples xs next (i + markOf x) (suc own) p own (next-long p l) (omega arith)
+        ∙ part-new (held p) (newPart t triples held i x p) own (long p l) ∙ new-cong t triples held final i x same p l;
   },
-  fits-list t inputs dealt final levels pos xs (suc g) (i + markOf x) next
+  fits-list t inputs triples final levels pos xs (suc g) (i + markOf x) next
       (λ (p : ℕ) l. next-long p l ∙ sym (add-suc inputs g)) is
       (subst (λ (m : ℕ). AllGood m xs) (sym (add-suc inputs g)) (good .1)) (leveled .1),
 )
@@ -56,16 +56,16 @@ fits-list t inputs dealt final levels pos (x ∷ xs) g i held long is good level
     own = inputs + g
 
     next : Held
-    next = λ p. held p ++ (newPart t dealt held i x p ∷ [])
+    next = λ p. held p ++ (newPart t triples held i x p ∷ [])
 
     below : Below own x
     below = operands-below own x (omega arith) (good .0)
 
     next-long : (p : ℕ) → p < t → length (next p) ≡ suc own
-    next-long p l = omega (arith, length-append (held p) (newPart t dealt held i x p ∷ []), long p l)
+    next-long p l = omega (arith, length-append (held p) (newPart t triples held i x p ∷ []), long p l)
 
     stays : (p y : ℕ) → p < t → y < own → part (held p) y ≡ part (final p) y
-    stays p y l b = sym (ap (λ (r : List ℕ). part r y) (is p l) ∙ parts-keep t dealt (x ∷ xs) held i own p y (long p l) b)
+    stays p y l b = sym (ap (λ (r : List ℕ). part r y) (is p l) ∙ parts-keep t triples (x ∷ xs) held i own p y (long p l) b)
 
     same : SameParts t held final x
     same =
@@ -89,8 +89,8 @@ module _ (t inputs k : ℕ) (gs : List Gate) (d : Dealing) (pos : 1 ≤ inputs) 
   levels : List ℕ
   levels = levelsOf inputs gs
 
-  dealt : Held
-  dealt = dealtOf gs d
+  triples : Held
+  triples = triplesOf gs d
 
   final : Held
   final = wirePartsOf t inputs gs d
@@ -101,28 +101,28 @@ module _ (t inputs k : ℕ) (gs : List Gate) (d : Dealing) (pos : 1 ≤ inputs) 
   count-is : C ≡ conditionalCount gs
   count-is = unfold C in refl
 
-  fits : Fits t inputs dealt final levels gs 0 0
-  unfolding final wirePartsOf dealt levels
+  fits : Fits t inputs triples final levels gs 0 0
+  unfolding final wirePartsOf triples levels
   fits =
-      fits-list t inputs dealt final levels pos gs 0 0 (ballotsOf inputs d)
+      fits-list t inputs triples final levels pos gs 0 0 (ballotsOf inputs d)
       (λ (p : ℕ) l. ballots p l ∙ sym (add-zero inputs)) (λ (p : ℕ) l. refl)
       (all-good inputs 0 gs good) (levels-leveled inputs gs pos good-all)
 
   long-final : (p : ℕ) → p < t → length (final p) ≡ inputs + size
   unfolding final wirePartsOf size
-  long-final p l = length-parts t (dealtOf gs d) gs (ballotsOf inputs d) 0 inputs p (ballots p l)
+  long-final p l = length-parts t (triplesOf gs d) gs (ballotsOf inputs d) 0 inputs p (ballots p l)
 
   input-final : (p x : ℕ) → p < t → x < inputs → part (final p) x ≡ part (ballotsOf inputs d p) x
   unfolding final wirePartsOf
-  input-final p x l h = parts-keep t (dealtOf gs d) gs (ballotsOf inputs d) 0 inputs p x (ballots p l) h
+  input-final p x l h = parts-keep t (triplesOf gs d) gs (ballotsOf inputs d) 0 inputs p x (ballots p l) h
 
   level-most : (h : ℕ) → getD levels h 0 ≤ R
   unfolding levels R roundsOf
-  level-most h = largest-most (levelsOf inputs gs) h
+  level-most h = maximum-most (levelsOf inputs gs) h
 
   -- a conditional gate's level is not 0, so at first nothing has to be shown
   first-shown : (p : ℕ) (published : List ℕ) → ((j : ℕ) → part published j ≡ 0) → (hs : List Gate) (g i : ℕ)
-      → Fits t inputs dealt final levels hs g i → Shown t inputs dealt final levels p 1 published hs g i
+      → Fits t inputs triples final levels hs g i → Shown t inputs triples final levels p 1 published hs g i
   first-shown p published none [] g i f = tt
   first-shown p published none (x ∷ xs) g i f = (
     λ is.
@@ -137,9 +137,9 @@ module _ (t inputs k : ℕ) (gs : List Gate) (d : Dealing) (pos : 1 ≤ inputs) 
   record Reached (n : ℕ) (s : Holdings) (p : ℕ) : Type 0 where
     wires-long : length (s .wireParts p) ≡ inputs + size
     input : (x : ℕ) → x < inputs → part (s .wireParts p) x ≡ part (final p) x
-    gate : (h : ℕ) → h < size → part (s .wireParts p) (inputs + h) ≡ reached t inputs dealt final levels p n h
+    gate : (h : ℕ) → h < size → part (s .wireParts p) (inputs + h) ≡ reached t inputs triples final levels p n h
     published-long : length (s .published p) ≡ 2 * C + k
-    shown : Shown t inputs dealt final levels p (suc n) (s .published p) gs 0 0
+    shown : Shown t inputs triples final levels p (suc n) (s .published p) gs 0 0
     blank : (j : ℕ) → 2 * C ≤ j → part (s .published p) j ≡ 0
 
   at-start : (p : ℕ) → p < t → Reached 0 (holdingsAfter t inputs gs k d 0) p
@@ -164,45 +164,45 @@ module _ (t inputs k : ℕ) (gs : List Gate) (d : Dealing) (pos : 1 ≤ inputs) 
     sums : List ℕ
     sums = sumsOf t C (s .published)
 
-    hears : Heard t inputs dealt final levels p r sums gs 0 0
+    hears : Heard t inputs triples final levels p r sums gs 0 0
     unfolding sums C
-    hears = heard-shown t inputs dealt final levels gs 0 0 r C (s .published) (omega arith) (λ (q : ℕ) h. all q h .shown) p
+    hears = heard-shown t inputs triples final levels gs 0 0 r C (s .published) (omega arith) (λ (q : ℕ) h. all q h .shown) p
 
     u : Turn
-    u = turn t inputs dealt final levels p r sums
+    u = turn t inputs triples final levels p r sums
 
     turn-is : turnOf t inputs gs d r (s .published) p ≡ u
-    unfolding turnOf u sums C levels dealt
+    unfolding turnOf u sums C levels triples
     turn-is = refl
 
-    enters-all : Stands t inputs dealt final levels p r sums size (enters u gs 0 0 (s .wireParts p)) size
+    enters-all : Stands t inputs triples final levels p r sums size (enters u gs 0 0 (s .wireParts p)) size
     unfolding size u
     enters-all =
         let e = all p l in
-        stands-end t inputs dealt final levels p r sums gs size 0 0 (s .wireParts p) l (omega arith) fits hears
+        stands-end t inputs triples final levels p r sums gs size 0 0 (s .wireParts p) l (omega arith) fits hears
         (record { long = e .wires-long; input = e .input; done = λ (h : ℕ) m. absurd (omega arith); left = λ (h : ℕ) m n. e .gate h n })
 
     abbrev W : List ℕ
     W = enters u gs 0 0 (s .wireParts p)
 
-    publishes-all : Published t inputs dealt final levels p r sums W size enters-all (s .published p)
+    publishes-all : Published t inputs triples final levels p r sums W size enters-all (s .published p)
         (publishes u W gs 0 0 (s .published p)) gs 0 0
     unfolding u size C
     publishes-all =
         let e = all p l in
         let long = e .published-long in
-        published-end t inputs dealt final levels p r sums W size enters-all gs 0 0 (s .published p) (omega arith)
+        published-end t inputs triples final levels p r sums W size enters-all gs 0 0 (s .published p) (omega arith)
         (omega arith) fits (e .shown)
 
-    wires-are : wiresAfter t inputs gs d r s p ≡ W
-    unfolding wiresAfter
+    wires-are : partsAfter t inputs gs d r s p ≡ W
+    unfolding partsAfter
     wires-are = ap (λ (v : Turn). enters v gs 0 0 (s .wireParts p)) turn-is
 
     published-are : publishedAfter t inputs gs k d r s p ≡ closes r R C k W (publishes u W gs 0 0 (s .published p))
     unfolding publishedAfter R C
     published-are =
-        ap (λ (v : Turn). closes r (roundsOf inputs gs) (conditionalCount gs) k (wiresAfter t inputs gs d r s p)
-        (publishes v (wiresAfter t inputs gs d r s p) gs 0 0 (s .published p))) turn-is
+        ap (λ (v : Turn). closes r (roundsOf inputs gs) (conditionalCount gs) k (partsAfter t inputs gs d r s p)
+        (publishes v (partsAfter t inputs gs d r s p) gs 0 0 (s .published p))) turn-is
         ∙ ap (λ (ws : List ℕ). closes r (roundsOf inputs gs) (conditionalCount gs) k ws (publishes u ws gs 0 0 (s .published p))) wires-are
 
     -- before the last round nothing closes
@@ -212,7 +212,7 @@ module _ (t inputs k : ℕ) (gs : List Gate) (d : Dealing) (pos : 1 ≤ inputs) 
         (sets (publishes u W gs 0 0 (s .published p)) (2 * C) (closingParts k W))
         (publishes u W gs 0 0 (s .published p))) (ne-eqb r R (λ e. omega arith))
 
-    next-reached : (s′ : Holdings) → s′ .wireParts p ≡ wiresAfter t inputs gs d r s p → s′ .published p
+    next-reached : (s′ : Holdings) → s′ .wireParts p ≡ partsAfter t inputs gs d r s p → s′ .published p
         ≡ publishedAfter t inputs gs k d r s p → r < R → Reached (suc r) s′ p
     next-reached s′ ew ep h =
         let w = ew ∙ wires-are in
@@ -222,7 +222,7 @@ module _ (t inputs k : ℕ) (gs : List Gate) (d : Dealing) (pos : 1 ≤ inputs) 
           input = λ (x : ℕ) m. ap (λ (v : List ℕ). part v x) w ∙ enters-all .input x m;
           gate = λ (x : ℕ) m. ap (λ (v : List ℕ). part v (inputs + x)) w ∙ enters-all .done x m;
           published-long = ap length q ∙ publishes-all .long ∙ all p l .published-long;
-          shown = subst (λ (v : List ℕ). Shown t inputs dealt final levels p (suc (suc r)) v gs 0 0) (sym q) (publishes-all .shows);
+          shown = subst (λ (v : List ℕ). Shown t inputs triples final levels p (suc (suc r)) v gs 0 0) (sym q) (publishes-all .shows);
           blank = λ (j : ℕ) m. ap (λ (v : List ℕ). part v j) q ∙ publishes-all .behind j (omega (arith, m, count-is)) ∙ all p l .blank j m;
         }
 
@@ -243,7 +243,7 @@ module _ (t inputs k : ℕ) (gs : List Gate) (d : Dealing) (pos : 1 ≤ inputs) 
               ∙ ap (λ (c : Bool). cond c (getD (final p) (inputs + (x - inputs)) 0) 0)
               (lt-ltb (getD levels (x - inputs) 0) (suc r) (omega (arith, level-most (x - inputs)))))
 
-      published-final : publishedAfter t inputs gs k d r s p ≡ maskedFactors (final p) (dealt p) 0 gs ++ closingParts k (final p)
+      published-final : publishedAfter t inputs gs k d r s p ≡ maskedFactors (final p) (triples p) 0 gs ++ closingParts k (final p)
       unfolding closes closingParts C
       published-final =
           let X = publishes u W gs 0 0 (s .published p) in
@@ -259,7 +259,7 @@ module _ (t inputs k : ℕ) (gs : List Gate) (d : Dealing) (pos : 1 ≤ inputs) 
           (drop-of-length-le X {i = 2 * C + length (drop (length (final p) - k) (final p))} (omega arith))
           ∙ append-nil (take (2 * C) X ++ drop (length (final p) - k) (final p))
           ∙ ap (λ (v : List ℕ). v ++ drop (length (final p) - k) (final p))
-          (all-shown t inputs dealt final levels p (suc (suc r)) X gs 0 0
+          (all-shown t inputs triples final levels p (suc (suc r)) X gs 0 0
           (λ (h : ℕ). omega (arith, level-most h)) (omega arith) (publishes-all .shows))
         where
           size-is : size ≡ length gs
@@ -276,7 +276,7 @@ module _ (t inputs k : ℕ) (gs : List Gate) (d : Dealing) (pos : 1 ≤ inputs) 
   pub tally-made : (p : ℕ) → p < t
       → (holdingsAfter t inputs gs k d (suc (roundsOf inputs gs)) .wireParts p ≡ wirePartsOf t inputs gs d p)
       × (holdingsAfter t inputs gs k d (suc (roundsOf inputs gs)) .published p ≡ publishedOf t inputs gs k d p)
-  unfolding holdingsAfter R final dealt publishedOf
+  unfolding holdingsAfter R final triples publishedOf
   tally-made p l =
       let s = holdingsAfter t inputs gs k d R in
       let all = before-last R (omega arith) in
@@ -316,21 +316,21 @@ module _ (t inputs k : ℕ) (gs : List Gate) (d e : Dealing) (pos : 1 ≤ inputs
           ∙ sym (other .gate (x - inputs) (omega arith)))
 
   factors-same : publishedOf t inputs gs k d p ≡ publishedOf t inputs gs k e p
-      → maskedFactors (wirePartsOf t inputs gs d p) (dealtOf gs d p) 0 gs
-      ≡ maskedFactors (wirePartsOf t inputs gs e p) (dealtOf gs e p) 0 gs
+      → maskedFactors (wirePartsOf t inputs gs d p) (triplesOf gs d p) 0 gs
+      ≡ maskedFactors (wirePartsOf t inputs gs e p) (triplesOf gs e p) 0 gs
   unfolding publishedOf
   factors-same same =
-      let m = maskedFactors (wirePartsOf t inputs gs d p) (dealtOf gs d p) 0 gs in
-      let m′ = maskedFactors (wirePartsOf t inputs gs e p) (dealtOf gs e p) 0 gs in
+      let m = maskedFactors (wirePartsOf t inputs gs d p) (triplesOf gs d p) 0 gs in
+      let m′ = maskedFactors (wirePartsOf t inputs gs e p) (triplesOf gs e p) 0 gs in
       sym (take-at m (closingParts k (wirePartsOf t inputs gs d p)) (2 * conditionalCount gs)
-      (length-masked (wirePartsOf t inputs gs d p) (dealtOf gs d p) 0 gs))
+      (length-masked (wirePartsOf t inputs gs d p) (triplesOf gs d p) 0 gs))
       ∙ ap (take (2 * conditionalCount gs)) same
       ∙ take-at m′ (closingParts k (wirePartsOf t inputs gs e p)) (2 * conditionalCount gs)
-      (length-masked (wirePartsOf t inputs gs e p) (dealtOf gs e p) 0 gs)
+      (length-masked (wirePartsOf t inputs gs e p) (triplesOf gs e p) 0 gs)
 
   published-earlier : publishedOf t inputs gs k d p ≡ publishedOf t inputs gs k e p
       → holdingsAfter t inputs gs k d n .published p ≡ holdingsAfter t inputs gs k e n .published p
-  unfolding part C final dealt levels
+  unfolding part C final triples levels
   published-earlier same =
       ext-getD 0 (holdingsAfter t inputs gs k d n .published p) (holdingsAfter t inputs gs k e n .published p)
       (one .published-long ∙ sym (other .published-long))
@@ -339,8 +339,8 @@ module _ (t inputs k : ℕ) (gs : List Gate) (d e : Dealing) (pos : 1 ≤ inputs
       at : (j : ℕ) (b : Bool) → ltb j (2 * conditionalCount gs) ≡ b
           → getD (holdingsAfter t inputs gs k d n .published p) j 0 ≡ getD (holdingsAfter t inputs gs k e n .published p) j 0
       at j true f =
-          same-shown inputs (levelsOf inputs gs) p (suc n) t (dealtOf gs d) (wirePartsOf t inputs gs d)
-          (dealtOf gs e) (wirePartsOf t inputs gs e) gs 0 0 _ _ (one .shown) (other .shown)
+          same-shown inputs (levelsOf inputs gs) p (suc n) t (triplesOf gs d) (wirePartsOf t inputs gs d)
+          (triplesOf gs e) (wirePartsOf t inputs gs e) gs 0 0 _ _ (one .shown) (other .shown)
           (factors-same same) j (omega arith) (omega (arith, ltb-true j (2 * conditionalCount gs) f))
       at j false f = one .blank j (ltb-false j (2 * conditionalCount gs) f) ∙ sym (other .blank j (ltb-false j (2 * conditionalCount gs) f))
 

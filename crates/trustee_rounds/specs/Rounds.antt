@@ -17,14 +17,14 @@ pub record Turn : Type 0 where
   pub round : ℕ
   pub inputs : ℕ
   pub levels : List ℕ
-  pub dealt : List ℕ
+  pub triples : List ℕ
   pub heard : List ℕ
 
 -- Its part of the wire of gate x, which i conditional gates precede, from its wire parts ws.
 unfoldable pub heardPart : Turn → ℕ → Gate → List ℕ → ℕ
 heardPart u i x ws =
     partOfKind (u .trustee) (x .kind) (part ws (x .a)) (part ws (x .b)) (part ws (x .c))
-    (productPart (u .trustee) (u .dealt) i (part (u .heard) (2 * i)) (part (u .heard) (2 * i + 1)))
+    (productPart (u .trustee) (u .triples) i (part (u .heard) (2 * i)) (part (u .heard) (2 * i + 1)))
 
 -- The wire parts after gate g: it gets its part in the round that is its level.
 unfoldable pub entersGate : Turn → ℕ → ℕ → Gate → List ℕ → List ℕ
@@ -40,7 +40,7 @@ enters u (x ∷ xs) g i ws = enters u xs (suc g) (i + markOf x) (entersGate u g 
 unfoldable pub publishesGate : Turn → List ℕ → ℕ → ℕ → Gate → List ℕ → List ℕ
 publishesGate u ws g i x published =
     cond (conditionalOf (x .kind) && eqb (getD (u .levels) g 0) (suc (u .round)))
-    (sets published (2 * i) (maskedFirst ws (u .dealt) i x ∷ maskedSecond ws (u .dealt) i x ∷ [])) published
+    (sets published (2 * i) (maskedFirst ws (u .triples) i x ∷ maskedSecond ws (u .triples) i x ∷ [])) published
 
 unfoldable pub publishes : Turn → List ℕ → List Gate → ℕ → ℕ → List ℕ → List ℕ
 publishes u ws [] g i published = published

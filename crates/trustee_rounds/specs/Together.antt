@@ -10,7 +10,7 @@ use Rattle.gates.specs.Test.{firstBad}
 use Rattle.gates.specs.declared.place.Place.the-variants.{Nowhere}
 use Rattle.gate_levels.specs.Levels.{levelsOf, roundsOf}
 use Rattle.trustee_shares.specs.Shares.{opened, part, Held}
-use Rattle.trustee_shares.specs.Views.{Dealing, ballotsOf, dealtOf, wirePartsOf, publishedOf}
+use Rattle.trustee_shares.specs.Views.{Dealing, ballotsOf, triplesOf, wirePartsOf, publishedOf}
 use Rattle.trustee_rounds.specs.Rounds.{Turn, enters, publishes, closes, startWires, startPublished}
 
 -- The sums modulo 2 of what t trustees published, n of them from place j on.
@@ -34,17 +34,17 @@ turnOf t inputs gs d r published p =
       round = r;
       inputs = inputs;
       levels = levelsOf inputs gs;
-      dealt = dealtOf gs d p;
+      triples = triplesOf gs d p;
       heard = sumsOf t (conditionalCount gs) published;
     }
 
-unfoldable pub wiresAfter : ℕ → ℕ → List Gate → Dealing → ℕ → Holdings → Held
-wiresAfter t inputs gs d r s p = enters (turnOf t inputs gs d r (s .published) p) gs 0 0 (s .wireParts p)
+unfoldable pub partsAfter : ℕ → ℕ → List Gate → Dealing → ℕ → Holdings → Held
+partsAfter t inputs gs d r s p = enters (turnOf t inputs gs d r (s .published) p) gs 0 0 (s .wireParts p)
 
 unfoldable pub publishedAfter : ℕ → ℕ → List Gate → ℕ → Dealing → ℕ → Holdings → Held
 publishedAfter t inputs gs k d r s p =
-    closes r (roundsOf inputs gs) (conditionalCount gs) k (wiresAfter t inputs gs d r s p)
-    (publishes (turnOf t inputs gs d r (s .published) p) (wiresAfter t inputs gs d r s p) gs 0 0 (s .published p))
+    closes r (roundsOf inputs gs) (conditionalCount gs) k (partsAfter t inputs gs d r s p)
+    (publishes (turnOf t inputs gs d r (s .published) p) (partsAfter t inputs gs d r s p) gs 0 0 (s .published p))
 
 -- What all hold after the first n rounds, 0 to n − 1.
 unfoldable pub holdingsAfter : ℕ → ℕ → List Gate → ℕ → Dealing → ℕ → Holdings
@@ -56,7 +56,7 @@ holdingsAfter t inputs gs k d zero =
     }
 holdingsAfter t inputs gs k d (suc r) =
     record {
-      wireParts = wiresAfter t inputs gs d r (holdingsAfter t inputs gs k d r);
+      wireParts = partsAfter t inputs gs d r (holdingsAfter t inputs gs k d r);
       published = publishedAfter t inputs gs k d r (holdingsAfter t inputs gs k d r);
     }
 

@@ -13,7 +13,7 @@ ghost use lib.ListN.{length, set};
 ghost use lib.Seq.{sets};
 ghost use Rattle.gates.specs.Kind.{conditionalOf};
 ghost use Rattle.trustee_shares.specs.Shares.{part, maskedFirst, maskedSecond, productPart, partOfKind};
-ghost use Rattle.trustee_gates.specs.Gate.{gateOf};
+ghost use Rattle.trustee_gates.specs.inner.Gate.{gateOfNumbers};
 ghost use Rattle.trustee_rounds.specs.inner.Passes.{GateIn, PartReady, EnterReady, PublishReady};
 ghost use Rattle.gates.specs.inner.Marked.{Marked};
 
@@ -32,18 +32,18 @@ fn own_part(p: usize, gate: Numbers, z: u8, wires: &[u8]) -> u8
 }
 
 // The trustee's bit of the i-th product, from its triple and the two sums that were heard.
-fn product(p: usize, i: usize, dealt: &[u8], heard: &[u8]) -> u8
-    requires { ⌜ (3 * i + 2 < length (now dealt)) × (2 * i + 1 < length (now heard)) ⌝ }
+fn product(p: usize, i: usize, triples: &[u8], heard: &[u8]) -> u8
+    requires { ⌜ (3 * i + 2 < length (now triples)) × (2 * i + 1 < length (now heard)) ⌝ }
     ensures { λ r. ⌜
-        r ≡ productPart p (now (dealt .entry)) i (part (now (heard .entry)) (2 * i))
+        r ≡ productPart p (now (triples .entry)) i (part (now (heard .entry)) (2 * i))
         (part (now (heard .entry)) (2 * i + 1))
         ⌝ }
 {
     bits::product_bit(
         p,
-        dealt[3 * i],
-        dealt[3 * i + 1],
-        dealt[3 * i + 2],
+        triples[3 * i],
+        triples[3 * i + 1],
+        triples[3 * i + 2],
         heard[2 * i],
         heard[2 * i + 1],
     )
@@ -55,20 +55,20 @@ fn gate_part(
     p: usize,
     gate: Numbers,
     i: usize,
-    dealt: &[u8],
+    triples: &[u8],
     heard: &[u8],
     wires: &[u8],
 ) -> u8
-    requires { ⌜ Marked (now marks) (PartReady gate i (now dealt) (now heard) (now wires)) ⌝ }
+    requires { ⌜ Marked (now marks) (PartReady gate i (now triples) (now heard) (now wires)) ⌝ }
     ensures { λ r. ⌜
         r ≡ partOfKind p (gate .kind) (part (now (wires .entry)) (gate .a)) (part (now (wires .entry)) (gate .b))
         (part (now (wires .entry)) (gate .c))
-        (productPart p (now (dealt .entry)) i (part (now (heard .entry)) (2 * i))
+        (productPart p (now (triples .entry)) i (part (now (heard .entry)) (2 * i))
         (part (now (heard .entry)) (2 * i + 1)))
         ⌝ }
 {
     if kind::conditional(marks, gate.kind) {
-        let z = product(p, i, dealt, heard);
+        let z = product(p, i, triples, heard);
         return own_part(p, gate, z, wires);
     }
     own_part(p, gate, 0, wires)
@@ -83,25 +83,25 @@ pub(crate) fn enter_gate(
     gate: Numbers,
     own: usize,
     i: usize,
-    dealt: &[u8],
+    triples: &[u8],
     heard: &[u8],
     wires: &mut [u8],
 )
-    requires { ⌜ Marked (now marks) (EnterReady gate own i (now dealt) (now heard) (now wires)) ⌝ }
+    requires { ⌜ Marked (now marks) (EnterReady gate own i (now triples) (now heard) (now wires)) ⌝ }
     ensures { λ _. ⌜
         now (wires .exit)
         ≡ cond (eqb level round)
         (set (now (wires .entry)) own
         (partOfKind p (gate .kind) (part (now (wires .entry)) (gate .a)) (part (now (wires .entry)) (gate .b))
         (part (now (wires .entry)) (gate .c))
-        (productPart p (now (dealt .entry)) i (part (now (heard .entry)) (2 * i))
+        (productPart p (now (triples .entry)) i (part (now (heard .entry)) (2 * i))
         (part (now (heard .entry)) (2 * i + 1))))) (now (wires .entry))
         ⌝ }
 {
     if level != round {
         return;
     }
-    wires[own] = gate_part(marks, p, gate, i, dealt, heard, wires);
+    wires[own] = gate_part(marks, p, gate, i, triples, heard, wires);
 }
 
 // If the gate is conditional and of the next level, publishes both factors, masked.
@@ -111,18 +111,19 @@ pub(crate) fn publish_gate(
     level: usize,
     numbers: Numbers,
     i: usize,
-    dealt: &[u8],
+    triples: &[u8],
     wires: &[u8],
     published: &mut [u8],
 )
-    requires { ⌜ Marked (now marks) (PublishReady numbers i (now dealt) (now wires) (now published)) ⌝ }
+    requires { ⌜ Marked (now marks) (PublishReady numbers i (now triples) (now wires) (now published)) ⌝ }
     ensures { λ _. ⌜
         now (published .exit)
         ≡ cond (conditionalOf (numbers .kind)
         && eqb level next)
         (sets (now (published .entry)) (2 * i)
-        (maskedFirst (now (wires .entry)) (now (dealt .entry)) i (gateOf numbers)
-        ∷ maskedSecond (now (wires .entry)) (now (dealt .entry)) i (gateOf numbers) ∷ [])) (now (published .entry))
+        (maskedFirst (now (wires .entry)) (now (triples .entry)) i (gateOfNumbers numbers)
+        ∷ maskedSecond (now (wires .entry)) (now (triples .entry)) i (gateOfNumbers numbers) ∷ []))
+        (now (published .entry))
         ⌝ }
 {
     if !kind::conditional(marks, numbers.kind) {
@@ -133,10 +134,10 @@ pub(crate) fn publish_gate(
     }
     let pieces = Pieces {
         wires: wires.len(),
-        dealt: dealt.len(),
+        triples: triples.len(),
         published: 0,
     };
     let at = 2 * i;
-    published[at] = gate::masked_first(pieces, numbers, i, 0, dealt, wires);
-    published[at + 1] = gate::masked_second(pieces, numbers, i, 0, dealt, wires);
+    published[at] = gate::masked_first(pieces, numbers, i, 0, triples, wires);
+    published[at + 1] = gate::masked_second(pieces, numbers, i, 0, triples, wires);
 }

@@ -18,11 +18,11 @@ pub struct Seat {
 }
 
 // Enters the parts of all gates of this round's level, in order.
-fn enter(seat: Seat, table: &[u32], levels: &[u32], dealt: &[u8], heard: &[u8], wires: &mut [u8])
-    requires { ⌜ EnterPass seat (now table) (now levels) (now dealt) (now heard) (now wires) ⌝ }
+fn enter(seat: Seat, table: &[u32], levels: &[u32], triples: &[u8], heard: &[u8], wires: &mut [u8])
+    requires { ⌜ EnterPass seat (now table) (now levels) (now triples) (now heard) (now wires) ⌝ }
     ensures { λ _. ⌜
         now (wires .exit)
-        ≡ enters (turnBy seat (now (levels .entry)) (now (dealt .entry)) (now (heard .entry)))
+        ≡ enters (turnBy seat (now (levels .entry)) (now (triples .entry)) (now (heard .entry)))
         (gatesOf (now (table .entry))) 0 0 (now (wires .entry))
         ⌝ }
 {
@@ -43,7 +43,7 @@ fn enter(seat: Seat, table: &[u32], levels: &[u32], dealt: &[u8], heard: &[u8], 
             gate,
             inputs + g,
             i,
-            dealt,
+            triples,
             heard,
             wires,
         );
@@ -59,11 +59,11 @@ fn publish(
     round: usize,
     table: &[u32],
     levels: &[u32],
-    dealt: &[u8],
+    triples: &[u8],
     wires: &[u8],
     published: &mut [u8],
 )
-    requires { ⌜ PublishPass inputs round (now table) (now levels) (now dealt) (now wires) (now published) ⌝ }
+    requires { ⌜ PublishPass inputs round (now table) (now levels) (now triples) (now wires) (now published) ⌝ }
     ensures { λ _. ⌜
         ((p : ℕ) (heard : List ℕ)
         → now (published .exit)
@@ -73,7 +73,7 @@ fn publish(
           round = round;
           inputs = inputs;
           levels = now (levels .entry);
-          dealt = now (dealt .entry);
+          triples = now (triples .entry);
           heard = heard;
         }) (now (wires .entry)) (gatesOf (now (table .entry))) 0 0 (now (published .entry)))
         ⌝ }
@@ -85,7 +85,7 @@ fn publish(
     while g < levels.len() {
         let gate = evaluate::numbers_at(table, g);
         let depth = level::rounds(levels[g]);
-        part::publish_gate(&marks, next, depth, gate, i, dealt, wires, published);
+        part::publish_gate(&marks, next, depth, gate, i, triples, wires, published);
         i += kind::mark(&marks, gate.kind);
         g += 1;
     }
@@ -99,22 +99,22 @@ pub fn round(
     k: usize,
     table: &[u32],
     levels: &[u32],
-    dealt: &[u8],
+    triples: &[u8],
     heard: &[u8],
     wires: &mut [u8],
     published: &mut [u8],
 )
     requires { ⌜
-        RoundReady seat conditional k (now table) (now levels) (now dealt) (now heard) (now wires) (now published)
+        RoundReady seat conditional k (now table) (now levels) (now triples) (now heard) (now wires) (now published)
         ⌝ }
     ensures { λ _. ⌜
-        Turned seat rounds conditional k (now (table .entry)) (now (levels .entry)) (now (dealt .entry))
+        Turned seat rounds conditional k (now (table .entry)) (now (levels .entry)) (now (triples .entry))
         (now (heard .entry)) (now (wires .entry)) (now (published .entry)) (now (wires .exit)) (now (published .exit))
         ⌝ }
 {
-    enter(seat, table, levels, dealt, heard, wires);
+    enter(seat, table, levels, triples, heard, wires);
     let at = seat.round;
-    publish(seat.inputs, at, table, levels, dealt, wires, published);
+    publish(seat.inputs, at, table, levels, triples, wires, published);
     if at != rounds {
         return;
     }

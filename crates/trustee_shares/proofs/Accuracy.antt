@@ -143,26 +143,26 @@ second-opens : (t : ℕ) (B C : ℕ → ℕ) (b c : ℕ) (chosen : Bool) → ope
 second-opens t B C b c true e f = opened-two t B C ∙ rw (e, f refl) refl
 second-opens t B C b c false e f = e
 
-module _ (t : ℕ) (some : 1 ≤ t) (dealt : Held) (w : ℕ → ℕ) (bits : (x : ℕ) → w x ≤ 1) where
+module _ (t : ℕ) (some : 1 ≤ t) (triples : Held) (w : ℕ → ℕ) (bits : (x : ℕ) → w x ≤ 1) where
   -- the wire of one gate
   pub gate-opens : (n i : ℕ) (g : Gate) (held : Held) → GoodGate n g
-      → (conditionalOf (g .kind) ≡ true → Triple t dealt i) → Split t w held n
-      → opened t (newPart t dealt held i g) ≡ valueOf (g .kind) (w (g .a)) (w (g .b)) (w (g .c))
+      → (conditionalOf (g .kind) ≡ true → Triple t triples i) → Split t w held n
+      → opened t (newPart t triples held i g) ≡ valueOf (g .kind) (w (g .a)) (w (g .b)) (w (g .c))
   unfolding newPart openedFirst openedSecond maskedFirst maskedSecond firstFactor secondFactor productBy
   gate-opens n i g held good triple s =
       let A : ℕ → ℕ = λ p. part (held p) (g .a) in
       let B : ℕ → ℕ = λ p. part (held p) (g .b) in
       let C : ℕ → ℕ = λ p. part (held p) (g .c) in
       let Y : ℕ → ℕ = λ p. cond (eqb (g .kind) 7) ((B p + C p) % 2) (B p) in
-      let Z : ℕ → ℕ = λ p. productPart p (dealt p) i (opened t (λ q. (A q + uOf (dealt q) i) % 2))
-      (opened t (λ q. (Y q + vOf (dealt q) i) % 2)) in
+      let Z : ℕ → ℕ = λ p. productPart p (triples p) i (opened t (λ q. (A q + uOf (triples q) i) % 2))
+      (opened t (λ q. (Y q + vOf (triples q) i) % 2)) in
       gives t some A B C Z (w (g .a)) (w (g .b)) (w (g .c)) (bits (g .a)) (bits (g .b)) (bits (g .c)) (g .kind) (good .known)
       (λ h. s .sums (g .a) (good .a-below h)) (λ h. s .sums (g .b) (good .b-below h)) (λ h. s .sums (g .c) (good .c-below h))
       (λ h.
       let k = conditional-operands (g .kind) (good .known) h in
       let a = s .sums (g .a) (good .a-below (omega arith)) in
       let b = s .sums (g .b) (good .b-below (omega arith)) in
-      product-opens t dealt i A Y some (triple h)
+      product-opens t triples i A Y some (triple h)
       ∙ rw (
         a,
         second-opens t B C (w (g .b)) (w (g .c)) (eqb (g .kind) 7) b
@@ -171,17 +171,17 @@ module _ (t : ℕ) (some : 1 ≤ t) (dealt : Held) (w : ℕ → ℕ) (bits : (x 
 
   -- the wire of one gate more
   pub more : (n i : ℕ) (g : Gate) (held : Held) → T (goodGate n g) → w n ≡ valueOf (g .kind) (w (g .a)) (w (g .b)) (w (g .c))
-      → (conditionalOf (g .kind) ≡ true → Triple t dealt i) → Split t w held n
-      → Split t w (λ p. held p ++ (newPart t dealt held i g p ∷ [])) (suc n)
+      → (conditionalOf (g .kind) ≡ true → Triple t triples i) → Split t w held n
+      → Split t w (λ p. held p ++ (newPart t triples held i g p ∷ [])) (suc n)
   more n i g held good is triple s =
-      let new : ℕ → ℕ = newPart t dealt held i g in
+      let new : ℕ → ℕ = newPart t triples held i g in
       record {
         sizes = λ (p : ℕ) h. omega (arith, length-append (held p) (new p ∷ []), s .sizes p h);
         sums = λ (x : ℕ) h. at x h (ltb x n) refl;
       }
     where
       new : ℕ → ℕ
-      new = newPart t dealt held i g
+      new = newPart t triples held i g
 
       at : (x : ℕ) → x < suc n → (b : Bool) → ltb x n ≡ b → opened t (λ p. part (held p ++ (new p ∷ [])) x) ≡ w x
       at x h true e =
@@ -194,14 +194,14 @@ module _ (t : ℕ) (some : 1 ≤ t) (dealt : Held) (w : ℕ → ℕ) (bits : (x 
           ∙ gate-opens n i g held (good-gate n g good) triple s ∙ sym is)
 
   pub parts-split : (n i : ℕ) (gs : List Gate) (held : Held) → AllGood n gs → Holds w n gs
-      → ((j : ℕ) → i ≤ j → j < i + conditionalCount gs → Triple t dealt j) → Split t w held n
-      → Split t w (partsOf t dealt held i gs) (n + length gs)
+      → ((j : ℕ) → i ≤ j → j < i + conditionalCount gs → Triple t triples j) → Split t w held n
+      → Split t w (partsOf t triples held i gs) (n + length gs)
   unfolding partsOf
-  parts-split n i [] held good holds triples s = rw (add-zero n) s
-  parts-split n i (g ∷ gs) held good holds triples s =
+  parts-split n i [] held good holds products s = rw (add-zero n) s
+  parts-split n i (g ∷ gs) held good holds products s =
       let c = count-mark g gs in
-      subst (λ (m : ℕ). Split t w (partsOf t dealt (λ p. held p ++ (newPart t dealt held i g p ∷ [])) (i + markOf g)
+      subst (λ (m : ℕ). Split t w (partsOf t triples (λ p. held p ++ (newPart t triples held i g p ∷ [])) (i + markOf g)
       gs) m) (omega arith) (parts-split (suc n) (i + markOf g) gs
-      (λ p. held p ++ (newPart t dealt held i g p ∷ [])) (good .1) (holds .1)
-      (λ (j : ℕ) l h. triples j (omega arith) (omega arith))
-      (more n i g held (good .0) (holds .0) (λ e. triples i (omega arith) (omega (arith, mark-one g e))) s))
+      (λ p. held p ++ (newPart t triples held i g p ∷ [])) (good .1) (holds .1)
+      (λ (j : ℕ) l h. products j (omega arith) (omega arith))
+      (more n i g held (good .0) (holds .0) (λ e. products i (omega arith) (omega (arith, mark-one g e))) s))

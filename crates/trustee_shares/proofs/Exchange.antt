@@ -66,9 +66,9 @@ new-bit p kind a b c z h ha hz =
     one zero = omega arith
     one (suc p) = omega arith
 
-product-bit : (p : ℕ) (dealt : List ℕ) (i e f : ℕ) → productPart p dealt i e f ≤ 1
+product-bit : (p : ℕ) (triples : List ℕ) (i e f : ℕ) → productPart p triples i e f ≤ 1
 unfolding productPart
-product-bit p dealt i e f = omega arith
+product-bit p triples i e f = omega arith
 
 -- the differences of a factor and of its mask cancel
 cancels : (s s′ v v′ z : ℕ) → s′ % 2 ≡ (s + z) % 2 → v′ % 2 ≡ (v + z) % 2 → (s′ % 2 + v′) % 2 ≡ (s % 2 + v) % 2
@@ -88,7 +88,7 @@ sums-differ a a′ b b′ x y e f =
     let r : (a + x) + (b + y) ≡ (a + b) + (x + y) = omega arith in
     rw (e, f) (add-mods (a + x) (b + y) ∙ ap (λ (n : ℕ). n % 2) r ∙ sym (add-mod (a + b) (x + y)))
 
-module _ (t q : ℕ) (hq : q < t) (vs ws : ℕ → ℕ) (bv : (x : ℕ) → vs x ≤ 1) (bw : (x : ℕ) → ws x ≤ 1) (dealt dealt′ : Held) where
+module _ (t q : ℕ) (hq : q < t) (vs ws : ℕ → ℕ) (bv : (x : ℕ) → vs x ≤ 1) (bw : (x : ℕ) → ws x ≤ 1) (triples triples′ : Held) where
   -- the difference of two wires
   unfoldable pub diff : ℕ → ℕ
   diff x = (vs x + ws x) % 2
@@ -98,8 +98,8 @@ module _ (t q : ℕ) (hq : q < t) (vs ws : ℕ → ℕ) (bv : (x : ℕ) → vs x
 
   -- the dealer parts of a conditional gate: q's bits of u and v differ as the factors do
   pub record DealtAt (i : ℕ) (g : Gate) : Type 0 where
-    pub u-is : uOf (dealt′ q) i ≡ (uOf (dealt q) i + diff (g .a)) % 2
-    pub v-is : vOf (dealt′ q) i ≡ (vOf (dealt q) i + diffSecond g) % 2
+    pub u-is : uOf (triples′ q) i ≡ (uOf (triples q) i + diff (g .a)) % 2
+    pub v-is : vOf (triples′ q) i ≡ (vOf (triples q) i + diffSecond g) % 2
 
   -- the parts of the first n wires
   pub record Same (held held′ : Held) (n : ℕ) : Type 0 where
@@ -109,50 +109,50 @@ module _ (t q : ℕ) (hq : q < t) (vs ws : ℕ → ℕ) (bv : (x : ℕ) → vs x
     pub left-out : (x : ℕ) → x < n → part (held′ q) x ≡ (part (held q) x + diff x) % 2
     pub bits : (x : ℕ) → x < n → part (held q) x ≤ 1
 
-  module _ (same-dealt : (p : ℕ) → p < t → p ≢ q → dealt′ p ≡ dealt p) where
+  module _ (same-triples : (p : ℕ) → p < t → p ≢ q → triples′ p ≡ triples p) where
     module _ (held held′ : Held) (n i : ℕ) (g : Gate) (good : GoodGate n g) (s : Same held held′ n)
         (is : conditionalOf (g .kind) ≡ true) (d : DealtAt i g) where
       operands : 2 ≤ operandsOf (g .kind)
       operands = conditional-operands (g .kind) (good .known) is
 
-      pub first-same : (p : ℕ) → p < t → maskedFirst (held′ p) (dealt′ p) i g ≡ maskedFirst (held p) (dealt p) i g
+      pub first-same : (p : ℕ) → p < t → maskedFirst (held′ p) (triples′ p) i g ≡ maskedFirst (held p) (triples p) i g
       unfolding maskedFirst firstFactor diff
       first-same p h = go (eqb p q) refl
         where
-          go : (b : Bool) → eqb p q ≡ b → (part (held′ p) (g .a) + uOf (dealt′ p) i) % 2 ≡ (part (held p) (g .a) + uOf (dealt p) i) % 2
+          go : (b : Bool) → eqb p q ≡ b → (part (held′ p) (g .a) + uOf (triples′ p) i) % 2 ≡ (part (held p) (g .a) + uOf (triples p) i) % 2
           go true e =
               let k : p ≡ q = eqb-true p q e in
               let l = s .left-out (g .a) (good .a-below (omega (arith, operands))) in
               rw k (omega (arith, l, d .u-is))
-          go false e = rw (s .others p h (eqb-false p q e), same-dealt p h (eqb-false p q e))
+          go false e = rw (s .others p h (eqb-false p q e), same-triples p h (eqb-false p q e))
 
-      pub second-same : (p : ℕ) → p < t → maskedSecond (held′ p) (dealt′ p) i g ≡ maskedSecond (held p) (dealt p) i g
+      pub second-same : (p : ℕ) → p < t → maskedSecond (held′ p) (triples′ p) i g ≡ maskedSecond (held p) (triples p) i g
       unfolding maskedSecond secondFactor diff diffSecond
       second-same p h = go (eqb p q) refl
         where
-          chosen : (b : Bool) → eqb (g .kind) 7 ≡ b → vOf (dealt′ q) i
-              ≡ (vOf (dealt q) i + cond b ((diff (g .b) + diff (g .c)) % 2) (diff (g .b))) % 2
-              → (cond b ((part (held′ q) (g .b) + part (held′ q) (g .c)) % 2) (part (held′ q) (g .b)) + vOf (dealt′ q) i) % 2
-              ≡ (cond b ((part (held q) (g .b) + part (held q) (g .c)) % 2) (part (held q) (g .b)) + vOf (dealt q) i) % 2
+          chosen : (b : Bool) → eqb (g .kind) 7 ≡ b → vOf (triples′ q) i
+              ≡ (vOf (triples q) i + cond b ((diff (g .b) + diff (g .c)) % 2) (diff (g .b))) % 2
+              → (cond b ((part (held′ q) (g .b) + part (held′ q) (g .c)) % 2) (part (held′ q) (g .b)) + vOf (triples′ q) i) % 2
+              ≡ (cond b ((part (held q) (g .b) + part (held q) (g .c)) % 2) (part (held q) (g .b)) + vOf (triples q) i) % 2
           chosen true e v =
               let l = s .left-out (g .b) (good .b-below (omega (arith, operands))) in
               let m = s .left-out (g .c) (good .c-below (choice-operands (g .kind) e)) in
               let z = (diff (g .b) + diff (g .c)) % 2 in
               cancels (part (held q) (g .b) + part (held q) (g .c)) (part (held′ q) (g .b) + part (held′ q) (g .c))
-              (vOf (dealt q) i) (vOf (dealt′ q) i) z
+              (vOf (triples q) i) (vOf (triples′ q) i) z
               (sums-differ (part (held q) (g .b)) (part (held′ q) (g .b)) (part (held q) (g .c))
               (part (held′ q) (g .c)) (diff (g .b)) (diff (g .c)) l m)
-              (reduced (vOf (dealt′ q) i) (vOf (dealt q) i + z) v)
+              (reduced (vOf (triples′ q) i) (vOf (triples q) i + z) v)
           chosen false e v =
               let l = s .left-out (g .b) (good .b-below (omega (arith, operands))) in
               omega (arith, l, v)
 
           go : (b : Bool) → eqb p q ≡ b
               → (cond (eqb (g .kind) 7) ((part (held′ p) (g .b) + part (held′ p) (g .c)) % 2)
-              (part (held′ p) (g .b)) + vOf (dealt′ p) i) % 2
-              ≡ (cond (eqb (g .kind) 7) ((part (held p) (g .b) + part (held p) (g .c)) % 2) (part (held p) (g .b)) + vOf (dealt p) i) % 2
+              (part (held′ p) (g .b)) + vOf (triples′ p) i) % 2
+              ≡ (cond (eqb (g .kind) 7) ((part (held p) (g .b) + part (held p) (g .c)) % 2) (part (held p) (g .b)) + vOf (triples p) i) % 2
           go true e = let k : p ≡ q = eqb-true p q e in rw k (chosen (eqb (g .kind) 7) refl (d .v-is))
-          go false e = rw (s .others p h (eqb-false p q e), same-dealt p h (eqb-false p q e))
+          go false e = rw (s .others p h (eqb-false p q e), same-triples p h (eqb-false p q e))
 
     module _ (held held′ : Held) (n i : ℕ) (g : Gate) (ok : T (goodGate n g)) (s : Same held held′ n)
         (d : conditionalOf (g .kind) ≡ true → DealtAt i g) where
@@ -160,43 +160,43 @@ module _ (t q : ℕ) (hq : q < t) (vs ws : ℕ → ℕ) (bv : (x : ℕ) → vs x
       good = good-gate n g ok
 
       new : ℕ → ℕ
-      new = newPart t dealt held i g
+      new = newPart t triples held i g
 
       new′ : ℕ → ℕ
-      new′ = newPart t dealt′ held′ i g
+      new′ = newPart t triples′ held′ i g
 
       -- the others' parts of the gate's wire
       new-others : (p : ℕ) → p < t → p ≢ q → new′ p ≡ new p
       unfolding new new′ newPart openedFirst openedSecond
-      new-others p h other = rw (s .others p h other, same-dealt p h other) (go (conditionalOf (g .kind)) refl)
+      new-others p h other = rw (s .others p h other, same-triples p h other) (go (conditionalOf (g .kind)) refl)
         where
           go : (b : Bool) → conditionalOf (g .kind) ≡ b
               → partOfKind p (g .kind) (part (held p) (g .a)) (part (held p) (g .b)) (part (held p) (g .c))
-              (productPart p (dealt p) i (opened t (λ r. maskedFirst (held′ r) (dealt′ r) i g))
-              (opened t (λ r. maskedSecond (held′ r) (dealt′ r) i g)))
+              (productPart p (triples p) i (opened t (λ r. maskedFirst (held′ r) (triples′ r) i g))
+              (opened t (λ r. maskedSecond (held′ r) (triples′ r) i g)))
               ≡ partOfKind p (g .kind) (part (held p) (g .a)) (part (held p) (g .b)) (part (held p) (g .c))
-              (productPart p (dealt p) i (opened t (λ r. maskedFirst (held r) (dealt r) i g))
-              (opened t (λ r. maskedSecond (held r) (dealt r) i g)))
+              (productPart p (triples p) i (opened t (λ r. maskedFirst (held r) (triples r) i g))
+              (opened t (λ r. maskedSecond (held r) (triples r) i g)))
           go true is =
               rw (
-                opened-same t (λ r. maskedFirst (held′ r) (dealt′ r) i g) (λ r. maskedFirst (held r) (dealt r) i g)
+                opened-same t (λ r. maskedFirst (held′ r) (triples′ r) i g) (λ r. maskedFirst (held r) (triples r) i g)
                     (first-same held held′ n i g good s is (d is)),
-                opened-same t (λ r. maskedSecond (held′ r) (dealt′ r) i g)
-                    (λ r. maskedSecond (held r) (dealt r) i g) (second-same held held′ n i g good s is (d is)),
+                opened-same t (λ r. maskedSecond (held′ r) (triples′ r) i g)
+                    (λ r. maskedSecond (held r) (triples r) i g) (second-same held held′ n i g good s is (d is)),
               )
           go false is =
               ignores p (g .kind) (part (held p) (g .a)) (part (held p) (g .b)) (part (held p) (g .c))
-              (productPart p (dealt p) i (opened t (λ r. maskedFirst (held′ r) (dealt′ r) i g))
-              (opened t (λ r. maskedSecond (held′ r) (dealt′ r) i g)))
-              (productPart p (dealt p) i (opened t (λ r. maskedFirst (held r) (dealt r) i g))
-              (opened t (λ r. maskedSecond (held r) (dealt r) i g))) (good .known) is
+              (productPart p (triples p) i (opened t (λ r. maskedFirst (held′ r) (triples′ r) i g))
+              (opened t (λ r. maskedSecond (held′ r) (triples′ r) i g)))
+              (productPart p (triples p) i (opened t (λ r. maskedFirst (held r) (triples r) i g))
+              (opened t (λ r. maskedSecond (held r) (triples r) i g))) (good .known) is
 
       new-is-bit : new q ≤ 1
       unfolding new newPart
       new-is-bit =
           new-bit q (g .kind) (part (held q) (g .a)) (part (held q) (g .b)) (part (held q) (g .c))
-          (productPart q (dealt q) i (openedFirst t dealt held i g) (openedSecond t dealt held i g)) (good .known)
-          (λ u. s .bits (g .a) (good .a-below u)) (product-bit q (dealt q) i (openedFirst t dealt held i g) (openedSecond t dealt held i g))
+          (productPart q (triples q) i (openedFirst t triples held i g) (openedSecond t triples held i g)) (good .known)
+          (λ u. s .bits (g .a) (good .a-below u)) (product-bit q (triples q) i (openedFirst t triples held i g) (openedSecond t triples held i g))
 
       left-out-bit : (x : ℕ) → x < n → part (held′ q) x ≤ 1
       left-out-bit x h = omega (arith, s .left-out x h)
@@ -205,31 +205,31 @@ module _ (t q : ℕ) (hq : q < t) (vs ws : ℕ → ℕ) (bv : (x : ℕ) → vs x
       unfolding new′ newPart
       new-is-bit′ =
           new-bit q (g .kind) (part (held′ q) (g .a)) (part (held′ q) (g .b)) (part (held′ q) (g .c))
-          (productPart q (dealt′ q) i (openedFirst t dealt′ held′ i g) (openedSecond t dealt′ held′ i g)) (good .known)
+          (productPart q (triples′ q) i (openedFirst t triples′ held′ i g) (openedSecond t triples′ held′ i g)) (good .known)
           (λ u. left-out-bit (g .a) (good .a-below u))
-          (product-bit q (dealt′ q) i (openedFirst t dealt′ held′ i g) (openedSecond t dealt′ held′ i g))
+          (product-bit q (triples′ q) i (openedFirst t triples′ held′ i g) (openedSecond t triples′ held′ i g))
 
-      module _ (triple : conditionalOf (g .kind) ≡ true → Triple t dealt i) (triple′ : conditionalOf (g .kind) ≡ true → Triple t dealt′ i)
+      module _ (triple : conditionalOf (g .kind) ≡ true → Triple t triples i) (triple′ : conditionalOf (g .kind) ≡ true → Triple t triples′ i)
           (is : vs n ≡ valueOf (g .kind) (vs (g .a)) (vs (g .b)) (vs (g .c)))
           (is′ : ws n ≡ valueOf (g .kind) (ws (g .a)) (ws (g .b)) (ws (g .c))) where
         -- q's part of it: the sums of all parts are the two wires
         new-left-out : new′ q ≡ (new q + diff n) % 2
         unfolding opened diff new new′
         new-left-out =
-            let a : opened t new ≡ vs n = gate-opens t (omega arith) dealt vs bv n i g held good triple (s .split) ∙ sym is in
-            let b : opened t new′ ≡ ws n = gate-opens t (omega arith) dealt′ ws bw n i g held′ good triple′ (s .split′) ∙ sym is′ in
+            let a : opened t new ≡ vs n = gate-opens t (omega arith) triples vs bv n i g held good triple (s .split) ∙ sym is in
+            let b : opened t new′ ≡ ws n = gate-opens t (omega arith) triples′ ws bw n i g held′ good triple′ (s .split′) ∙ sym is′ in
             differ (sumOf t new) (sumOf t new′) (new q) (new′ q) (vs n) (ws n) a b (sum-change t q new′ new hq new-others) new-is-bit′
           where
             differ : (a b x y v w : ℕ) → a % 2 ≡ v → b % 2 ≡ w → b + x ≡ a + y → y ≤ 1 → y ≡ (x + (v + w) % 2) % 2
             differ a b x y v w ha hb e h = omega arith
 
-        pub same-more : Same (λ p. held p ++ (newPart t dealt held i g p ∷ []))
-            (λ p. held′ p ++ (newPart t dealt′ held′ i g p ∷ [])) (suc n)
+        pub same-more : Same (λ p. held p ++ (newPart t triples held i g p ∷ []))
+            (λ p. held′ p ++ (newPart t triples′ held′ i g p ∷ [])) (suc n)
         unfolding new new′
         same-more =
             record {
-              split = more t (omega arith) dealt vs bv n i g held ok is triple (s .split);
-              split′ = more t (omega arith) dealt′ ws bw n i g held′ ok is′ triple′ (s .split′);
+              split = more t (omega arith) triples vs bv n i g held ok is triple (s .split);
+              split′ = more t (omega arith) triples′ ws bw n i g held′ ok is′ triple′ (s .split′);
               others = λ (p : ℕ) h other. rw (s .others p h other, new-others p h other);
               left-out = λ (x : ℕ) h. at x h (ltb x n) refl;
               bits = λ (x : ℕ) h. bit x h (ltb x n) refl;
@@ -259,25 +259,25 @@ module _ (t q : ℕ) (hq : q < t) (vs ws : ℕ → ℕ) (bv : (x : ℕ) → vs x
 
     -- all gates of a list
     pub same-parts : (n i : ℕ) (gs : List Gate) (held held′ : Held) → AllGood n gs → Holds vs n gs → Holds ws n gs
-        → ((j : ℕ) → i ≤ j → j < i + conditionalCount gs → Triple t dealt j × Triple t dealt′ j)
+        → ((j : ℕ) → i ≤ j → j < i + conditionalCount gs → Triple t triples j × Triple t triples′ j)
         → ((j : ℕ) → j < conditionalCount gs → DealtAt (i + j) (nthConditional gs j))
-        → Same held held′ n → Same (partsOf t dealt held i gs) (partsOf t dealt′ held′ i gs) (n + length gs)
+        → Same held held′ n → Same (partsOf t triples held i gs) (partsOf t triples′ held′ i gs) (n + length gs)
     unfolding partsOf
-    same-parts n i [] held held′ good holds holds′ triples d s = rw (add-zero n) s
-    same-parts n i (g ∷ gs) held held′ good holds holds′ triples d s =
+    same-parts n i [] held held′ good holds holds′ products d s = rw (add-zero n) s
+    same-parts n i (g ∷ gs) held held′ good holds holds′ products d s =
         let c = count-mark g gs in
-        let next : Held = λ p. held p ++ (newPart t dealt held i g p ∷ []) in
-        let next′ : Held = λ p. held′ p ++ (newPart t dealt′ held′ i g p ∷ []) in
-        subst (λ (m : ℕ). Same (partsOf t dealt next (i + markOf g) gs) (partsOf t dealt′ next′ (i + markOf g) gs) m) (omega arith)
+        let next : Held = λ p. held p ++ (newPart t triples held i g p ∷ []) in
+        let next′ : Held = λ p. held′ p ++ (newPart t triples′ held′ i g p ∷ []) in
+        subst (λ (m : ℕ). Same (partsOf t triples next (i + markOf g) gs) (partsOf t triples′ next′ (i + markOf g) gs) m) (omega arith)
         (same-parts (suc n) (i + markOf g) gs next next′ (good .1) (holds .1) (holds′ .1)
-        (λ (j : ℕ) l h. triples j (omega arith) (omega arith))
+        (λ (j : ℕ) l h. products j (omega arith) (omega arith))
         (λ (j : ℕ) h.
         let a : i + (markOf g + j) ≡ i + markOf g + j = omega arith in
         subst (λ (x : Gate). DealtAt (i + markOf g + j) x) (nth-next g gs j)
         (subst (λ (m : ℕ). DealtAt m (nthConditional (g ∷ gs) (markOf g + j))) a (d (markOf g + j) (omega arith))))
         (same-more held held′ n i g (good .0) s (λ is. first is (d 0 (omega (arith, mark-one g is))))
-        (λ is. triples i (omega arith) (omega (arith, mark-one g is)) .0)
-        (λ is. triples i (omega arith) (omega (arith, mark-one g is)) .1) (holds .0) (holds′ .0)))
+        (λ is. products i (omega arith) (omega (arith, mark-one g is)) .0)
+        (λ is. products i (omega arith) (omega (arith, mark-one g is)) .1) (holds .0) (holds′ .0)))
       where
         first : conditionalOf (g .kind) ≡ true → DealtAt (i + 0) (nthConditional (g ∷ gs) 0) → DealtAt i g
         first is x = subst (λ (h : Gate). DealtAt i h) (nth-first g gs is)

@@ -23,12 +23,12 @@ use Rattle.gates.proofs.Goodness.{GoodGate}
 use Rattle.gates.proofs.WireLaws.{length-wires}
 use Rattle.gates.proofs.Laws.{AllGood, Holds, all-good, wires-hold, wires-start, wires-bits, wire-bit, output-is}
 use Rattle.trustee_shares.specs.Shares.{sumOf, opened, part, uOf, vOf, productOf, firstFactor, secondFactor, maskedFirst, maskedSecond, Held}
-use Rattle.trustee_shares.specs.Views.{piece, joined, Dealing, ballotsOf, dealtOf, GoodDealing, wirePartsOf, maskedFactors, closingParts, publishedOf, View, viewOf, ViewsHideInputs}
+use Rattle.trustee_shares.specs.Views.{piece, joined, Dealing, ballotsOf, triplesOf, GoodDealing, wirePartsOf, maskedFactors, closingParts, publishedOf, View, viewOf, ViewsHideInputs}
 use Rattle.trustee_shares.proofs.SumLaws.{sum-change}
 use Rattle.trustee_shares.proofs.Products.{Triple}
 use Rattle.trustee_shares.proofs.Accuracy.{Split, opened-same, parts-split, conditional-operands, choice-operands}
 use Rattle.trustee_shares.proofs.Tables.{length-joined, piece-joined, whole-table, length-piece, joined-cong, joined-same, others-cong, others-same}
-use Rattle.trustee_shares.proofs.Lists.{made, length-made, made-at, triples, length-triples, triple-u, triple-v, triple-w, triples-same}
+use Rattle.trustee_shares.proofs.Lists.{made, length-made, made-at, tripleList, length-triples, triple-u, triple-v, triple-w, triples-same}
 use Rattle.trustee_shares.proofs.Exchange.{add-mods, nthConditional, diff, diffSecond, DealtAt, Same, first-same, second-same, same-parts}
 use Rattle.trustee_shares.proofs.Publishing.{nth-good, length-masked, AgreeAt, masked-cong, masked-same}
 
@@ -79,8 +79,8 @@ bits-made zero f b i = omega arith
 bits-made (suc n) f b zero = b 0
 bits-made (suc n) f b (suc i) = bits-made n (λ j. f (suc j)) (λ j. b (suc j)) i
 
-bits-triples : (n : ℕ) (u v w : ℕ → ℕ) → ((i : ℕ) → u i ≤ 1) → ((i : ℕ) → v i ≤ 1) → ((i : ℕ) → w i ≤ 1) → Bits (triples n u v w)
-unfolding triples
+bits-triples : (n : ℕ) (u v w : ℕ → ℕ) → ((i : ℕ) → u i ≤ 1) → ((i : ℕ) → v i ≤ 1) → ((i : ℕ) → w i ≤ 1) → Bits (tripleList n u v w)
+unfolding tripleList
 bits-triples zero u v w a b c i = omega arith
 bits-triples (suc n) u v w a b c zero = a 0
 bits-triples (suc n) u v w a b c (suc zero) = b 0
@@ -171,8 +171,8 @@ module _ (t q k : ℕ) (gs : List Gate) (xs ys : List ℕ) (d : Dealing) (hq : q
   bal : Held
   bal = ballotsOf n d
 
-  dealt : Held
-  dealt = dealtOf gs d
+  triples : Held
+  triples = triplesOf gs d
 
   dif : ℕ → ℕ
   dif x = (vs x + ws x) % 2
@@ -182,17 +182,17 @@ module _ (t q k : ℕ) (gs : List Gate) (xs ys : List ℕ) (d : Dealing) (hq : q
 
   -- the left-out trustee's new parts
   u′ : ℕ → ℕ
-  u′ i = (uOf (dealt q) i + dif (nthConditional gs i .a)) % 2
+  u′ i = (uOf (triples q) i + dif (nthConditional gs i .a)) % 2
 
   v′ : ℕ → ℕ
-  v′ i = (vOf (dealt q) i + difSecond (nthConditional gs i)) % 2
+  v′ i = (vOf (triples q) i + difSecond (nthConditional gs i)) % 2
 
   -- the opened u and v of a triple, before and after
   U : ℕ → ℕ
-  U i = opened t (λ p. uOf (dealt p) i)
+  U i = opened t (λ p. uOf (triples p) i)
 
   W : ℕ → ℕ
-  W i = opened t (λ p. vOf (dealt p) i)
+  W i = opened t (λ p. vOf (triples p) i)
 
   U′ : ℕ → ℕ
   U′ i = (U i + dif (nthConditional gs i .a)) % 2
@@ -201,80 +201,80 @@ module _ (t q k : ℕ) (gs : List Gate) (xs ys : List ℕ) (d : Dealing) (hq : q
   W′ i = (W i + difSecond (nthConditional gs i)) % 2
 
   w′ : ℕ → ℕ
-  w′ i = (productOf (dealt q) i + (U i * W i + U′ i * W′ i)) % 2
+  w′ i = (productOf (triples q) i + (U i * W i + U′ i * W′ i)) % 2
 
   newBallots : List ℕ
   newBallots = made n (λ x. (part (bal q) x + dif x) % 2)
 
-  newDealt : List ℕ
-  newDealt = triples C u′ v′ w′
+  newTriples : List ℕ
+  newTriples = tripleList C u′ v′ w′
 
   bal′ : Held
   bal′ = swapped q newBallots bal
 
-  dealt′ : Held
-  dealt′ = swapped q newDealt dealt
+  triples′ : Held
+  triples′ = swapped q newTriples triples
 
   second : Dealing
-  second = record { ballotParts = joined t bal′; dealerParts = joined t dealt′ }
+  second = record { ballotParts = joined t bal′; dealerParts = joined t triples′ }
 
   -- sizes
   bal-size : (p : ℕ) → p < t → length (bal p) ≡ n
   unfolding bal ballotsOf n
   bal-size p h = length-piece t (length xs) (d .ballotParts) p (good .ballot-size) h
 
-  dealt-size : (p : ℕ) → p < t → length (dealt p) ≡ 3 * C
-  unfolding dealt dealtOf C
-  dealt-size p h = length-piece t (3 * conditionalCount gs) (d .dealerParts) p (good .dealer-size) h
+  triples-size : (p : ℕ) → p < t → length (triples p) ≡ 3 * C
+  unfolding triples triplesOf C
+  triples-size p h = length-piece t (3 * conditionalCount gs) (d .dealerParts) p (good .dealer-size) h
 
   bal-size′ : (p : ℕ) → p < t → length (bal′ p) ≡ n
   unfolding bal′ newBallots
   bal-size′ p h = swapped-all (λ l. length l ≡ n) q newBallots bal p (length-made n (λ x. (part (bal q) x + dif x) % 2)) (bal-size p h)
 
-  dealt-size′ : (p : ℕ) → p < t → length (dealt′ p) ≡ 3 * C
-  unfolding dealt′ newDealt
-  dealt-size′ p h = swapped-all (λ l. length l ≡ 3 * C) q newDealt dealt p (length-triples C u′ v′ w′) (dealt-size p h)
+  triples-size′ : (p : ℕ) → p < t → length (triples′ p) ≡ 3 * C
+  unfolding triples′ newTriples
+  triples-size′ p h = swapped-all (λ l. length l ≡ 3 * C) q newTriples triples p (length-triples C u′ v′ w′) (triples-size p h)
 
   -- the second dealing's pieces
   is-bal′ : (p : ℕ) → p < t → ballotsOf n second p ≡ bal′ p
   unfolding ballotsOf second
   is-bal′ p h = piece-joined n bal′ t bal-size′ p h
 
-  is-dealt′ : (p : ℕ) → p < t → dealtOf gs second p ≡ dealt′ p
-  unfolding dealtOf second C
-  is-dealt′ p h = piece-joined (3 * C) dealt′ t dealt-size′ p h
+  is-triples′ : (p : ℕ) → p < t → triplesOf gs second p ≡ triples′ p
+  unfolding triplesOf second C
+  is-triples′ p h = piece-joined (3 * C) triples′ t triples-size′ p h
 
   other-bal : (p : ℕ) → p < t → p ≢ q → ballotsOf n second p ≡ bal p
   unfolding bal′
   other-bal p h e = is-bal′ p h ∙ swapped-other q newBallots bal p e
 
-  other-dealt : (p : ℕ) → p < t → p ≢ q → dealtOf gs second p ≡ dealt p
-  unfolding dealt′
-  other-dealt p h e = is-dealt′ p h ∙ swapped-other q newDealt dealt p e
+  other-triples : (p : ℕ) → p < t → p ≢ q → triplesOf gs second p ≡ triples p
+  unfolding triples′
+  other-triples p h e = is-triples′ p h ∙ swapped-other q newTriples triples p e
 
   left-bal : ballotsOf n second q ≡ newBallots
   unfolding bal′
   left-bal = is-bal′ q hq ∙ swapped-left q newBallots bal
 
-  left-dealt : dealtOf gs second q ≡ newDealt
-  unfolding dealt′
-  left-dealt = is-dealt′ q hq ∙ swapped-left q newDealt dealt
+  left-triples : triplesOf gs second q ≡ newTriples
+  unfolding triples′
+  left-triples = is-triples′ q hq ∙ swapped-left q newTriples triples
 
   bal-left : (x : ℕ) → x < n → part (ballotsOf n second q) x ≡ (part (bal q) x + dif x) % 2
   unfolding part newBallots
   bal-left x h = rw left-bal (made-at n (λ x. (getD (bal q) x 0 + dif x) % 2) x h)
 
-  u-left : (i : ℕ) → i < C → uOf (dealtOf gs second q) i ≡ u′ i
-  unfolding newDealt
-  u-left i h = rw left-dealt (triple-u C u′ v′ w′ i h)
+  u-left : (i : ℕ) → i < C → uOf (triplesOf gs second q) i ≡ u′ i
+  unfolding newTriples
+  u-left i h = rw left-triples (triple-u C u′ v′ w′ i h)
 
-  v-left : (i : ℕ) → i < C → vOf (dealtOf gs second q) i ≡ v′ i
-  unfolding newDealt
-  v-left i h = rw left-dealt (triple-v C u′ v′ w′ i h)
+  v-left : (i : ℕ) → i < C → vOf (triplesOf gs second q) i ≡ v′ i
+  unfolding newTriples
+  v-left i h = rw left-triples (triple-v C u′ v′ w′ i h)
 
-  w-left : (i : ℕ) → i < C → productOf (dealtOf gs second q) i ≡ w′ i
-  unfolding newDealt
-  w-left i h = rw left-dealt (triple-w C u′ v′ w′ i h)
+  w-left : (i : ℕ) → i < C → productOf (triplesOf gs second q) i ≡ w′ i
+  unfolding newTriples
+  w-left i h = rw left-triples (triple-w C u′ v′ w′ i h)
 
   -- opened bits of the second dealing
   opens-bal : (x : ℕ) → x < n → opened t (λ p. part (bal p) x) ≡ vs x
@@ -291,30 +291,30 @@ module _ (t q k : ℕ) (gs : List Gate) (xs ys : List ℕ) (d : Dealing) (hq : q
       settle : (a v w : ℕ) → a ≡ v → v ≤ 1 → w ≤ 1 → (a + (v + w) % 2) % 2 ≡ w
       settle a v w e h k = omega arith
 
-  opens-u : (i : ℕ) → i < C → opened t (λ p. uOf (dealtOf gs second p) i) ≡ U′ i
+  opens-u : (i : ℕ) → i < C → opened t (λ p. uOf (triplesOf gs second p) i) ≡ U′ i
   unfolding U U′ u′
-  opens-u i h = opened-shift t q (dif (nthConditional gs i .a)) (λ p. uOf (dealt p) i)
-      (λ p. uOf (dealtOf gs second p) i) hq (λ (p : ℕ) l e. ap (λ (z : List ℕ). uOf z i) (other-dealt p l e))
+  opens-u i h = opened-shift t q (dif (nthConditional gs i .a)) (λ p. uOf (triples p) i)
+      (λ p. uOf (triplesOf gs second p) i) hq (λ (p : ℕ) l e. ap (λ (z : List ℕ). uOf z i) (other-triples p l e))
       (u-left i h)
 
-  opens-v : (i : ℕ) → i < C → opened t (λ p. vOf (dealtOf gs second p) i) ≡ W′ i
+  opens-v : (i : ℕ) → i < C → opened t (λ p. vOf (triplesOf gs second p) i) ≡ W′ i
   unfolding W W′ v′
-  opens-v i h = opened-shift t q (difSecond (nthConditional gs i)) (λ p. vOf (dealt p) i)
-      (λ p. vOf (dealtOf gs second p) i) hq (λ (p : ℕ) l e. ap (λ (z : List ℕ). vOf z i) (other-dealt p l e))
+  opens-v i h = opened-shift t q (difSecond (nthConditional gs i)) (λ p. vOf (triples p) i)
+      (λ p. vOf (triplesOf gs second p) i) hq (λ (p : ℕ) l e. ap (λ (z : List ℕ). vOf z i) (other-triples p l e))
       (v-left i h)
 
-  first-triple : (i : ℕ) → i < C → Triple t dealt i
-  unfolding dealt C
+  first-triple : (i : ℕ) → i < C → Triple t triples i
+  unfolding triples C
   first-triple i h = good .products i h
 
-  second-triple : (i : ℕ) → i < C → Triple t (dealtOf gs second) i
+  second-triple : (i : ℕ) → i < C → Triple t (triplesOf gs second) i
   unfolding U W U′ W′ w′
   second-triple i h =
       let r : U′ i * W′ i ≤ 1 = bit-times (U′ i) (W′ i) (omega arith) (omega arith) in
-      opened-shift t q (U i * W i + U′ i * W′ i) (λ p. productOf (dealt p) i)
-      (λ p. productOf (dealtOf gs second p) i) hq
-      (λ (p : ℕ) l e. ap (λ (z : List ℕ). productOf z i) (other-dealt p l e)) (w-left i h)
-      ∙ settle (opened t (λ p. productOf (dealt p) i)) (U i * W i) (U′ i * W′ i) (first-triple i h) r
+      opened-shift t q (U i * W i + U′ i * W′ i) (λ p. productOf (triples p) i)
+      (λ p. productOf (triplesOf gs second p) i) hq
+      (λ (p : ℕ) l e. ap (λ (z : List ℕ). productOf z i) (other-triples p l e)) (w-left i h)
+      ∙ settle (opened t (λ p. productOf (triples p) i)) (U i * W i) (U′ i * W′ i) (first-triple i h) r
       ∙ sym (rw (opens-u i h, opens-v i h))
     where
       settle : (a m r : ℕ) → a ≡ m → r ≤ 1 → (a + (m + r)) % 2 ≡ r
@@ -324,28 +324,28 @@ module _ (t q k : ℕ) (gs : List Gate) (xs ys : List ℕ) (d : Dealing) (hq : q
   unfolding bal ballotsOf
   bal-bits p = bits-piece n (d .ballotParts) p (good .ballot-bits)
 
-  dealt-bits : (p : ℕ) → Bits (dealt p)
-  unfolding dealt dealtOf
-  dealt-bits p = bits-piece (3 * conditionalCount gs) (d .dealerParts) p (good .dealer-bits)
+  triples-bits : (p : ℕ) → Bits (triples p)
+  unfolding triples triplesOf
+  triples-bits p = bits-piece (3 * conditionalCount gs) (d .dealerParts) p (good .dealer-bits)
 
   second-good : GoodDealing t gs ys second
-  unfolding second bal′ dealt′ newBallots newDealt u′ v′ w′ n C
+  unfolding second bal′ triples′ newBallots newTriples u′ v′ w′ n C
   second-good =
       record {
         ballot-size = rw (sym same-length) (length-joined n bal′ t bal-size′);
-        dealer-size = length-joined (3 * C) dealt′ t dealt-size′;
+        dealer-size = length-joined (3 * C) triples′ t triples-size′;
         ballot-bits = bits-joined t bal′
             (λ (p : ℕ) h. swapped-all Bits q newBallots bal p
             (bits-made n (λ x. (part (bal q) x + dif x) % 2) (λ x. omega arith)) (bal-bits p));
-        dealer-bits = bits-joined t dealt′
-            (λ (p : ℕ) h. swapped-all Bits q newDealt dealt p
-            (bits-triples C u′ v′ w′ (λ i. omega arith) (λ i. omega arith) (λ i. omega arith)) (dealt-bits p));
+        dealer-bits = bits-joined t triples′
+            (λ (p : ℕ) h. swapped-all Bits q newTriples triples p
+            (bits-triples C u′ v′ w′ (λ i. omega arith) (λ i. omega arith) (λ i. omega arith)) (triples-bits p));
         ballot-sums = λ (x : ℕ) h. rw (sym same-length) (opens-bal′ x (omega arith) ∙ starts′ x (omega arith));
         products = second-triple;
       }
 
   -- the two runs
-  start : Same t q hq vs ws bv bw dealt (dealtOf gs second) bal (ballotsOf n second) n
+  start : Same t q hq vs ws bv bw triples (triplesOf gs second) bal (ballotsOf n second) n
   unfolding diff dif
   start =
       record {
@@ -359,9 +359,9 @@ module _ (t q k : ℕ) (gs : List Gate) (xs ys : List ℕ) (d : Dealing) (hq : q
       part-bit : (l : List ℕ) → Bits l → (x : ℕ) → part l x ≤ 1
       part-bit l b x = unfold part in b x
 
-  dealt-at : (i : ℕ) → i < C → DealtAt t q hq vs ws bv bw dealt (dealtOf gs second) i (nthConditional gs i)
+  triples-at : (i : ℕ) → i < C → DealtAt t q hq vs ws bv bw triples (triplesOf gs second) i (nthConditional gs i)
   unfolding diff diffSecond dif difSecond u′ v′
-  dealt-at i h = record { u-is = u-left i h; v-is = v-left i h }
+  triples-at i h = record { u-is = u-left i h; v-is = v-left i h }
 
   held : Held
   held = wirePartsOf t n gs d
@@ -369,12 +369,12 @@ module _ (t q k : ℕ) (gs : List Gate) (xs ys : List ℕ) (d : Dealing) (hq : q
   held′ : Held
   held′ = wirePartsOf t n gs second
 
-  end : Same t q hq vs ws bv bw dealt (dealtOf gs second) held held′ (n + length gs)
-  unfolding held held′ wirePartsOf bal dealt C
+  end : Same t q hq vs ws bv bw triples (triplesOf gs second) held held′ (n + length gs)
+  unfolding held held′ wirePartsOf bal triples C
   end =
-      same-parts t q hq vs ws bv bw dealt (dealtOf gs second) other-dealt n 0 gs bal (ballotsOf n second) good-list holds holds′
+      same-parts t q hq vs ws bv bw triples (triplesOf gs second) other-triples n 0 gs bal (ballotsOf n second) good-list holds holds′
       (λ (j : ℕ) l h. (first-triple j (omega arith), second-triple j (omega arith)))
-      (λ (j : ℕ) h. let z : 0 + j ≡ j = omega arith in rw z (dealt-at j h)) start
+      (λ (j : ℕ) h. let z : 0 + j ≡ j = omega arith in rw z (triples-at j h)) start
 
   -- the last k wires do not differ
   same-closing : (i : ℕ) → i < k → vs (n + length gs - k + i) ≡ ws (n + length gs - k + i)
@@ -411,38 +411,38 @@ module _ (t q k : ℕ) (gs : List Gate) (xs ys : List ℕ) (d : Dealing) (hq : q
           (settle (getD (held q) x 0) (getD (held′ q) x 0) (vs x) (ws x) (end .left-out x (omega arith))
           (same-closing i h) (end .bits x (omega arith)))
 
-  agree : (j : ℕ) → j < C → AgreeAt (held′ q) (held q) (dealtOf gs second q) (dealt q) j (nthConditional gs j)
+  agree : (j : ℕ) → j < C → AgreeAt (held′ q) (held q) (triplesOf gs second q) (triples q) j (nthConditional gs j)
   unfolding C
   agree j h =
       let g = nth-good n gs j good-list h in (
-        first-same t q hq vs ws bv bw dealt (dealtOf gs second) other-dealt held held′ (n + length gs) j
-            (nthConditional gs j) (g .0) end (g .1) (dealt-at j h) q hq,
-        second-same t q hq vs ws bv bw dealt (dealtOf gs second) other-dealt held held′ (n + length gs) j
-            (nthConditional gs j) (g .0) end (g .1) (dealt-at j h) q hq,
+        first-same t q hq vs ws bv bw triples (triplesOf gs second) other-triples held held′ (n + length gs) j
+            (nthConditional gs j) (g .0) end (g .1) (triples-at j h) q hq,
+        second-same t q hq vs ws bv bw triples (triplesOf gs second) other-triples held held′ (n + length gs) j
+            (nthConditional gs j) (g .0) end (g .1) (triples-at j h) q hq,
       )
 
   published-same : (p : ℕ) → p < t → publishedOf t n gs k second p ≡ publishedOf t n gs k d p
-  unfolding publishedOf held held′ dealt
+  unfolding publishedOf held held′ triples
   published-same p h = go (eqb p q) refl
     where
       go : (b : Bool) → eqb p q ≡ b
-          → maskedFactors (held′ p) (dealtOf gs second p) 0 gs ++ closingParts k (held′ p)
-          ≡ maskedFactors (held p) (dealtOf gs d p) 0 gs ++ closingParts k (held p)
+          → maskedFactors (held′ p) (triplesOf gs second p) 0 gs ++ closingParts k (held′ p)
+          ≡ maskedFactors (held p) (triplesOf gs d p) 0 gs ++ closingParts k (held p)
       go true e =
           let s : p ≡ q = eqb-true p q e in
           rw s (rw (
-            masked-cong (held′ q) (held q) (dealtOf gs second q) (dealtOf gs d q) 0 gs
+            masked-cong (held′ q) (held q) (triplesOf gs second q) (triplesOf gs d q) 0 gs
                 (λ (j : ℕ) l. let z : 0 + j ≡ j = omega arith in rw z (unfold C in agree j l)),
             closing-same,
           ))
-      go false e = rw (end .others p h (eqb-false p q e), other-dealt p h (eqb-false p q e))
+      go false e = rw (end .others p h (eqb-false p q e), other-triples p h (eqb-false p q e))
 
   same-view : viewOf t q n gs k d ≡ viewOf t q n gs k second
-  unfolding viewOf held held′ bal dealt
+  unfolding viewOf held held′ bal triples
   same-view =
       rw (
         others-cong t q (ballotsOf n d) (ballotsOf n second) (λ (p : ℕ) h e. sym (other-bal p h e)),
-        others-cong t q (dealtOf gs d) (dealtOf gs second) (λ (p : ℕ) h e. sym (other-dealt p h e)),
+        others-cong t q (triplesOf gs d) (triplesOf gs second) (λ (p : ℕ) h e. sym (other-triples p h e)),
         others-cong t q (wirePartsOf t n gs d) (wirePartsOf t n gs second) (λ (p : ℕ) h e. sym (end .others p h e)),
         joined-cong t (publishedOf t n gs k d) (publishedOf t n gs k second) (λ (p : ℕ) h. sym (published-same p h)),
       )
@@ -453,9 +453,9 @@ module _ (t q k : ℕ) (gs : List Gate) (xs ys : List ℕ) (d : Dealing) (hq : q
     unfolding viewOf
     sees-bal p h o = sym (others-same t q (ballotsOf n second) (ballotsOf n e) (ap (λ (v : View). v .ballotParts) seen) p h o)
 
-    sees-dealt : (p : ℕ) → p < t → p ≢ q → dealtOf gs e p ≡ dealtOf gs second p
+    sees-triples : (p : ℕ) → p < t → p ≢ q → triplesOf gs e p ≡ triplesOf gs second p
     unfolding viewOf
-    sees-dealt p h o = sym (others-same t q (dealtOf gs second) (dealtOf gs e) (ap (λ (v : View). v .dealerParts) seen) p h o)
+    sees-triples p h o = sym (others-same t q (triplesOf gs second) (triplesOf gs e) (ap (λ (v : View). v .dealerParts) seen) p h o)
 
     sees-parts : (p : ℕ) → p < t → p ≢ q → wirePartsOf t n gs e p ≡ wirePartsOf t n gs second p
     unfolding viewOf
@@ -466,9 +466,9 @@ module _ (t q k : ℕ) (gs : List Gate) (xs ys : List ℕ) (d : Dealing) (hq : q
     unfolding ballotsOf n
     size-bal p h = length-piece t (length xs) (e .ballotParts) p (omega (arith, fine .ballot-size, ap (λ (m : ℕ). t * m) same-length)) h
 
-    size-dealt : (p : ℕ) → p < t → length (dealtOf gs e p) ≡ 3 * C
-    unfolding dealtOf C
-    size-dealt p h = length-piece t (3 * conditionalCount gs) (e .dealerParts) p (fine .dealer-size) h
+    size-triples : (p : ℕ) → p < t → length (triplesOf gs e p) ≡ 3 * C
+    unfolding triplesOf C
+    size-triples p h = length-piece t (3 * conditionalCount gs) (e .dealerParts) p (fine .dealer-size) h
 
     opens-e : (x : ℕ) → x < n → opened t (λ p. part (ballotsOf n e p) x) ≡ ws x
     unfolding n
@@ -478,7 +478,7 @@ module _ (t q k : ℕ) (gs : List Gate) (xs ys : List ℕ) (d : Dealing) (hq : q
     spells : Split t ws (wirePartsOf t n gs e) (n + length gs)
     unfolding wirePartsOf
     spells =
-        parts-split t (omega arith) (dealtOf gs e) ws bw n 0 gs (ballotsOf n e) good-list holds′
+        parts-split t (omega arith) (triplesOf gs e) ws bw n 0 gs (ballotsOf n e) good-list holds′
         (λ (j : ℕ) l h. fine .products j (omega arith))
         (record { sizes = size-bal; sums = opens-e })
 
@@ -524,8 +524,8 @@ module _ (t q k : ℕ) (gs : List Gate) (xs ys : List ℕ) (d : Dealing) (hq : q
         let parts = wirePartsOf t n gs f p in
         omega (
           arith,
-          length-append (maskedFactors parts (dealtOf gs f p) 0 gs) (drop (length parts - k) parts),
-          length-masked parts (dealtOf gs f p) 0 gs,
+          length-append (maskedFactors parts (triplesOf gs f p) 0 gs) (drop (length parts - k) parts),
+          length-masked parts (triplesOf gs f p) 0 gs,
           length-drop (length parts - k) parts,
           l p h,
         )
@@ -538,39 +538,39 @@ module _ (t q k : ℕ) (gs : List Gate) (xs ys : List ℕ) (d : Dealing) (hq : q
         (ap (λ (v : View). v .published) seen) q hq)
 
     masked-agree : (j : ℕ) → j < C
-        → AgreeAt (wirePartsOf t n gs e q) (held′ q) (dealtOf gs e q) (dealtOf gs second q) j (nthConditional gs j)
+        → AgreeAt (wirePartsOf t n gs e q) (held′ q) (triplesOf gs e q) (triplesOf gs second q) j (nthConditional gs j)
     unfolding publishedOf held′ C
     masked-agree j h =
         let parts = wirePartsOf t n gs e q in
         let parts′ = wirePartsOf t n gs second q in
-        let m = maskedFactors parts (dealtOf gs e q) 0 gs in
-        let m′ = maskedFactors parts′ (dealtOf gs second q) 0 gs in
-        let l = length-masked parts (dealtOf gs e q) 0 gs in
-        let l′ = length-masked parts′ (dealtOf gs second q) 0 gs in
+        let m = maskedFactors parts (triplesOf gs e q) 0 gs in
+        let m′ = maskedFactors parts′ (triplesOf gs second q) 0 gs in
+        let l = length-masked parts (triplesOf gs e q) 0 gs in
+        let l′ = length-masked parts′ (triplesOf gs second q) 0 gs in
         let s : m ≡ m′ = sym (take-at m (closingParts k parts) (2 * conditionalCount gs) l)
         ∙ ap (take (2 * conditionalCount gs)) publishes
         ∙ take-at m′ (closingParts k parts′) (2 * conditionalCount gs) l′ in
         let z : 0 + j ≡ j = omega arith in
-        subst (λ (i : ℕ). AgreeAt parts parts′ (dealtOf gs e q) (dealtOf gs second q) i (nthConditional gs j)) z
-        (masked-same parts parts′ (dealtOf gs e q) (dealtOf gs second q) 0 gs s j h)
+        subst (λ (i : ℕ). AgreeAt parts parts′ (triplesOf gs e q) (triplesOf gs second q) i (nthConditional gs j)) z
+        (masked-same parts parts′ (triplesOf gs e q) (triplesOf gs second q) 0 gs s j h)
 
     unmasked : (a b x y : ℕ) → (a + x) % 2 ≡ (b + y) % 2 → a % 2 ≡ b % 2 → x ≤ 1 → y ≤ 1 → x ≡ y
     unmasked a b x y e s h l = omega arith
 
-    dealer-bit : (i : ℕ) → (getD (dealtOf gs e q) i 0 ≤ 1) × (getD (dealtOf gs second q) i 0 ≤ 1)
-    unfolding dealtOf
+    dealer-bit : (i : ℕ) → (getD (triplesOf gs e q) i 0 ≤ 1) × (getD (triplesOf gs second q) i 0 ≤ 1)
+    unfolding triplesOf
     dealer-bit i = (
       bits-piece (3 * conditionalCount gs) (e .dealerParts) q (fine .dealer-bits) i,
       bits-piece (3 * conditionalCount gs) (second .dealerParts) q (second-good .dealer-bits) i,
     )
 
-    u-equal : (i : ℕ) → i < C → uOf (dealtOf gs e q) i ≡ uOf (dealtOf gs second q) i
+    u-equal : (i : ℕ) → i < C → uOf (triplesOf gs e q) i ≡ uOf (triplesOf gs second q) i
     unfolding uOf maskedFirst firstFactor C
     u-equal i h =
         let g = nth-good n gs i good-list h in
         let a = nthConditional gs i .a in
-        unmasked (part (wirePartsOf t n gs e q) a) (part (held′ q) a) (getD (dealtOf gs e q) (3 * i) 0)
-        (getD (dealtOf gs second q) (3 * i) 0)
+        unmasked (part (wirePartsOf t n gs e q) a) (part (held′ q) a) (getD (triplesOf gs e q) (3 * i) 0)
+        (getD (triplesOf gs second q) (3 * i) 0)
         (masked-agree i h .0) (parts-left a
         (g .0 .a-below (omega (arith, conditional-operands (nthConditional gs i .kind) (g .0 .known) (g .1)))))
         (dealer-bit (3 * i) .0) (dealer-bit (3 * i) .1)
@@ -595,44 +595,44 @@ module _ (t q k : ℕ) (gs : List Gate) (xs ys : List ℕ) (d : Dealing) (hq : q
             (parts-left (g .c) (good .c-below (choice-operands (g .kind) k)))
         go false k = b-left
 
-    v-equal : (i : ℕ) → i < C → vOf (dealtOf gs e q) i ≡ vOf (dealtOf gs second q) i
+    v-equal : (i : ℕ) → i < C → vOf (triplesOf gs e q) i ≡ vOf (triplesOf gs second q) i
     unfolding vOf maskedSecond C
     v-equal i h =
         let g = nth-good n gs i good-list h in
         unmasked (secondFactor (wirePartsOf t n gs e q) (nthConditional gs i))
-        (secondFactor (held′ q) (nthConditional gs i)) (getD (dealtOf gs e q) (3 * i + 1) 0)
-        (getD (dealtOf gs second q) (3 * i + 1) 0)
+        (secondFactor (held′ q) (nthConditional gs i)) (getD (triplesOf gs e q) (3 * i + 1) 0)
+        (getD (triplesOf gs second q) (3 * i + 1) 0)
         (masked-agree i h .1) (second-left (nthConditional gs i) (g .0) (g .1)) (dealer-bit (3 * i + 1) .0) (dealer-bit (3 * i + 1) .1)
 
     -- u and v are the same for all trustees, so the product is
-    everywhere : (f : List ℕ → ℕ) → f (dealtOf gs e q) ≡ f (dealtOf gs second q) → (p : ℕ) → p < t
-        → f (dealtOf gs e p) ≡ f (dealtOf gs second p)
+    everywhere : (f : List ℕ → ℕ) → f (triplesOf gs e q) ≡ f (triplesOf gs second q) → (p : ℕ) → p < t
+        → f (triplesOf gs e p) ≡ f (triplesOf gs second p)
     everywhere f s p h = go (eqb p q) refl
       where
-        go : (b : Bool) → eqb p q ≡ b → f (dealtOf gs e p) ≡ f (dealtOf gs second p)
+        go : (b : Bool) → eqb p q ≡ b → f (triplesOf gs e p) ≡ f (triplesOf gs second p)
         go true is = let k : p ≡ q = eqb-true p q is in rw k s
-        go false is = ap f (sees-dealt p h (eqb-false p q is))
+        go false is = ap f (sees-triples p h (eqb-false p q is))
 
-    w-equal : (i : ℕ) → i < C → productOf (dealtOf gs e q) i ≡ productOf (dealtOf gs second q) i
+    w-equal : (i : ℕ) → i < C → productOf (triplesOf gs e q) i ≡ productOf (triplesOf gs second q) i
     unfolding productOf C
     w-equal i h =
-        let su = opened-same t (λ p. uOf (dealtOf gs e p) i) (λ p. uOf (dealtOf gs second p) i) (everywhere (λ z. uOf z i) (u-equal i h)) in
-        let sv = opened-same t (λ p. vOf (dealtOf gs e p) i) (λ p. vOf (dealtOf gs second p) i) (everywhere (λ z. vOf z i) (v-equal i h)) in
-        bits-equal (getD (dealtOf gs e q) (3 * i + 2) 0) (getD (dealtOf gs second q) (3 * i + 2) 0)
+        let su = opened-same t (λ p. uOf (triplesOf gs e p) i) (λ p. uOf (triplesOf gs second p) i) (everywhere (λ z. uOf z i) (u-equal i h)) in
+        let sv = opened-same t (λ p. vOf (triplesOf gs e p) i) (λ p. vOf (triplesOf gs second p) i) (everywhere (λ z. vOf z i) (v-equal i h)) in
+        bits-equal (getD (triplesOf gs e q) (3 * i + 2) 0) (getD (triplesOf gs second q) (3 * i + 2) 0)
         (dealer-bit (3 * i + 2) .0) (dealer-bit (3 * i + 2) .1)
-        (opened-left t q (λ p. productOf (dealtOf gs second p) i) (λ p. productOf (dealtOf gs e p) i) hq
-        (λ (p : ℕ) l o. ap (λ (z : List ℕ). productOf z i) (sees-dealt p l o))
+        (opened-left t q (λ p. productOf (triplesOf gs second p) i) (λ p. productOf (triplesOf gs e p) i) hq
+        (λ (p : ℕ) l o. ap (λ (z : List ℕ). productOf z i) (sees-triples p l o))
         (fine .products i h ∙ rw (su, sv) (sym (second-triple i h))))
 
-    same-dealt : (p : ℕ) → p < t → dealtOf gs e p ≡ dealtOf gs second p
-    same-dealt p h = go (eqb p q) refl
+    same-triples : (p : ℕ) → p < t → triplesOf gs e p ≡ triplesOf gs second p
+    same-triples p h = go (eqb p q) refl
       where
-        go : (b : Bool) → eqb p q ≡ b → dealtOf gs e p ≡ dealtOf gs second p
+        go : (b : Bool) → eqb p q ≡ b → triplesOf gs e p ≡ triplesOf gs second p
         go true is =
             let s : p ≡ q = eqb-true p q is in
-            rw s (triples-same C (dealtOf gs e q) (dealtOf gs second q) (size-dealt q hq)
-            (ap length (is-dealt′ q hq) ∙ dealt-size′ q hq) (λ (i : ℕ) l. (u-equal i l, v-equal i l, w-equal i l)))
-        go false is = sees-dealt p h (eqb-false p q is)
+            rw s (triples-same C (triplesOf gs e q) (triplesOf gs second q) (size-triples q hq)
+            (ap length (is-triples′ q hq) ∙ triples-size′ q hq) (λ (i : ℕ) l. (u-equal i l, v-equal i l, w-equal i l)))
+        go false is = sees-triples p h (eqb-false p q is)
 
     same-dealing : e ≡ second
     same-dealing =
@@ -644,7 +644,7 @@ module _ (t q k : ℕ) (gs : List Gate) (xs ys : List ℕ) (d : Dealing) (hq : q
         let c : e .dealerParts ≡ second .dealerParts =
         sym (whole-table t (3 * conditionalCount gs) (e .dealerParts) (fine .dealer-size))
         ∙ joined-cong t (piece (3 * conditionalCount gs) (e .dealerParts))
-        (piece (3 * conditionalCount gs) (second .dealerParts)) (unfold dealtOf in same-dealt)
+        (piece (3 * conditionalCount gs) (second .dealerParts)) (unfold triplesOf in same-triples)
         ∙ whole-table t (3 * conditionalCount gs) (second .dealerParts) (second-good .dealer-size) in
         dealing-same e second b c
 

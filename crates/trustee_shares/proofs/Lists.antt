@@ -25,12 +25,12 @@ made-at (suc n) f zero h = refl
 made-at (suc n) f (suc i) h = made-at n (λ j. f (suc j)) i (omega arith)
 
 -- n triples
-unfoldable pub triples : ℕ → (ℕ → ℕ) → (ℕ → ℕ) → (ℕ → ℕ) → List ℕ
-triples zero u v w = []
-triples (suc n) u v w = u 0 ∷ v 0 ∷ w 0 ∷ triples n (λ i. u (suc i)) (λ i. v (suc i)) (λ i. w (suc i))
+unfoldable pub tripleList : ℕ → (ℕ → ℕ) → (ℕ → ℕ) → (ℕ → ℕ) → List ℕ
+tripleList zero u v w = []
+tripleList (suc n) u v w = u 0 ∷ v 0 ∷ w 0 ∷ tripleList n (λ i. u (suc i)) (λ i. v (suc i)) (λ i. w (suc i))
 
-pub length-triples : (n : ℕ) (u v w : ℕ → ℕ) → length (triples n u v w) ≡ 3 * n
-unfolding triples
+pub length-triples : (n : ℕ) (u v w : ℕ → ℕ) → length (tripleList n u v w) ≡ 3 * n
+unfolding tripleList
 length-triples zero u v w = refl
 length-triples (suc n) u v w = omega (arith, length-triples n (λ i. u (suc i)) (λ i. v (suc i)) (λ i. w (suc i)))
 
@@ -39,24 +39,24 @@ three-more : (i j : ℕ) → 3 * suc i + j ≡ suc (suc (suc (3 * i + j)))
 three-more i j = omega arith
 
 triples-at : (n : ℕ) (u v w : ℕ → ℕ) (i : ℕ) → i < n
-    → (getD (triples n u v w) (3 * i + 0) 0 ≡ u i) × (getD (triples n u v w) (3 * i + 1) 0 ≡ v i)
-    × (getD (triples n u v w) (3 * i + 2) 0 ≡ w i)
-unfolding triples
+    → (getD (tripleList n u v w) (3 * i + 0) 0 ≡ u i) × (getD (tripleList n u v w) (3 * i + 1) 0 ≡ v i)
+    × (getD (tripleList n u v w) (3 * i + 2) 0 ≡ w i)
+unfolding tripleList
 triples-at zero u v w i h = absurd (omega arith)
 triples-at (suc n) u v w zero h = (refl, refl, refl)
 triples-at (suc n) u v w (suc i) h =
     let r = triples-at n (λ i. u (suc i)) (λ i. v (suc i)) (λ i. w (suc i)) i (omega arith) in
     (rw (three-more i 0) (r .0), rw (three-more i 1) (r .1), rw (three-more i 2) (r .2))
 
-pub triple-u : (n : ℕ) (u v w : ℕ → ℕ) (i : ℕ) → i < n → uOf (triples n u v w) i ≡ u i
+pub triple-u : (n : ℕ) (u v w : ℕ → ℕ) (i : ℕ) → i < n → uOf (tripleList n u v w) i ≡ u i
 unfolding uOf
 triple-u n u v w i h = let e : 3 * i ≡ 3 * i + 0 = omega arith in rw e (triples-at n u v w i h .0)
 
-pub triple-v : (n : ℕ) (u v w : ℕ → ℕ) (i : ℕ) → i < n → vOf (triples n u v w) i ≡ v i
+pub triple-v : (n : ℕ) (u v w : ℕ → ℕ) (i : ℕ) → i < n → vOf (tripleList n u v w) i ≡ v i
 unfolding vOf
 triple-v n u v w i h = triples-at n u v w i h .1
 
-pub triple-w : (n : ℕ) (u v w : ℕ → ℕ) (i : ℕ) → i < n → productOf (triples n u v w) i ≡ w i
+pub triple-w : (n : ℕ) (u v w : ℕ → ℕ) (i : ℕ) → i < n → productOf (tripleList n u v w) i ≡ w i
 unfolding productOf
 triple-w n u v w i h = triples-at n u v w i h .2
 

@@ -45,14 +45,14 @@ spelled x y u v hx hy hu hv =
     x hx
 
 -- the sum of all trustees' bits of a product
-sum-products : (t : ℕ) (dealt : ℕ → List ℕ) (i e f : ℕ) → 1 ≤ t → e ≤ 1 → f ≤ 1
-    → opened t (λ p. productPart p (dealt p) i e f)
-    ≡ (sumOf t (λ p. productOf (dealt p) i) + e * sumOf t (λ p. vOf (dealt p) i) + f * sumOf t (λ p. uOf (dealt p) i) + e * f) % 2
+sum-products : (t : ℕ) (triples : ℕ → List ℕ) (i e f : ℕ) → 1 ≤ t → e ≤ 1 → f ≤ 1
+    → opened t (λ p. productPart p (triples p) i e f)
+    ≡ (sumOf t (λ p. productOf (triples p) i) + e * sumOf t (λ p. vOf (triples p) i) + f * sumOf t (λ p. uOf (triples p) i) + e * f) % 2
 unfolding opened productPart
-sum-products t dealt i e f ht he hf =
-    let w : ℕ → ℕ = λ p. productOf (dealt p) i in
-    let v : ℕ → ℕ = λ p. vOf (dealt p) i in
-    let u : ℕ → ℕ = λ p. uOf (dealt p) i in
+sum-products t triples i e f ht he hf =
+    let w : ℕ → ℕ = λ p. productOf (triples p) i in
+    let v : ℕ → ℕ = λ p. vOf (triples p) i in
+    let u : ℕ → ℕ = λ p. uOf (triples p) i in
     let l = sum-mod t (λ p. w p + e * v p + f * u p + entered p (e * f)) in
     let a = sum-add t (λ p. w p + e * v p + f * u p) (λ p. entered p (e * f)) in
     let b = sum-add t (λ p. w p + e * v p) (λ p. f * u p) in
@@ -64,20 +64,20 @@ sum-products t dealt i e f ht he hf =
 
 -- a triple: the third bit is the product of the other two
 abbrev pub Triple : ℕ → (ℕ → List ℕ) → ℕ → Type 0
-Triple t dealt i = opened t (λ p. productOf (dealt p) i) ≡ opened t (λ p. uOf (dealt p) i) * opened t (λ p. vOf (dealt p) i)
+Triple t triples i = opened t (λ p. productOf (triples p) i) ≡ opened t (λ p. uOf (triples p) i) * opened t (λ p. vOf (triples p) i)
 
 -- two factors, opened under their masks, give parts of their product
-pub product-opens : (t : ℕ) (dealt : ℕ → List ℕ) (i : ℕ) (x y : ℕ → ℕ) → 1 ≤ t → Triple t dealt i
-    → opened t (λ p. productPart p (dealt p) i (opened t (λ q. (x q + uOf (dealt q) i) % 2)) (opened t (λ q. (y q + vOf (dealt q) i) % 2)))
+pub product-opens : (t : ℕ) (triples : ℕ → List ℕ) (i : ℕ) (x y : ℕ → ℕ) → 1 ≤ t → Triple t triples i
+    → opened t (λ p. productPart p (triples p) i (opened t (λ q. (x q + uOf (triples q) i) % 2)) (opened t (λ q. (y q + vOf (triples q) i) % 2)))
     ≡ opened t x * opened t y
 unfolding opened
-product-opens t dealt i x y ht triple =
-    let u : ℕ → ℕ = λ p. uOf (dealt p) i in
-    let v : ℕ → ℕ = λ p. vOf (dealt p) i in
-    let w : ℕ → ℕ = λ p. productOf (dealt p) i in
+product-opens t triples i x y ht triple =
+    let u : ℕ → ℕ = λ p. uOf (triples p) i in
+    let v : ℕ → ℕ = λ p. vOf (triples p) i in
+    let w : ℕ → ℕ = λ p. productOf (triples p) i in
     let e = opened-two t x u in
     let f = opened-two t y v in
-    sum-products t dealt i (sumOf t (λ q. (x q + u q) % 2) % 2) (sumOf t (λ q. (y q + v q) % 2) % 2) ht (omega arith) (omega arith)
+    sum-products t triples i (sumOf t (λ q. (x q + u q) % 2) % 2) (sumOf t (λ q. (y q + v q) % 2) % 2) ht (omega arith) (omega arith)
     ∙ rw (e, f) (spelled (sumOf t x % 2) (sumOf t y % 2) (sumOf t u % 2) (sumOf t v % 2) (omega arith) (omega arith)
     (omega arith) (omega arith)
     (sumOf t x) (sumOf t y) (sumOf t u) (sumOf t v) (sumOf t w) refl refl refl refl triple)

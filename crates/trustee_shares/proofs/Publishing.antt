@@ -64,44 +64,44 @@ nth-good n (g ∷ gs) j good h =
     go true is (suc j) l rest = rw (nth-behind g gs j is) (rest j (omega (arith, count-mark g gs, mark-one g is)))
     go false is j l rest = rw (nth-passed g gs j is) (rest j (omega (arith, count-mark g gs, mark-none g is)))
 
-pub length-masked : (parts dealt : List ℕ) (i : ℕ) (gs : List Gate) → length (maskedFactors parts dealt i gs) ≡ 2 * conditionalCount gs
+pub length-masked : (parts triples : List ℕ) (i : ℕ) (gs : List Gate) → length (maskedFactors parts triples i gs) ≡ 2 * conditionalCount gs
 unfolding maskedFactors
-length-masked parts dealt i [] = omega (arith, count-nil)
-length-masked parts dealt i (g ∷ gs) =
-    go (conditionalOf (g .kind)) refl (length-masked parts dealt (i + 1) gs) (length-masked parts dealt i gs)
+length-masked parts triples i [] = omega (arith, count-nil)
+length-masked parts triples i (g ∷ gs) =
+    go (conditionalOf (g .kind)) refl (length-masked parts triples (i + 1) gs) (length-masked parts triples i gs)
   where
-    go : (b : Bool) → conditionalOf (g .kind) ≡ b → length (maskedFactors parts dealt (i + 1) gs) ≡ 2
-        * conditionalCount gs → length (maskedFactors parts dealt i gs) ≡ 2 * conditionalCount gs
-        → length (cond b (maskedFirst parts dealt i g ∷ maskedSecond parts dealt i g ∷ maskedFactors parts dealt
-        (i + 1) gs) (maskedFactors parts dealt i gs)) ≡ 2 * conditionalCount (g ∷ gs)
+    go : (b : Bool) → conditionalOf (g .kind) ≡ b → length (maskedFactors parts triples (i + 1) gs) ≡ 2
+        * conditionalCount gs → length (maskedFactors parts triples i gs) ≡ 2 * conditionalCount gs
+        → length (cond b (maskedFirst parts triples i g ∷ maskedSecond parts triples i g ∷ maskedFactors parts triples
+        (i + 1) gs) (maskedFactors parts triples i gs)) ≡ 2 * conditionalCount (g ∷ gs)
     go true is e f = omega (arith, count-mark g gs, mark-one g is)
     go false is e f = omega (arith, count-mark g gs, mark-none g is)
 
 -- equal bits for a conditional gate
 abbrev pub AgreeAt : List ℕ → List ℕ → List ℕ → List ℕ → ℕ → Gate → Type 0
-AgreeAt parts parts′ dealt dealt′ i g = (maskedFirst parts dealt i g ≡ maskedFirst parts′ dealt′ i g)
-    × (maskedSecond parts dealt i g ≡ maskedSecond parts′ dealt′ i g)
+AgreeAt parts parts′ triples triples′ i g = (maskedFirst parts triples i g ≡ maskedFirst parts′ triples′ i g)
+    × (maskedSecond parts triples i g ≡ maskedSecond parts′ triples′ i g)
 
-module _ (parts parts′ dealt dealt′ : List ℕ) where
+module _ (parts parts′ triples triples′ : List ℕ) where
   abbrev Agree : ℕ → Gate → Type 0
-  Agree i g = AgreeAt parts parts′ dealt dealt′ i g
+  Agree i g = AgreeAt parts parts′ triples triples′ i g
 
   pub masked-cong : (i : ℕ) (gs : List Gate)
-      → ((j : ℕ) → j < conditionalCount gs → AgreeAt parts parts′ dealt dealt′ (i + j) (nthConditional gs j))
-      → maskedFactors parts dealt i gs ≡ maskedFactors parts′ dealt′ i gs
+      → ((j : ℕ) → j < conditionalCount gs → AgreeAt parts parts′ triples triples′ (i + j) (nthConditional gs j))
+      → maskedFactors parts triples i gs ≡ maskedFactors parts′ triples′ i gs
   unfolding maskedFactors
   masked-cong i [] e = refl
   masked-cong i (g ∷ gs) e = go (conditionalOf (g .kind)) refl (λ f. masked-cong (i + 1) gs f) (λ f. masked-cong i gs f)
     where
       go : (b : Bool) → conditionalOf (g .kind) ≡ b
           → (((j : ℕ) → j < conditionalCount gs → Agree (i + 1 + j) (nthConditional gs j))
-          → maskedFactors parts dealt (i + 1) gs ≡ maskedFactors parts′ dealt′ (i + 1) gs)
+          → maskedFactors parts triples (i + 1) gs ≡ maskedFactors parts′ triples′ (i + 1) gs)
           → (((j : ℕ) → j < conditionalCount gs → Agree (i + j) (nthConditional gs j))
-          → maskedFactors parts dealt i gs ≡ maskedFactors parts′ dealt′ i gs)
-          → cond b (maskedFirst parts dealt i g ∷ maskedSecond parts dealt i g ∷ maskedFactors parts dealt (i + 1)
-          gs) (maskedFactors parts dealt i gs)
-          ≡ cond b (maskedFirst parts′ dealt′ i g ∷ maskedSecond parts′ dealt′ i g ∷ maskedFactors parts′ dealt′
-          (i + 1) gs) (maskedFactors parts′ dealt′ i gs)
+          → maskedFactors parts triples i gs ≡ maskedFactors parts′ triples′ i gs)
+          → cond b (maskedFirst parts triples i g ∷ maskedSecond parts triples i g ∷ maskedFactors parts triples (i + 1)
+          gs) (maskedFactors parts triples i gs)
+          ≡ cond b (maskedFirst parts′ triples′ i g ∷ maskedSecond parts′ triples′ i g ∷ maskedFactors parts′ triples′
+          (i + 1) gs) (maskedFactors parts′ triples′ i gs)
       go true is more none =
           let c = count-mark g gs in
           let o = mark-one g is in
@@ -115,21 +115,21 @@ module _ (parts parts′ dealt dealt′ : List ℕ) where
       go false is more none = none (λ (j : ℕ) l. subst (λ (h : Gate). Agree (i + j) h) (nth-passed g gs j is)
           (e j (omega (arith, count-mark g gs, mark-none g is))))
 
-  pub masked-same : (i : ℕ) (gs : List Gate) → maskedFactors parts dealt i gs ≡ maskedFactors parts′ dealt′ i gs
-      → (j : ℕ) → j < conditionalCount gs → AgreeAt parts parts′ dealt dealt′ (i + j) (nthConditional gs j)
+  pub masked-same : (i : ℕ) (gs : List Gate) → maskedFactors parts triples i gs ≡ maskedFactors parts′ triples′ i gs
+      → (j : ℕ) → j < conditionalCount gs → AgreeAt parts parts′ triples triples′ (i + j) (nthConditional gs j)
   unfolding maskedFactors
   masked-same i [] e j h = absurd (omega (arith, count-nil))
   masked-same i (g ∷ gs) e j h = go (conditionalOf (g .kind)) refl e j h (λ f. masked-same (i + 1) gs f) (λ f. masked-same i gs f)
     where
       go : (b : Bool) → conditionalOf (g .kind) ≡ b
-          → cond b (maskedFirst parts dealt i g ∷ maskedSecond parts dealt i g ∷ maskedFactors parts dealt (i + 1)
-          gs) (maskedFactors parts dealt i gs)
-          ≡ cond b (maskedFirst parts′ dealt′ i g ∷ maskedSecond parts′ dealt′ i g ∷ maskedFactors parts′ dealt′
-          (i + 1) gs) (maskedFactors parts′ dealt′ i gs)
+          → cond b (maskedFirst parts triples i g ∷ maskedSecond parts triples i g ∷ maskedFactors parts triples (i + 1)
+          gs) (maskedFactors parts triples i gs)
+          ≡ cond b (maskedFirst parts′ triples′ i g ∷ maskedSecond parts′ triples′ i g ∷ maskedFactors parts′ triples′
+          (i + 1) gs) (maskedFactors parts′ triples′ i gs)
           → (j : ℕ) → j < conditionalCount (g ∷ gs)
-          → (maskedFactors parts dealt (i + 1) gs ≡ maskedFactors parts′ dealt′ (i + 1) gs → (j : ℕ) → j
+          → (maskedFactors parts triples (i + 1) gs ≡ maskedFactors parts′ triples′ (i + 1) gs → (j : ℕ) → j
           < conditionalCount gs → Agree (i + 1 + j) (nthConditional gs j))
-          → (maskedFactors parts dealt i gs ≡ maskedFactors parts′ dealt′ i gs → (j : ℕ) → j < conditionalCount gs
+          → (maskedFactors parts triples i gs ≡ maskedFactors parts′ triples′ i gs → (j : ℕ) → j < conditionalCount gs
           → Agree (i + j) (nthConditional gs j))
           → Agree (i + j) (nthConditional (g ∷ gs) j)
       go true is e zero l more none = rw (nth-first g gs is, add-zero i) (cc, cc)

@@ -22,13 +22,13 @@ part parts x = getD parts x 0
 -- A trustee's bits of the i-th triple: of u, of v and of their product. (u, v, u·v) is a Beaver triple. A trustee's
 -- dealer parts are in this order, gate after gate.
 unfoldable pub uOf : List ℕ → ℕ → ℕ
-uOf dealt i = getD dealt (3 * i) 0
+uOf triples i = getD triples (3 * i) 0
 
 unfoldable pub vOf : List ℕ → ℕ → ℕ
-vOf dealt i = getD dealt (3 * i + 1) 0
+vOf triples i = getD triples (3 * i + 1) 0
 
 unfoldable pub productOf : List ℕ → ℕ → ℕ
-productOf dealt i = getD dealt (3 * i + 2) 0
+productOf triples i = getD triples (3 * i + 2) 0
 
 -- The factors of a conditional gate: a; and b, or for a choice b plus c modulo 2. A trustee computes its bits of them
 -- from its own parts of the wires.
@@ -40,10 +40,10 @@ secondFactor ws g = cond (eqb (g .kind) 7) ((part ws (g .b) + part ws (g .c)) % 
 
 -- What a trustee publishes for the i-th conditional gate: its bits of both factors, masked by its bits of u and v.
 unfoldable pub maskedFirst : List ℕ → List ℕ → ℕ → Gate → ℕ
-maskedFirst ws dealt i g = (firstFactor ws g + uOf dealt i) % 2
+maskedFirst ws triples i g = (firstFactor ws g + uOf triples i) % 2
 
 unfoldable pub maskedSecond : List ℕ → List ℕ → ℕ → Gate → ℕ
-maskedSecond ws dealt i g = (secondFactor ws g + vOf dealt i) % 2
+maskedSecond ws triples i g = (secondFactor ws g + vOf triples i) % 2
 
 -- A public bit x is entered by the first trustee only; the others enter 0.
 unfoldable pub entered : ℕ → ℕ → ℕ
@@ -52,7 +52,7 @@ entered (suc p) x = 0
 
 -- Trustee p's bit of the product of both factors; e and f are the opened sums.
 unfoldable pub productPart : ℕ → List ℕ → ℕ → ℕ → ℕ → ℕ
-productPart p dealt i e f = (productOf dealt i + e * vOf dealt i + f * uOf dealt i + entered p (e * f)) % 2
+productPart p triples i e f = (productOf triples i + e * vOf triples i + f * uOf triples i + entered p (e * f)) % 2
 
 -- Trustee p's bit of a gate's wire, by the gate's kind: from its parts a, b, c of the operands and its bit z of the
 -- product.
@@ -65,16 +65,16 @@ abbrev pub Held : Type 0
 Held = ℕ → List ℕ
 
 unfoldable pub openedFirst : ℕ → Held → Held → ℕ → Gate → ℕ
-openedFirst t dealt held i g = opened t (λ p. maskedFirst (held p) (dealt p) i g)
+openedFirst t triples held i g = opened t (λ p. maskedFirst (held p) (triples p) i g)
 
 unfoldable pub openedSecond : ℕ → Held → Held → ℕ → Gate → ℕ
-openedSecond t dealt held i g = opened t (λ p. maskedSecond (held p) (dealt p) i g)
+openedSecond t triples held i g = opened t (λ p. maskedSecond (held p) (triples p) i g)
 
 -- Trustee p's part of the wire of gate g, which i conditional gates precede.
 unfoldable pub newPart : ℕ → Held → Held → ℕ → Gate → ℕ → ℕ
-newPart t dealt held i g p =
+newPart t triples held i g p =
     partOfKind p (g .kind) (part (held p) (g .a)) (part (held p) (g .b)) (part (held p) (g .c))
-    (productPart p (dealt p) i (openedFirst t dealt held i g) (openedSecond t dealt held i g))
+    (productPart p (triples p) i (openedFirst t triples held i g) (openedSecond t triples held i g))
 
 -- 1 for a conditional gate, else 0.
 unfoldable pub markOf : Gate → ℕ
@@ -82,5 +82,6 @@ markOf g = cond (conditionalOf (g .kind)) 1 0
 
 -- Each gate adds one part to what each trustee holds; i conditional gates came before.
 unfoldable pub partsOf : ℕ → Held → Held → ℕ → List Gate → Held
-partsOf t dealt held i [] = held
-partsOf t dealt held i (g ∷ gs) = partsOf t dealt (λ p. held p ++ (newPart t dealt held i g p ∷ [])) (i + markOf g) gs
+partsOf t triples held i [] = held
+partsOf t triples held i (g ∷ gs) =
+    partsOf t triples (λ p. held p ++ (newPart t triples held i g p ∷ [])) (i + markOf g) gs

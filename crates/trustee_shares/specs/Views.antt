@@ -30,8 +30,8 @@ pub record Dealing : Type 0 where
 unfoldable pub ballotsOf : ℕ → Dealing → Held
 ballotsOf inputs d = piece inputs (d .ballotParts)
 
-unfoldable pub dealtOf : List Gate → Dealing → Held
-dealtOf gs d = piece (3 * conditionalCount gs) (d .dealerParts)
+unfoldable pub triplesOf : List Gate → Dealing → Held
+triplesOf gs d = piece (3 * conditionalCount gs) (d .dealerParts)
 
 -- A good dealing of these inputs for a list and t trustees: the tables have their lengths, all parts are bits, ballot
 -- parts add up to the inputs, and the parts of each triple's product to the product of its u and v.
@@ -43,25 +43,25 @@ pub record GoodDealing (t : ℕ) (gs : List Gate) (inputs : List ℕ) (d : Deali
   pub ballot-sums : (x : ℕ) → x < length inputs → opened t (λ p. part (ballotsOf (length inputs) d p) x)
       ≡ getD inputs x 0
   pub products : (i : ℕ) → i < conditionalCount gs
-      → opened t (λ p. productOf (dealtOf gs d p) i)
-      ≡ opened t (λ p. uOf (dealtOf gs d p) i) * opened t (λ p. vOf (dealtOf gs d p) i)
+      → opened t (λ p. productOf (triplesOf gs d p) i)
+      ≡ opened t (λ p. uOf (triplesOf gs d p) i) * opened t (λ p. vOf (triplesOf gs d p) i)
 
 -- All wire parts of a run, and what each trustee publishes: both masked factors of each conditional gate, of which i
 -- came before; then its parts of the last k wires. A part never changes, so it may be read from all wire parts.
 unfoldable pub wirePartsOf : ℕ → ℕ → List Gate → Dealing → Held
-wirePartsOf t inputs gs d = partsOf t (dealtOf gs d) (ballotsOf inputs d) 0 gs
+wirePartsOf t inputs gs d = partsOf t (triplesOf gs d) (ballotsOf inputs d) 0 gs
 
 unfoldable pub maskedFactors : List ℕ → List ℕ → ℕ → List Gate → List ℕ
-maskedFactors parts dealt i [] = []
-maskedFactors parts dealt i (g ∷ gs) =
-    cond (conditionalOf (g .kind)) (maskedFirst parts dealt i g ∷ maskedSecond parts dealt i g
-    ∷ maskedFactors parts dealt (i + 1) gs) (maskedFactors parts dealt i gs)
+maskedFactors parts triples i [] = []
+maskedFactors parts triples i (g ∷ gs) =
+    cond (conditionalOf (g .kind)) (maskedFirst parts triples i g ∷ maskedSecond parts triples i g
+    ∷ maskedFactors parts triples (i + 1) gs) (maskedFactors parts triples i gs)
 
 unfoldable pub closingParts : ℕ → List ℕ → List ℕ
 closingParts k parts = drop (length parts - k) parts
 
 unfoldable pub publishedOf : ℕ → ℕ → List Gate → ℕ → Dealing → Held
-publishedOf t inputs gs k d p = maskedFactors (wirePartsOf t inputs gs d p) (dealtOf gs d p) 0 gs
+publishedOf t inputs gs k d p = maskedFactors (wirePartsOf t inputs gs d p) (triplesOf gs d p) 0 gs
     ++ closingParts k (wirePartsOf t inputs gs d p)
 
 -- The pieces of all trustees except q.
@@ -81,7 +81,7 @@ unfoldable pub viewOf : ℕ → ℕ → ℕ → List Gate → ℕ → Dealing �
 viewOf t q inputs gs k d =
     record {
       ballotParts = othersOf t q (ballotsOf inputs d);
-      dealerParts = othersOf t q (dealtOf gs d);
+      dealerParts = othersOf t q (triplesOf gs d);
       wireParts = othersOf t q (wirePartsOf t inputs gs d);
       published = joined t (publishedOf t inputs gs k d);
     }

@@ -27,13 +27,13 @@ use Rattle.tally.proofs.PlainFacts.{plain-accepted, plain-says}
 use Rattle.tally.proofs.OwnList.{own-list-holds}
 use Rattle.tally.proofs.Writing as writing
 use Rattle.trustee_shares.specs.Shares.{opened, part}
-use Rattle.trustee_shares.specs.Views.{Dealing, GoodDealing, ballotsOf, dealtOf, wirePartsOf, closingParts}
+use Rattle.trustee_shares.specs.Views.{Dealing, GoodDealing, ballotsOf, triplesOf, wirePartsOf, closingParts}
 use Rattle.trustee_shares.proofs.Accuracy.{Split, opened-same, parts-split}
 use Rattle.trustee_shares.proofs.Tables.{length-piece}
 use Rattle.trustees.specs.Call.{Call, wirePartsIn}
 use Rattle.trustees.specs.Reasons.{trusteesReasons}
 use Rattle.trustees.specs.Result.{closingSums, TrusteesResult, trusteesResultAfter, trusteesResult}
-use Rattle.trustees.specs.Demands.{inOneCall, Accuracy, OwnList}
+use Rattle.trustees.specs.Demands.{inOneCall, WayAccuracy, OwnList}
 use Rattle.trustees.proofs.Reasons.{CallPassed, call-passed, call-passed-back, result-by, passed-dealing}
 use Rattle.trustees.proofs.Sums.{Ready, call-ready}
 
@@ -42,7 +42,7 @@ wires-split : (t : ℕ) (gs : List Gate) (xs : List ℕ) (d : Dealing) → 1 ≤
     → Split t (wire (wiresOf xs gs)) (wirePartsOf t (length xs) gs d) (length xs + length gs)
 unfolding wirePartsOf ballotsOf
 wires-split t gs xs d least good bits g =
-    parts-split t least (dealtOf gs d) (wire (wiresOf xs gs))
+    parts-split t least (triplesOf gs d) (wire (wiresOf xs gs))
     (wire-bit (wiresOf xs gs) (wires-bits xs gs good bits)) (length xs) 0 gs (ballotsOf (length xs) d) good
     (wires-hold xs gs good)
     (λ (j : ℕ) l h. g .products j (omega arith))
@@ -122,7 +122,7 @@ module _ (c : Call) where
         after : trusteesResultAfter none c .closing ≡ closingSums (c .trustees) (c .shape .candidates) (wirePartsIn c)
         after = unfold trusteesResultAfter in refl
 
-  pub accuracy : (size : Size) → trusteesResult c .answer ≡ accepted size → Accuracy inOneCall c size
+  pub accuracy : (size : Size) → trusteesResult c .answer ≡ accepted size → WayAccuracy inOneCall c size
   accuracy size e =
       let a = call-accepted size e in
       let p = call-passed c (a .0) in

@@ -22,7 +22,7 @@ use Rattle.trustee_shares.proofs.Tables.{length-joined}
 use Rattle.trustees.specs.Call.{PartTables, Call, publishedIn}
 use Rattle.trustees.specs.Reasons.{partReasons, trusteesReasons}
 use Rattle.trustees.specs.Result.{TrusteesResult, trusteesResultAfter, trusteesResult}
-use Rattle.trustees.specs.Demands.{Memory, Demands}
+use Rattle.trustees.specs.Demands.{TrusteesMemory, TrusteesHold}
 use Rattle.trustees.proofs.Reasons.{call-passed, result-by}
 use Rattle.trustees.proofs.Sums.{call-ready, published-long}
 use Rattle.trustees.proofs.Accuracy.{call-accepted, accuracy, own-list}
@@ -116,7 +116,7 @@ module _ (c : Call) where
             ∙ sym (r .published-length),
       )
 
-memory : (c : Call) → Memory c
+memory : (c : Call) → TrusteesMemory c
 unfolding Each
 memory c =
     let long = lengths c (firstOf (trusteesReasons c)) refl in
@@ -130,8 +130,8 @@ memory c =
       zeros = λ r e. refusal c r e .2;
     }
 
-pub demands : Demands
-demands =
+pub trustees-hold : TrusteesHold
+trustees-hold =
     record {
       memory = memory;
       tallies = record {

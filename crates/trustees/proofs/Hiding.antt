@@ -16,7 +16,7 @@ use Rattle.trustee_shares.specs.Views.{Dealing, GoodDealing, viewOf}
 use Rattle.trustee_shares.proofs.Hiding.{views-hide-inputs}
 use Rattle.trustees.specs.Call.{PartTables, Call, dealtAs, viewIn}
 use Rattle.trustees.specs.Result.{TrusteesResult, trusteesResultAfter, trusteesResult}
-use Rattle.trustees.specs.Demands.{Accepted, inOneCall, Hidden, ViewsTellNoMore}
+use Rattle.trustees.specs.Demands.{Accepted, inOneCall, ViewsHide, ViewsTellNoMore}
 use Rattle.trustees.proofs.Reasons.{CallPassed, call-passed, call-passed-back, result-by, passed-dealing, other-dealing}
 use Rattle.trustees.proofs.Sums.{Ready, call-ready}
 use Rattle.trustees.proofs.Accuracy.{call-accepted, outputs-long, closing-is}
@@ -71,7 +71,7 @@ module _ (c : Call) (ballots : List ℕ) (lent : PartTables) (first second : Siz
       eight-same k (outputsOf k (wiresOf (c .ballots) gs)) (outputsOf k (wiresOf ballots gs)) (ready-list c p₀ .k-most)
       (outputs-long c p₀) (outputs-long other q₀) (sym (closing-is c p₀) ∙ closing ∙ closing-is other q₀)
 
-  hidden : Hidden inOneCall c other
+  hidden : ViewsHide inOneCall c other
   hidden =
       let gs = gatesOf (c .table) in
       let r = ready-list c p₀ in
@@ -91,6 +91,6 @@ module _ (c : Call) (ballots : List ℕ) (lent : PartTables) (first second : Siz
 pub views-tell-no-more : ViewsTellNoMore inOneCall
 views-tell-no-more c c′ first second shape table trustees a b closing =
     let same : alike c (c′ .ballots) (c′ .lent) ≡ c′ = rw (shape, table, trustees) refl in
-    subst (λ (e : Call). Hidden inOneCall c e) same
+    subst (λ (e : Call). ViewsHide inOneCall c e) same
     (hidden c (c′ .ballots) (c′ .lent) first second a
     (ap (λ (e : Call). trusteesResult e .answer) same ∙ b) (closing ∙ sym (ap (λ (e : Call). trusteesResult e .closing) same)))

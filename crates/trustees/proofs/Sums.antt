@@ -21,11 +21,11 @@ use Rattle.jury.proofs.Rows.{eight-at, eight-length}
 use Rattle.basics.proofs.Tabulate.{length-tabulate, getD-tabulate, tabulate-cong, upTo, upTo-new, upTo-old}
 use Rattle.tally.specs.Answer.{Size, sizeOf}
 use Rattle.trustee_shares.specs.Shares.{opened, part, Held}
-use Rattle.trustee_shares.specs.Views.{piece, joined, ballotsOf, dealtOf, wirePartsOf, maskedFactors, closingParts, publishedOf}
+use Rattle.trustee_shares.specs.Views.{piece, joined, ballotsOf, triplesOf, wirePartsOf, maskedFactors, closingParts, publishedOf}
 use Rattle.trustee_shares.proofs.Accuracy.{opened-same}
 use Rattle.trustee_shares.proofs.Tables.{length-piece, piece-joined}
 use Rattle.trustee_shares.proofs.Publishing.{length-masked}
-use Rattle.trustee_gates.specs.Evaluate.{EvaluateReady}
+use Rattle.trustee_gates.specs.inner.Evaluate.{EvaluateReady}
 use Rattle.trustee_gates.proofs.Running.{length-parts}
 use Rattle.trustees.specs.Call.{Call, wirePartsIn, publishedIn}
 use Rattle.trustees.specs.Result.{closingSums}
@@ -76,7 +76,7 @@ module _ (c : Call) where
           enough = f .enough;
           conditional-is = refl;
           ballot-length = l .ballot-length;
-          dealt-length = l .dealer-length;
+          triples-length = l .dealer-length;
           wires-length = l .wires-length;
           published-length = l .published-length;
         };
@@ -93,7 +93,7 @@ module _ (c : Call) where
     parts-long : (p : ℕ) → p < c .trustees → length (parts p) ≡ length (c .ballots) + length (gatesOf (c .table))
     unfolding parts wirePartsOf ballotsOf
     parts-long p h =
-        length-parts (c .trustees) (dealtOf (gatesOf (c .table)) (c .lent .dealing)) (gatesOf (c .table))
+        length-parts (c .trustees) (triplesOf (gatesOf (c .table)) (c .lent .dealing)) (gatesOf (c .table))
         (piece (length (c .ballots)) (c .lent .dealing .ballotParts)) 0 (length (c .ballots)) p
         (length-piece (c .trustees) (length (c .ballots)) (c .lent .dealing .ballotParts) p
         (r .evaluate .ballot-length) h)
@@ -103,11 +103,11 @@ module _ (c : Call) where
     closing-long p h = omega (arith, length-drop (length (parts p) - c .shape .candidates) (parts p), parts-long p h, r .evaluate .enough)
 
     factors-long : (p : ℕ) → length
-        (maskedFactors (parts p) (dealtOf (gatesOf (c .table)) (c .lent .dealing) p) 0 (gatesOf (c .table))) ≡ 2
+        (maskedFactors (parts p) (triplesOf (gatesOf (c .table)) (c .lent .dealing) p) 0 (gatesOf (c .table))) ≡ 2
         * size .conditional
     factors-long p = omega (
       arith,
-      length-masked (parts p) (dealtOf (gatesOf (c .table)) (c .lent .dealing) p) 0 (gatesOf (c .table)),
+      length-masked (parts p) (triplesOf (gatesOf (c .table)) (c .lent .dealing) p) 0 (gatesOf (c .table)),
       r .evaluate .conditional-is,
     )
 
@@ -116,7 +116,7 @@ module _ (c : Call) where
     published-long p h =
         omega (
           arith,
-          length-append (maskedFactors (parts p) (dealtOf (gatesOf (c .table)) (c .lent .dealing) p) 0
+          length-append (maskedFactors (parts p) (triplesOf (gatesOf (c .table)) (c .lent .dealing) p) 0
               (gatesOf (c .table))) (closingParts (c .shape .candidates) (parts p)),
           factors-long p,
           closing-long p h,
@@ -141,7 +141,7 @@ module _ (c : Call) where
         behind : (p j : ℕ) → part (publishedIn c p) (2 * size .conditional + j) ≡ part (closingParts (c .shape .candidates) (parts p)) j
         behind p j =
             unfold publishedOf part parts in
-            (ap (λ (n : ℕ). getD (maskedFactors (parts p) (dealtOf (gatesOf (c .table)) (c .lent .dealing) p) 0
+            (ap (λ (n : ℕ). getD (maskedFactors (parts p) (triplesOf (gatesOf (c .table)) (c .lent .dealing) p) 0
             (gatesOf (c .table)) ++ closingParts (c .shape .candidates) (parts p)) (n + j) 0) (sym (factors-long p))
-            ∙ getD-append-add (maskedFactors (parts p) (dealtOf (gatesOf (c .table)) (c .lent .dealing) p) 0
+            ∙ getD-append-add (maskedFactors (parts p) (triplesOf (gatesOf (c .table)) (c .lent .dealing) p) 0
             (gatesOf (c .table))) (closingParts (c .shape .candidates) (parts p)) j 0)

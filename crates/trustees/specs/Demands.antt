@@ -27,7 +27,7 @@ abbrev pub Accepted : Call → Type 0
 Accepted c = trusteesResult c .answer ≡ accepted (sizeOf (gatesOf (c .table)))
 
 -- Demand 1. The call may write to two tables, and empties the wire parts. A refusal answers zeros for the sums.
-pub record Memory (c : Call) : Type 0 where
+pub record TrusteesMemory (c : Call) : Type 0 where
   pub keeps : let parts : Lent = record { before = c .lent .wireParts; after = trusteesResult c .wireParts } in
       let bits : Lent = record { before = c .lent .published; after = trusteesResult c .published } in
       KeepsMemory (1 ∷ 2 ∷ 3 ∷ 4 ∷ 5 ∷ 6 ∷ 11 ∷ 12 ∷ 16 ∷ 17 ∷ 18 ∷ []) (trusteesResult c .answer) (parts ∷ bits ∷ [])
@@ -55,7 +55,7 @@ inOneCall =
 
 -- Demand 2 for an accepted call: the parts of every wire add up to the plain wire, and the closing bytes are those of
 -- every accepted plain run, whatever its tape.
-pub record Accuracy (way : Way) (c : Call) (size : Size) : Type 0 where
+pub record WayAccuracy (way : Way) (c : Call) (size : Size) : Type 0 where
   pub own-size : size ≡ sizeOf (gatesOf (c .table))
   pub every-wire : (x : ℕ) → x < length (c .ballots) + length (gatesOf (c .table))
       → opened (c .trustees) (λ p. part (way .parts c p) x) ≡ wire (wiresOf (c .ballots) (gatesOf (c .table))) x
@@ -74,7 +74,7 @@ pub record OwnList (way : Way) (c : Call) : Type 0 where
 -- Demand 3 for two calls with one shape, list and number of trustees. Whichever trustee q is left out: for each
 -- accepted dealing d of the first, exactly one accepted dealing e of the second gives the other trustees the same
 -- view. Its published bits are the table that is published.
-pub record Hidden (way : Way) (c c′ : Call) : Type 0 where
+pub record ViewsHide (way : Way) (c c′ : Call) : Type 0 where
   pub same-view : (q : ℕ) → q < c .trustees → (d : Dealing) → Accepted (dealtAs c d)
       → ExactlyOne (λ (e : Dealing). Accepted (dealtAs c′ e) × (way .view q (dealtAs c d) ≡ way .view q (dealtAs c′ e)))
   pub sees-the-table : (q : ℕ) (d : Dealing) → Accepted (dealtAs c d)
@@ -88,16 +88,16 @@ ViewsTellNoMore way =
     → trusteesResult c .answer ≡ accepted first
     → trusteesResult c′ .answer ≡ accepted second
     → way .closing c ≡ way .closing c′
-    → Hidden way c c′
+    → ViewsHide way c c′
 
 -- Demands 2 and 3 together.
 pub record Tallies (way : Way) : Type 0 where
-  pub accuracy : (c : Call) (size : Size) → trusteesResult c .answer ≡ accepted size → Accuracy way c size
+  pub accuracy : (c : Call) (size : Size) → trusteesResult c .answer ≡ accepted size → WayAccuracy way c size
   pub own-list : (c : Call) (table : List ℕ) (size answer : Size)
       → writeOutcome (c .shape) table ≡ accepted size → c .table ≡ listIn (c .shape) size table
       → trusteesResult c .answer ≡ accepted answer → OwnList way c
   pub hiding : ViewsTellNoMore way
 
-pub record Demands : Type 0 where
-  pub memory : (c : Call) → Memory c
+pub record TrusteesHold : Type 0 where
+  pub memory : (c : Call) → TrusteesMemory c
   pub tallies : Tallies inOneCall

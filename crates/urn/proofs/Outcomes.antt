@@ -9,12 +9,12 @@ use native.Mathlib.Omega.{arith}
 use Rattle.basics.proofs.Flags.{true-T}
 use Rattle.jury.specs.Reason.{Reason, reasonAt, unless, firstOf}
 use Rattle.jury.specs.Ballots.{ballotReasons}
-use Rattle.tally.specs.Answer.{Outcome, refused, accepted, outcome}
+use Rattle.tally.specs.Answer.{Outcome, refused, accepted, outcome, afterwards}
 use Rattle.urn.specs.declared.facts.Facts.{Facts}
 use Rattle.urn_chains.specs.Sound.{juryOfOne, goodJuror, noReason, goodBallot}
 use Rattle.urn_chains.proofs.GoodBallots.{good-graded}
 use Rattle.urn_chains.specs.Sound.{gradedShape}
-use Rattle.urn.specs.Facts.{UrnResult, afterwards}
+use Rattle.urn.specs.Facts.{UrnResult}
 use Rattle.urn.specs.Admit.{admitReasons}
 use Rattle.urn.specs.Withdraw.{withdrawReasons}
 

@@ -12,13 +12,13 @@ use Rattle.jury.specs.Reason.{Reason, reasonAt, unless, firstOf}
 use Rattle.jury.specs.Shape.{isRanking}
 use Rattle.jury.specs.Ballots.{rankedReasons, gradedReasons, ballotReasons}
 use Rattle.jury.proofs.Limits.{within, graded-is}
-use Rattle.tally.specs.Answer.{Outcome, refused, accepted, outcome, hasNumberIn}
+use Rattle.tally.specs.Answer.{Outcome, refused, accepted, outcome, hasNumberIn, afterwards}
 use Rattle.tally.specs.Memory.{Each, KeepsMemory}
 use Rattle.tally.proofs.Numbering.{All, Fine, first-fine, both, unless-fine, found-fine, outcome-fine, refused-fine}
 use Rattle.urn_chains.specs.Sound.{juryOfOne}
 use Rattle.urn.specs.declared.facts.Facts.{Facts}
 use Rattle.urn_chains.specs.Sound.{gradedShape}
-use Rattle.urn.specs.Facts.{factsOf, afterwards}
+use Rattle.urn.specs.Facts.{factsOf}
 use Rattle.urn.specs.Admit.{admitReasons, admitAnswer, admitted}
 use Rattle.urn.specs.Withdraw.{withdrawReasons, withdrawAnswer, withdrawn}
 use Rattle.urn.specs.Empty.{emptyReasons, emptyOutcome, emptied}

@@ -24,7 +24,7 @@ use Rattle.basics.specs.Lists.{all, member, distinct}
 use Rattle.urn_chains.specs.Sound.{gradedShape}
 use Rattle.urn.specs.Facts.{isEmpty, jurorsOf, factsOf}
 use Rattle.urn.specs.Admit.{admitReasons, admitAnswer, withBallot, admitted}
-use Rattle.urn.specs.Withdraw.{withdrawReasons, withdrawAnswer, without, slotOfJuror, withoutBallot, withdrawn}
+use Rattle.urn.specs.Withdraw.{withdrawReasons, withdrawAnswer, withoutJuror, slotOfJuror, withoutBallot, withdrawn}
 use Rattle.urn.specs.Empty.{emptyReasons, emptyOutcome, allFree, emptied}
 use Rattle.urn.specs.Theorems.{AfterEmptying, AfterAdmission, AfterWithdrawal, UrnHolds}
 use Rattle.urn_chains.proofs.Lists.{all-rest, all-cons, all-move, distinct-rest, distinct-cons, distinct-move, eqb-sym}
@@ -83,18 +83,18 @@ less-good k d n pre x post is g =
 
 -- the ballots around that of a juror who has one
 juror-split : (j : ℕ) (es : List Entry) → member j (jurorsOf es) ≡ true → (pre : List Entry) × (x : Entry)
-    × (post : List Entry) × (es ≡ pre ++ (x ∷ post)) × (without j es ≡ pre ++ post) × (slotOfJuror j es ≡ x .slot)
-unfolding jurorsOf member without slotOfJuror
+    × (post : List Entry) × (es ≡ pre ++ (x ∷ post)) × (withoutJuror j es ≡ pre ++ post) × (slotOfJuror j es ≡ x .slot)
+unfolding jurorsOf member withoutJuror slotOfJuror
 juror-split j [] m = let z : _≡_ {A = ℕ} 0 1 = cc in absurd (omega arith)
 juror-split j (x ∷ es) m =
     ⊎-elim
-    (λ t. ([], x, es, refl, ap (λ (u : Bool). cond u es (x ∷ without j es)) t, ap (λ (u : Bool). cond u (x .slot) (slotOfJuror j es)) t))
+    (λ t. ([], x, es, refl, ap (λ (u : Bool). cond u es (x ∷ withoutJuror j es)) t, ap (λ (u : Bool). cond u (x .slot) (slotOfJuror j es)) t))
     (λ t. let r = juror-split j es (ap (λ (u : Bool). u || member j (jurorsOf es)) (sym (eqb-sym j (x .juror) ∙ t)) ∙ m) in (
       x ∷ r .0,
       r .1,
       r .2,
       ap (λ (xs : List Entry). x ∷ xs) (r .3),
-      ap (λ (u : Bool). cond u es (x ∷ without j es)) t ∙ ap (λ (xs : List Entry). x ∷ xs) (r .4),
+      ap (λ (u : Bool). cond u es (x ∷ withoutJuror j es)) t ∙ ap (λ (xs : List Entry). x ∷ xs) (r .4),
       ap (λ (u : Bool). cond u (x .slot) (slotOfJuror j es)) t ∙ r .5,
     ))
     (true-or-false (eqb (x .juror) j))
@@ -121,7 +121,7 @@ undo : (k d : ℕ) (urn : List ℕ) → T (gradedLimits (juryOfOne k d)) → sou
     (urnSlots k d urn)) is u →
     gradedShape k d ≡ true → goodJuror j ≡ true → freeChain (urnSlots k d urn)
     ≡ firstFree (freeChain (urnSlots k d urn)) ∷ is → withdrawn k d u j ≡ urn
-unfolding withdrawn withoutBallot without slotOfJuror jurorsOf member
+unfolding withdrawn withoutBallot withoutJuror slotOfJuror jurorsOf member
 undo k d urn w e j x u is wr a gj cut =
     let S = urnSlots k d urn in
     let es = ballotChain S in
@@ -137,12 +137,12 @@ undo k d urn w e j x u is wr a gj cut =
     (and-both (goodJuror j) (factsOf k d u j .present) gj (ap (λ (z : Facts). z .present) f ∙ inn)) in
     let size : length (urnSlots k d u) ≡ length S = ap length (wr .slots) ∙ layout-length (length S) (k * d) (y ∷ es) is in
     none-new (firstOf (withdrawReasons k d (factsOf k d u j) j)) (bytesOf (withoutBallot (k * d) (urnSlots k d u) j)) u o
-    ∙ ap (λ (m : ℕ). bytesOf (layout m (k * d) (without j (ballotChain (urnSlots k d u)))
+    ∙ ap (λ (m : ℕ). bytesOf (layout m (k * d) (withoutJuror j (ballotChain (urnSlots k d u)))
     (slotOfJuror j (ballotChain (urnSlots k d u)) ∷ freeChain (urnSlots k d u)))) size
     ∙ ap (λ (xs : List Entry). bytesOf
-    (layout (length S) (k * d) (without j xs) (slotOfJuror j xs ∷ freeChain (urnSlots k d u)))) (wr .ballots)
-    ∙ ap (λ (ks : List ℕ). bytesOf (layout (length S) (k * d) (without j (y ∷ es)) (slotOfJuror j (y ∷ es) ∷ ks))) (wr .free)
-    ∙ ap (λ (t : Bool). bytesOf (layout (length S) (k * d) (cond t es (y ∷ without j es))
+    (layout (length S) (k * d) (withoutJuror j xs) (slotOfJuror j xs ∷ freeChain (urnSlots k d u)))) (wr .ballots)
+    ∙ ap (λ (ks : List ℕ). bytesOf (layout (length S) (k * d) (withoutJuror j (y ∷ es)) (slotOfJuror j (y ∷ es) ∷ ks))) (wr .free)
+    ∙ ap (λ (t : Bool). bytesOf (layout (length S) (k * d) (cond t es (y ∷ withoutJuror j es))
     (cond t i (slotOfJuror j es) ∷ is))) (eq-eqb j j refl)
     ∙ ap (λ (ks : List ℕ). bytesOf (layout (length S) (k * d) es ks)) (sym cut)
     ∙ sym (laid-out k d urn e .bytes)
@@ -238,10 +238,10 @@ after-withdrawal k d urn j count h =
     let is = freeChain S in
     let r = juror-split j es (facts-present k d urn j e (and-second (goodJuror j) (f .present) (p .juror))) in
     let g₀ = less-good k d n (r .0) (r .1) (r .2) is (subst (λ (xs : List Entry). Good k d n xs is) (r .3) (good k d urn e)) in
-    let g = subst (λ (s : ℕ). Good k d n (without j es) (s ∷ is)) (sym (r .5))
+    let g = subst (λ (s : ℕ). Good k d n (withoutJuror j es) (s ∷ is)) (sym (r .5))
     (subst (λ (xs : List Entry). Good k d n xs (r .1 .slot ∷ is)) (sym (r .4)) g₀) in
-    let u = bytesOf (layout n (k * d) (without j es) (slotOfJuror j es ∷ is)) in
-    let wr = bytes-written k d n (without j es) (slotOfJuror j es ∷ is) (laid-out k d urn e .least) (laid-out k d urn e .most) g in
+    let u = bytesOf (layout n (k * d) (withoutJuror j es) (slotOfJuror j es ∷ is)) in
+    let wr = bytes-written k d n (withoutJuror j es) (slotOfJuror j es ∷ is) (laid-out k d urn e .least) (laid-out k d urn e .most) g in
     let new = none-new (firstOf (withdrawReasons k d f j)) u urn o in
     let before : f .ballots ≡ length es = ap (λ (z : Facts). z .ballots) (facts-are k d urn w e j) in
     let chain = ap (λ (v : List ℕ). ballotChain (urnSlots k d v)) new ∙ wr .ballots in
@@ -256,7 +256,7 @@ after-withdrawal k d urn j count h =
       counted = omega (arith, count-outcome (firstOf (withdrawReasons k d f j)) (f .ballots - 1) count h, before, with-one, after);
       free = free;
       taken-again = λ next ballot more a.
-          again k d (withdrawn k d urn j) (without j es) (slotOfJuror j es) is chain free next ballot more
+          again k d (withdrawn k d urn j) (withoutJuror j es) (slotOfJuror j es) is chain free next ballot more
           (after-admission k d (withdrawn k d urn j) next ballot more a);
     }
 

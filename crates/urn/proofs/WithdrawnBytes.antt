@@ -11,7 +11,7 @@ use Rattle.jury.specs.Shape.{gradedLimits}
 use Rattle.urn_chains.specs.Slots.{Slot, slotBytes, slotOf, slotsOf, bytesOf, slotAt, freeSlot}
 use Rattle.urn_chains.specs.Chains.{Entry, chain, ballotChain, freeChain, firstEntry, firstFree, entrySlot, headSlot, layout}
 use Rattle.urn_chains.specs.Sound.{juryOfOne, slotCount, urnSlots, sound}
-use Rattle.urn.specs.Withdraw.{without, withoutBallot}
+use Rattle.urn.specs.Withdraw.{withoutJuror, withoutBallot}
 use Rattle.urn_chains.specs.declared.find.ChainPosition.the-variants.{Found}
 use Rattle.urn_chains.specs.inner.Position.{positionOf}
 use Rattle.urn_chains.proofs.SlotLaws.{slot-within, next-is}
@@ -119,7 +119,7 @@ module _ (k d : ℕ) (urn : List ℕ) (w : T (gradedLimits (juryOfOne k d))) (e 
       ∙ withdraw-slots m (k * d) R (cut .front) (cut .entry) (cut .back) is (its-length k d urn e) fit head chained free
       ∙ ap (λ (x : ℕ). layout x (k * d) (cut .front ++ cut .back) (cut .entry .slot ∷ is)) (sym (its-length k d urn e))
       ∙ ap (λ (es : List Entry). layout (length R) (k * d) es (cut .entry .slot ∷ is)) (sym (cut .gone))
-      ∙ ap (λ (x : ℕ). layout (length R) (k * d) (without j (ballotChain R)) (x ∷ is)) (sym (cut .named))
+      ∙ ap (λ (x : ℕ). layout (length R) (k * d) (withoutJuror j (ballotChain R)) (x ∷ is)) (sym (cut .named))
 
   pub withdraw-bytes : (zs last : List ℕ) → zs ≡ replicate (k * d) 0 →
       last ≡ take (s * (2 + k * d)) (set urn (p * (2 + k * d)) (getD urn (s * (2 + k * d)) 0))

@@ -16,7 +16,7 @@ use Rattle.urn_chains.specs.Slots.{Slot, slotAt, freeSlot}
 use Rattle.urn_chains.specs.Chains.{Entry, firstEntry, firstFree, entrySlot, headSlot, layout}
 use Rattle.basics.specs.Lists.{all, member, distinct}
 use Rattle.urn_chains.specs.Sound.{inUrn}
-use Rattle.urn.specs.Withdraw.{without, slotOfJuror}
+use Rattle.urn.specs.Withdraw.{withoutJuror, slotOfJuror}
 use Rattle.urn_chains.specs.declared.find.ChainPosition.the-variants.{Found}
 use Rattle.urn_chains.specs.inner.Position.{positionOf}
 use Rattle.urn_chains.proofs.Lists.{all-append, all-move, all-member, all-weaken, member-move, member-append, distinct-move, distinct-first, distinct-rest, distinct-left, distinct-apart}
@@ -36,7 +36,7 @@ pub record Split (j before p s : ℕ) (es : List Entry) : Type 0 where
   pub entry : Entry
   pub back : List Entry
   pub whole : es ≡ front ++ (entry ∷ back)
-  pub gone : without j es ≡ front ++ back
+  pub gone : withoutJuror j es ≡ front ++ back
   pub named : slotOfJuror j es ≡ entry .slot
   pub slot : s ≡ entry .slot
   pub link : p ≡ lastSlot before front
@@ -46,7 +46,7 @@ found-parts a b p s e = (cc, cc)
 
 pub split : (S : List Slot) (j before p s : ℕ) (es : List Entry) → Linked S es → positionOf S j before (slotsIn es)
     ≡ Found p s → Split j before p s es
-unfolding positionOf without slotOfJuror lastSlot entrySlot
+unfolding positionOf withoutJuror slotOfJuror lastSlot entrySlot
 split S j before p s [] none e = let z : _≡_ {A = ℕ} 0 1 = cc in absurd (omega arith)
 split S j before p s (e ∷ es) (more q l) h =
     ⊎-elim
@@ -58,7 +58,7 @@ split S j before p s (e ∷ es) (more q l) h =
       entry = e;
       back = es;
       whole = refl;
-      gone = ap (λ (u : Bool). cond u es (e ∷ without j es)) t′;
+      gone = ap (λ (u : Bool). cond u es (e ∷ withoutJuror j es)) t′;
       named = ap (λ (u : Bool). cond u (e .slot) (slotOfJuror j es)) t′;
       slot = r .1;
       link = r .0;
@@ -71,7 +71,7 @@ split S j before p s (e ∷ es) (more q l) h =
       entry = w .entry;
       back = w .back;
       whole = ap (λ (xs : List Entry). e ∷ xs) (w .whole);
-      gone = ap (λ (u : Bool). cond u es (e ∷ without j es)) t′ ∙ ap (λ (xs : List Entry). e ∷ xs) (w .gone);
+      gone = ap (λ (u : Bool). cond u es (e ∷ withoutJuror j es)) t′ ∙ ap (λ (xs : List Entry). e ∷ xs) (w .gone);
       named = ap (λ (u : Bool). cond u (e .slot) (slotOfJuror j es)) t′ ∙ w .named;
       slot = w .slot;
       link = w .link;

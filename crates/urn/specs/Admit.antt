@@ -6,12 +6,12 @@ use Prim.Native.Nat.{ℕ, _+_, _*_}
 use lib.ListN.{length, drop}
 use Rattle.jury.specs.Reason.{Reason, unless, firstOf}
 use Rattle.jury.specs.Ballots.{ballotReasons}
-use Rattle.tally.specs.Answer.{Outcome, outcome}
+use Rattle.tally.specs.Answer.{Outcome, outcome, afterwards}
 use Rattle.urn.specs.declared.facts.Facts.{Facts}
 use Rattle.urn_chains.specs.Slots.{Slot, bytesOf}
 use Rattle.urn_chains.specs.Chains.{ballotChain, freeChain, firstFree, layout}
 use Rattle.urn_chains.specs.Sound.{juryOfOne, gradedShape, goodJuror, urnSlots}
-use Rattle.urn.specs.Facts.{factsOf, UrnResult, afterwards}
+use Rattle.urn.specs.Facts.{factsOf, UrnResult}
 
 -- The tests in checking order: 1, 13, 14, the tests of the ballot as in a jury of one (4, 5, 6), 15.
 unfoldable pub admitReasons : ℕ → ℕ → Facts → ℕ → List ℕ → List (Option Reason)

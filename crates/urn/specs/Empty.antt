@@ -5,11 +5,11 @@ use Prim.Native.Nat.{ℕ, suc, _-_, _*_}
 use lib.ListN.{length}
 use Rattle.basics.specs.Lists.{tabulate}
 use Rattle.jury.specs.Reason.{Reason, unless, firstOf}
-use Rattle.tally.specs.Answer.{Outcome, outcome}
+use Rattle.tally.specs.Answer.{Outcome, outcome, afterwards}
 use Rattle.urn_chains.specs.Slots.{Slot, bytesOf}
 use Rattle.urn_chains.specs.Chains.{layout}
 use Rattle.urn_chains.specs.Sound.{gradedShape, slotCount, urnLength}
-use Rattle.urn.specs.Facts.{UrnResult, afterwards}
+use Rattle.urn.specs.Facts.{UrnResult}
 
 -- The tests in checking order: 1, then 13 if no urn has this length.
 unfoldable pub emptyReasons : ℕ → ℕ → List ℕ → List (Option Reason)

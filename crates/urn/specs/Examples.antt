@@ -13,10 +13,11 @@ use Rattle.urn_chains.specs.Slots.{slotBytes, slotOf, slotsOf, bytesOfSlot, byt
 use Rattle.urn_chains.specs.Chains.{chain, ends, entryAt, ballotSlots, ballotChain, freeChain, firstEntry, firstFree, entrySlot, withBallots, withFree, headSlot, layout}
 use Rattle.basics.specs.Lists.{all, member, distinct}
 use Rattle.urn_chains.specs.Sound.{juryOfOne, noReason, goodBallot, goodJuror, inUrn, eachOnce, goodChains, allZero, emptySlot, soundSlots, slotCount, urnLength, urnSlots, sound}
-use Rattle.urn.specs.Facts.{isEmpty, jurorsOf, factsOf, afterwards}
+use Rattle.urn.specs.Facts.{isEmpty, jurorsOf, factsOf}
 use Rattle.urn.specs.Empty.{emptyReasons, allFree, emptied}
 use Rattle.urn.specs.Admit.{admitReasons, withBallot, admitted}
-use Rattle.urn.specs.Withdraw.{withdrawReasons, without, slotOfJuror, withoutBallot, withdrawn}
+use Rattle.tally.specs.Answer.{afterwards}
+use Rattle.urn.specs.Withdraw.{withdrawReasons, withoutJuror, slotOfJuror, withoutBallot, withdrawn}
 
 unfoldable pub emptyUrn : List ℕ
 emptyUrn = 0 ∷ 1 ∷ 0 ∷ 0 ∷ 0 ∷ 0 ∷ 0 ∷ 0 ∷ []
@@ -36,26 +37,26 @@ unfolding slotBytes slotOf slotsOf slotAt chain ends entryAt ballotSlots ballotC
     goodJuror inUrn eachOnce goodChains allZero emptySlot soundSlots slotCount urnLength urnSlots sound tabulate
 loop-unsound = refl
 
-pub emptying : emptied 1 2 (9 ∷ 9 ∷ 9 ∷ 9 ∷ 9 ∷ 9 ∷ 9 ∷ 9 ∷ 9 ∷ 9 ∷ 9 ∷ 9 ∷ [])
+pub emptying-computes : emptied 1 2 (9 ∷ 9 ∷ 9 ∷ 9 ∷ 9 ∷ 9 ∷ 9 ∷ 9 ∷ 9 ∷ 9 ∷ 9 ∷ 9 ∷ [])
     ≡ 0 ∷ 1 ∷ 0 ∷ 0 ∷ 2 ∷ 0 ∷ 0 ∷ 0 ∷ 0 ∷ 0 ∷ 0 ∷ 0 ∷ []
 unfolding slotBytes bytesOfSlot bytesOf freeSlot firstEntry firstFree withBallots withFree headSlot layout juryOfOne
     slotCount urnLength afterwards emptyReasons allFree emptied gradedLimits unless firstOf tabulate
-emptying = refl
+emptying-computes = refl
 
-pub admission : admitted 1 2 emptyUrn 9 (0 ∷ 1 ∷ []) ≡ oneBallotIn
+pub admission-computes : admitted 1 2 emptyUrn 9 (0 ∷ 1 ∷ []) ≡ oneBallotIn
 unfolding emptyUrn oneBallotIn slotBytes slotOf slotsOf bytesOfSlot bytesOf slotAt freeSlot chain ends entryAt
     ballotSlots ballotChain freeChain firstEntry firstFree entrySlot withBallots withFree headSlot layout all member
     distinct juryOfOne noReason goodBallot goodJuror inUrn eachOnce goodChains allZero emptySlot soundSlots
     slotCount urnLength urnSlots sound isEmpty jurorsOf factsOf afterwards admitReasons withBallot admitted
     isRanking gradedLimits columns ballotBytes unless foundAt firstOf ones rowsOf firstBadRow gradedReasons
     ballotReasons tabulate firstAboveOne
-admission = refl
+admission-computes = refl
 
-pub withdrawal : withdrawn 1 2 oneBallotIn 9 ≡ emptyUrn
+pub withdrawal-computes : withdrawn 1 2 oneBallotIn 9 ≡ emptyUrn
 unfolding emptyUrn oneBallotIn slotBytes slotOf slotsOf bytesOfSlot bytesOf slotAt freeSlot chain ends entryAt
     ballotSlots ballotChain freeChain firstEntry firstFree entrySlot withBallots withFree headSlot layout all member
     distinct juryOfOne noReason goodBallot goodJuror inUrn eachOnce goodChains allZero emptySlot soundSlots
-    slotCount urnLength urnSlots sound isEmpty jurorsOf factsOf afterwards withdrawReasons without slotOfJuror
+    slotCount urnLength urnSlots sound isEmpty jurorsOf factsOf afterwards withdrawReasons withoutJuror slotOfJuror
     withoutBallot withdrawn isRanking gradedLimits columns ballotBytes unless foundAt firstOf ones rowsOf
     firstBadRow gradedReasons ballotReasons tabulate firstAboveOne
-withdrawal = refl
+withdrawal-computes = refl

@@ -1,10 +1,9 @@
 -- What a call asks about an urn before a ballot goes in or out, and what a call leaves.
 use mathlib.Core.Bool.{Bool, true, false, cond}
-use mathlib.Core.Option.{Option, none, some}
 use mathlib.Core.List.{List, [], _∷_, map}
 use Prim.Native.Nat.{ℕ}
 use lib.ListN.{length}
-use Rattle.jury.specs.Reason.{Reason, reasonOf}
+use Rattle.jury.specs.Reason.{reasonOf}
 use Rattle.tally.specs.Answer.{Outcome, refused, accepted}
 use Rattle.urn.specs.declared.answer.Answer.{Answer}
 use Rattle.urn.specs.declared.answer.Answer.the-variants.{Accepted, Refused}
@@ -37,11 +36,6 @@ factsOf k d urn juror =
 pub record UrnResult : Type 0 where
   pub answer : Outcome ℕ
   pub urn : List ℕ
-
--- The urn after a call: unchanged if there is a reason.
-unfoldable pub afterwards : Option Reason → List ℕ → List ℕ → List ℕ
-afterwards (some r) new old = old
-afterwards none new old = new
 
 -- What each case of the program's enum means.
 unfoldable pub countedBy : Answer → Outcome ℕ

@@ -13,7 +13,7 @@ use Rattle.urn_chains.specs.Sound.{slotCount, sound, entriesOf, freeOf}
 use Rattle.urn_chains.specs.Theorems.{SoundIsLaidOut}
 pub use Rattle.urn.specs.Previews.{PreviewsTell}
 use Rattle.urn.specs.Admit.{admitOutcome, admitted}
-use Rattle.urn.specs.Withdraw.{withdrawOutcome, without, slotOfJuror, withdrawn}
+use Rattle.urn.specs.Withdraw.{withdrawOutcome, withoutJuror, slotOfJuror, withdrawn}
 use Rattle.urn.specs.Empty.{emptyOutcome, emptied}
 
 -- A table that is made an empty urn is sound, has the same length and no ballot, and its slots from 1 on are free, in
@@ -42,7 +42,7 @@ pub record AfterAdmission (k d : ℕ) (urn : List ℕ) (juror : ℕ) (ballot : L
 pub record AfterWithdrawal (k d : ℕ) (urn : List ℕ) (juror count : ℕ) : Type 0 where
   pub stays-sound : sound k d (withdrawn k d urn juror) ≡ true
   pub same-length : length (withdrawn k d urn juror) ≡ length urn
-  pub ballots : entriesOf k d (withdrawn k d urn juror) ≡ without juror (entriesOf k d urn)
+  pub ballots : entriesOf k d (withdrawn k d urn juror) ≡ withoutJuror juror (entriesOf k d urn)
   pub counted : count ≡ length (entriesOf k d (withdrawn k d urn juror))
   pub free : freeOf k d (withdrawn k d urn juror) ≡ slotOfJuror juror (entriesOf k d urn) ∷ freeOf k d urn
   -- the ballot admitted next, whoever's it is, takes the same slot; the free slots are then those from before the
@@ -51,7 +51,7 @@ pub record AfterWithdrawal (k d : ℕ) (urn : List ℕ) (juror count : ℕ) : Ty
       → admitOutcome k d (withdrawn k d urn juror) next ballot ≡ accepted more
       → (entriesOf k d (admitted k d (withdrawn k d urn juror) next ballot)
       ≡ record { slot = slotOfJuror juror (entriesOf k d urn); juror = next; ballot = ballot }
-      ∷ without juror (entriesOf k d urn))
+      ∷ withoutJuror juror (entriesOf k d urn))
       × (freeOf k d (admitted k d (withdrawn k d urn juror) next ballot) ≡ freeOf k d urn)
 
 pub record UrnHolds : Type 0 where

@@ -6,12 +6,12 @@ use Prim.Native.Nat.{ℕ, _-_, _*_}
 use lib.Dec.{eqb}
 use lib.ListN.{length}
 use Rattle.jury.specs.Reason.{Reason, unless, firstOf}
-use Rattle.tally.specs.Answer.{Outcome, outcome}
+use Rattle.tally.specs.Answer.{Outcome, outcome, afterwards}
 use Rattle.urn.specs.declared.facts.Facts.{Facts}
 use Rattle.urn_chains.specs.Slots.{Slot, bytesOf}
 use Rattle.urn_chains.specs.Chains.{Entry, ballotChain, freeChain, layout}
 use Rattle.urn_chains.specs.Sound.{gradedShape, goodJuror, urnSlots}
-use Rattle.urn.specs.Facts.{factsOf, UrnResult, afterwards}
+use Rattle.urn.specs.Facts.{factsOf, UrnResult}
 
 -- The tests in checking order: 1, 13, 14.
 unfoldable pub withdrawReasons : ℕ → ℕ → Facts → ℕ → List (Option Reason)
@@ -29,9 +29,9 @@ abbrev pub withdrawOutcome : ℕ → ℕ → List ℕ → ℕ → Outcome ℕ
 withdrawOutcome k d urn juror = withdrawAnswer k d (factsOf k d urn juror) juror
 
 -- The ballots without this juror's, who has at most one.
-unfoldable pub without : ℕ → List Entry → List Entry
-without juror [] = []
-without juror (e ∷ es) = cond (eqb (e .juror) juror) es (e ∷ without juror es)
+unfoldable pub withoutJuror : ℕ → List Entry → List Entry
+withoutJuror juror [] = []
+withoutJuror juror (e ∷ es) = cond (eqb (e .juror) juror) es (e ∷ withoutJuror juror es)
 
 -- The slot of this juror's ballot.
 unfoldable pub slotOfJuror : ℕ → List Entry → ℕ
@@ -41,7 +41,7 @@ slotOfJuror juror (e ∷ es) = cond (eqb (e .juror) juror) (e .slot) (slotOfJuro
 -- The juror's ballot is gone, and its slot is the first free one.
 unfoldable pub withoutBallot : ℕ → List Slot → ℕ → List Slot
 withoutBallot b slots juror =
-    layout (length slots) b (without juror (ballotChain slots))
+    layout (length slots) b (withoutJuror juror (ballotChain slots))
     (slotOfJuror juror (ballotChain slots) ∷ freeChain slots)
 
 -- The urn after a withdrawal.

@@ -17,7 +17,7 @@ use Rattle.urn_chains.specs.Slots.{slotBytes, slotOf, slotsOf, slotAt}
 use Rattle.urn_chains.specs.Chains.{chain, ends, entryAt, ballotSlots, ballotChain, freeChain}
 use Rattle.basics.specs.Lists.{all, member, distinct}
 use Rattle.urn_chains.specs.Sound.{juryOfOne, noReason, goodBallot, goodJuror, inUrn, eachOnce, goodChains, allZero, emptySlot, soundSlots, slotCount, urnLength, urnSlots, sound}
-use Rattle.urn_run.specs.Run.{joined, chainBallots, urnRunResult}
+use Rattle.urn_run.specs.Run.{joinedBallots, chainBallots, urnRunResult}
 use Rattle.urn_run.specs.Examples.{better, worse, PairOfUrns}
 use Rattle.urn_run.proofs.Reasons.{same-run}
 
@@ -36,12 +36,12 @@ unfolding worse slotBytes slotOf slotsOf slotAt chain ends entryAt ballotSlots b
 worse-sound = refl
 
 better-ballots : chainBallots 1 2 better ≡ 1 ∷ 0 ∷ []
-unfolding better joined chainBallots slotBytes slotOf slotsOf slotAt chain entryAt ballotSlots ballotChain slotCount
+unfolding better joinedBallots chainBallots slotBytes slotOf slotsOf slotAt chain entryAt ballotSlots ballotChain slotCount
     urnSlots
 better-ballots = refl
 
 worse-ballots : chainBallots 1 2 worse ≡ 0 ∷ 1 ∷ []
-unfolding worse joined chainBallots slotBytes slotOf slotsOf slotAt chain entryAt ballotSlots ballotChain slotCount
+unfolding worse joinedBallots chainBallots slotBytes slotOf slotsOf slotAt chain entryAt ballotSlots ballotChain slotCount
     urnSlots
 worse-ballots = refl
 

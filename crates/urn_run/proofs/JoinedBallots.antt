@@ -25,7 +25,7 @@ use Rattle.basics.specs.Lists.{all}
 use Rattle.urn_chains.specs.Sound.{juryOfOne, noReason, goodBallot}
 use Rattle.urn_chains.proofs.Lists.{all-first, all-rest}
 use Rattle.basics.proofs.Cases.{below-or-not}
-use Rattle.urn_run.specs.Run.{joined}
+use Rattle.urn_run.specs.Run.{joinedBallots}
 
 -- The bytes are m good ballots for k candidates and d grades.
 pub record Good (k d m : ℕ) (xs : List ℕ) : Type 0 where
@@ -105,13 +105,13 @@ good-one k d x w e =
 -- the ballots in these slots
 pub good-along : (k d : ℕ) (S : List Slot) (is : List ℕ) → gradedLimits (juryOfOne k d) ≡ true
     → all (λ i. goodBallot k d (slotAt S i .ballot)) is ≡ true
-    → Good k d (length is) (joined (map (entryAt S) is))
-unfolding joined entryAt
+    → Good k d (length is) (joinedBallots (map (entryAt S) is))
+unfolding joinedBallots entryAt
 good-along k d S [] w e = good-none k d
 good-along k d S (i ∷ is) w e =
     let p : ℕ → Bool = λ j. goodBallot k d (slotAt S j .ballot) in
     let x = slotAt S i .ballot in
-    let rest = joined (map (entryAt S) is) in
+    let rest = joinedBallots (map (entryAt S) is) in
     subst (λ (m : ℕ). Good k d m (x ++ rest)) {x = 1 + length is} {y = suc (length is)} (omega arith)
     (good-both k d 1 (length is) x rest (good-one k d x w (all-first p i is e)) (good-along k d S is w (all-rest p i is e)))
 

@@ -23,7 +23,7 @@ use Rattle.urn_chains.proofs.SlotLaws.{slot-within, ballot-is, next-is}
 use Rattle.urn_chains.proofs.SlotTests.{head-next, slots-by-bytes, clash}
 use Rattle.urn_chains.proofs.SoundLayouts.{its-parts, its-length}
 use Rattle.urn.proofs.FactLaws.{its-table, can-find}
-use Rattle.urn_run.specs.Run.{joined, chainBallots}
+use Rattle.urn_run.specs.Run.{joinedBallots, chainBallots}
 use Rattle.basics.proofs.Tables.{sets-append}
 
 -- a copy into a part of a table writes what is copied there
@@ -46,10 +46,10 @@ copied src ws last at h e =
 
 -- the ballots in these slots
 abbrev pub along : List Slot → List ℕ → List ℕ
-along S is = joined (map (entryAt S) is)
+along S is = joinedBallots (map (entryAt S) is)
 
 pub along-step : (S : List Slot) (i : ℕ) (is : List ℕ) → along S (i ∷ is) ≡ slotAt S i .ballot ++ along S is
-unfolding joined entryAt
+unfolding joinedBallots entryAt
 along-step S i is = refl
 
 -- The table after `count` ballots, with `slot` next: writing the rest after them is writing all from the start.
@@ -135,7 +135,7 @@ module _ (S : List Slot) (n b size : ℕ) (final ws : List ℕ) (count slot : �
         })
 
   pub load-end : slot ≡ 0 → ws ≡ final
-  unfolding joined
+  unfolding joinedBallots
   load-end e =
       let none : chain (n - count) slot S ≡ [] = ap (λ (i : ℕ). chain (n - count) i S) e ∙ chain-end (n - count) S in
       sym (ap (λ (is : List ℕ). sets ws (count * b) (along S is)) none) ∙ on .left

@@ -33,7 +33,7 @@ use Rattle.urn_chains.specs.Chains.{entryAt, ballotSlots, ballotChain}
 use Rattle.urn_chains.specs.Sound.{juryOfOne, urnSlots, sound}
 use Rattle.urn_chains.proofs.Marks.{true-or-false}
 use Rattle.urn_chains.proofs.SoundLayouts.{its-parts}
-use Rattle.urn_run.specs.Run.{joined, chainBallots, ballotsIn, urnRunReasons, urnRunResult}
+use Rattle.urn_run.specs.Run.{joinedBallots, chainBallots, ballotsIn, urnRunReasons, urnRunResult}
 use Rattle.urn_run.proofs.JoinedBallots.{Good, good-along, good-accepted}
 
 -- the first reason of tests in order
@@ -93,7 +93,7 @@ module _ (s : Shape) (g : gradedLimits s ≡ true) where
         let k = s .candidates in
         let d = s .grades in
         let S = urnSlots k d urn in
-        subst (λ (m : ℕ). Good k d m (joined (map (entryAt S) (ballotSlots S)))) (sym (length-map (ballotSlots S) (entryAt S)))
+        subst (λ (m : ℕ). Good k d m (joinedBallots (map (entryAt S) (ballotSlots S)))) (sym (length-map (ballotSlots S) (entryAt S)))
         (good-along k d S (ballotSlots S) one-within (its-parts k d urn e .ballots))
 
     pub chain-accepted : ballotsIn (s .candidates) (s .grades) urn ≡ s .ballots

@@ -19,7 +19,7 @@ use Rattle.tally.specs.Answer.{Outcome, refused, accepted, hasNumberIn, Size, s
 use Rattle.tally.specs.Run.{RunResult, bufferReasons, runResultAfter, runResult}
 use Rattle.tally.specs.SaysWhoWins.{SaysWhoWins}
 use Rattle.tally.specs.Memory.{Each}
-use Rattle.tally.specs.Hiding.{closingBytes, BoardsHide, Hidden}
+use Rattle.tally.specs.Hiding.{closingBytes, BoardsHide, RunsHide}
 use Rattle.tally.specs.Demands.{listIn, RunAccuracy}
 use Rattle.tally.proofs.TestReasons.{never, test-passed}
 use Rattle.tally.proofs.Numbering.{Fine, All, FineSaid, first-fine, unless-fine, found-fine, list-fine, refused-fine}
@@ -210,7 +210,7 @@ module _ (s : Shape) (table : List ℕ) (size : Size) (a : RunAccuracy s table s
 module _ (s : Shape) (table one other vs ws bs ds : List ℕ)
     (first-is : (t v b : List ℕ) → urnRunResult s table one t v b ≡ runResult s table (ballotsFor s one) t v b)
     (second-is : (t v b : List ℕ) → urnRunResult s table other t v b ≡ runResult s table (ballotsFor s other) t v b)
-    (h : Hidden s table (ballotsFor s one) (ballotsFor s other) vs ws bs ds) where
+    (h : RunsHide s table (ballotsFor s one) (ballotsFor s other) vs ws bs ds) where
   board-one : (t v b : List ℕ) → urnRunResult s table one t v b .board ≡ runResult s table (ballotsFor s one) t v b .board
   board-one t v b = ap (λ (z : RunResult). z .board) (first-is t v b)
 

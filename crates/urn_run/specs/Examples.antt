@@ -9,14 +9,14 @@ use Rattle.tally.specs.Examples.{oneBallot}
 use Rattle.urn_chains.specs.Slots.{slotBytes, slotOf, slotsOf, slotAt}
 use Rattle.urn_chains.specs.Chains.{chain, entryAt, ballotSlots, ballotChain}
 use Rattle.urn_chains.specs.Sound.{slotCount, urnSlots}
-use Rattle.urn_run.specs.Run.{joined, chainBallots, ballotsIn, urnRunResult}
+use Rattle.urn_run.specs.Run.{joinedBallots, chainBallots, ballotsIn, urnRunResult}
 
 -- Two ballots: slot 2 comes first in the chain, slot 1 second.
 unfoldable pub backwards : List ℕ
 backwards = 2 ∷ 0 ∷ 0 ∷ 0 ∷ 0 ∷ 7 ∷ 1 ∷ 0 ∷ 1 ∷ 9 ∷ 0 ∷ 1 ∷ []
 
 pub chain-order : chainBallots 1 2 backwards ≡ 0 ∷ 1 ∷ 1 ∷ 0 ∷ []
-unfolding backwards joined chainBallots slotBytes slotOf slotsOf slotAt chain entryAt ballotSlots ballotChain
+unfolding backwards joinedBallots chainBallots slotBytes slotOf slotsOf slotAt chain entryAt ballotSlots ballotChain
     slotCount urnSlots
 chain-order = refl
 

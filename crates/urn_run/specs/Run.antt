@@ -15,13 +15,13 @@ use Rattle.urn_chains.specs.Chains.{Entry}
 use Rattle.urn_chains.specs.Sound.{sound, entriesOf}
 
 -- The ballots of a chain, without gaps.
-unfoldable pub joined : List Entry → List ℕ
-joined [] = []
-joined (e ∷ es) = e .ballot ++ joined es
+unfoldable pub joinedBallots : List Entry → List ℕ
+joinedBallots [] = []
+joinedBallots (e ∷ es) = e .ballot ++ joinedBallots es
 
 -- The ballots of an urn for k candidates and d grades, in chain order, and their number.
 unfoldable pub chainBallots : ℕ → ℕ → List ℕ → List ℕ
-chainBallots k d urn = joined (entriesOf k d urn)
+chainBallots k d urn = joinedBallots (entriesOf k d urn)
 
 unfoldable pub ballotsIn : ℕ → ℕ → List ℕ → ℕ
 ballotsIn k d urn = length (entriesOf k d urn)

@@ -12,7 +12,7 @@ use Rattle.tally.specs.Answer.{Outcome, outcome, Size, sizeOf}
 use Rattle.tally.specs.declared.answer.Answer.{Answer}
 use Rattle.tally.specs.declared.answer.Answer.the-variants as answer
 use Rattle.dispatch_rounds.specs.declared.header.JuryHeader.{JuryHeader}
-use Rattle.dispatch_rounds.specs.Tables.{Tables, shapeOf, listOf}
+use Rattle.dispatch_rounds.specs.Tables.{Tables, headerShape, listOf}
 use Rattle.dispatch_rounds.specs.Reasons.{reasonsOf, juryReasons}
 use Rattle.dispatch_rounds.specs.Rounds.{eightOf, RoundState}
 use Rattle.dispatch.specs.declared.verdict.Tests.{Tests}
@@ -23,7 +23,7 @@ use Rattle.dispatch.specs.Reasons.{verdictReason}
 -- How many wires all juries have.
 unfoldable pub wireBytes : List JuryHeader → ℕ
 wireBytes [] = 0
-wireBytes (s ∷ ss) = ballotBytes (shapeOf s) + s .gates + wireBytes ss
+wireBytes (s ∷ ss) = ballotBytes (headerShape s) + s .gates + wireBytes ss
 
 -- The most gates of a jury.
 unfoldable pub mostGates : List JuryHeader → ℕ
@@ -31,8 +31,8 @@ mostGates [] = 0
 mostGates (s ∷ ss) = max (s .gates) (mostGates ss)
 
 -- How many conditional gates a jury has, by its piece of the lists.
-abbrev pub conditionalOf : JuryHeader → Tables → ℕ
-conditionalOf s p = conditionalCount (gatesOf (p .lists))
+abbrev pub pieceConditional : JuryHeader → Tables → ℕ
+pieceConditional s p = conditionalCount (gatesOf (p .lists))
 
 -- What the tests of one jury answer, on the rest of the tables: its first reason, or the size of its list.
 abbrev pub JuryTested : JuryHeader → Tables → Outcome Size → Type 0
@@ -41,7 +41,7 @@ JuryTested s t answer = answer ≡ outcome (firstOf (reasonsOf s t)) (sizeOf (ga
 -- What the tests of all juries found.
 pub record TestsFound (ss : List JuryHeader) (t : Tables) (r : Tests) : Type 0 where
   pub reason : verdictReason (r .verdict) ≡ firstOf (juryReasons 0 ss t)
-  pub conditional : verdictReason (r .verdict) ≡ none → r .conditional ≡ eightOf conditionalOf ss t
+  pub conditional : verdictReason (r .verdict) ≡ none → r .conditional ≡ eightOf pieceConditional ss t
   pub wires : verdictReason (r .verdict) ≡ none → r .wires ≡ wireBytes ss
 
 -- The reason that is the answer of a jury's tests, if any.
@@ -52,22 +52,22 @@ refusalIn (answer.Refused r) = some (reasonOf r)
 -- What the rounds ask: juries that are not refused.
 pub record Ready (c : Call) (conditional : List ℕ) : Type 0 where
   pub few : c .count ≤ 8
-  pub quantum-least : 1 ≤ c .quantum
-  pub quantum-most : c .quantum ≤ 65536
+  pub per-round-least : 1 ≤ c .gatesPerRound
+  pub per-round-most : c .gatesPerRound ≤ 65536
   pub accepted : firstOf (juryReasons 0 (juriesIn c) (c .tables)) ≡ none
-  pub conditionalAre : conditional ≡ eightOf conditionalOf (juriesIn c) (c .tables)
+  pub conditionalAre : conditional ≡ eightOf pieceConditional (juriesIn c) (c .tables)
 
 -- What counting the rounds asks: no sum wraps.
-pub record RoundsSmall (count : ℕ) (headers : List JuryHeader) (quantum : ℕ) : Type 0 where
+pub record RoundsSmall (count : ℕ) (headers : List JuryHeader) (gatesPerRound : ℕ) : Type 0 where
   pub few : count ≤ 8
-  pub quantum-least : 1 ≤ quantum
-  pub quantum-most : quantum ≤ 65536
+  pub per-round-least : 1 ≤ gatesPerRound
+  pub per-round-most : gatesPerRound ≤ 65536
   pub gates-most : mostGates (take count headers) ≤ 1048576
 
 -- What the rounds leave: every jury has done all its gates, and no round was idle.
-pub record Finished (c : Call) (conditional wires boards : List ℕ) : Type 0 where
+pub record RoundsFinished (c : Call) (conditional wires boards : List ℕ) : Type 0 where
   pub done : ℕ
   pub shown : List ℕ
-  pub all : mostGates (juriesIn c) ≤ done * c .quantum
-  pub none-idle : NoIdleRound (c .quantum) done (juriesIn c)
-  pub state : RoundState (done * c .quantum) (juriesIn c) (c .tables) conditional wires boards shown
+  pub all : mostGates (juriesIn c) ≤ done * c .gatesPerRound
+  pub none-idle : NoIdleRound (c .gatesPerRound) done (juriesIn c)
+  pub state : RoundState (done * c .gatesPerRound) (juriesIn c) (c .tables) conditional wires boards shown

@@ -9,7 +9,7 @@ use Rattle.gates.specs.inner.Step.{RunReady}
 use Rattle.jury.specs.Shape.{withinLimits, ballotBytes}
 use Rattle.dispatch_rounds.specs.declared.header.JuryHeader.{JuryHeader}
 use Rattle.dispatch_rounds.specs.declared.header.Places.{Places}
-use Rattle.dispatch_rounds.specs.Tables.{Tables, lent, shapeOf}
+use Rattle.dispatch_rounds.specs.Tables.{Tables, tablesOf, headerShape}
 use Rattle.dispatch_rounds.specs.Rounds.{juryWires, juryBoard, juryShown, RoundState}
 
 -- Where the next jury's pieces begin.
@@ -17,19 +17,19 @@ abbrev pub placesAfter : Places → JuryHeader → ℕ → Places
 placesAfter at s c =
     record {
       lists = at .lists + 4 * s .gates;
-      ballots = at .ballots + ballotBytes (shapeOf s);
+      ballots = at .ballots + ballotBytes (headerShape s);
       tapes = at .tapes + c;
-      wires = at .wires + (ballotBytes (shapeOf s) + s .gates);
+      wires = at .wires + (ballotBytes (headerShape s) + s .gates);
       boards = at .boards + (c + s .candidates);
     }
 
 -- None of these places wraps.
 pub record PlacesFit (at : Places) (s : JuryHeader) (c : ℕ) : Type 0 where
-  pub within : T (withinLimits (shapeOf s))
+  pub within : T (withinLimits (headerShape s))
   pub lists : at .lists + 4 * s .gates < 18446744073709551616
-  pub ballots : at .ballots + ballotBytes (shapeOf s) < 18446744073709551616
+  pub ballots : at .ballots + ballotBytes (headerShape s) < 18446744073709551616
   pub tapes : at .tapes + c < 18446744073709551616
-  pub wires : at .wires + (ballotBytes (shapeOf s) + s .gates) < 18446744073709551616
+  pub wires : at .wires + (ballotBytes (headerShape s) + s .gates) < 18446744073709551616
   pub boards : at .boards + (c + s .candidates) < 18446744073709551616
 
 -- One jury at work on its pieces p, which are as they were lent.
@@ -42,24 +42,25 @@ pub record JuryState (given : ℕ) (s : JuryHeader) (p : Tables) (wires board : 
   pub count : shown ≡ juryShown given s p
 
 -- What a turn asks: a jury at work, for some old contents of its wire table and board.
-pub record TurnReady (given quantum : ℕ) (s : JuryHeader) (list ballots tape wires board : List ℕ) (shown : ℕ) : Type
-    0 where
-  pub quantum-least : 1 ≤ quantum
-  pub quantum-most : quantum ≤ 65536
+pub record TurnReady (given gatesPerRound : ℕ) (s : JuryHeader) (list ballots tape wires board : List ℕ) (shown : ℕ)
+    : Type 0 where
+  pub per-round-least : 1 ≤ gatesPerRound
+  pub per-round-most : gatesPerRound ≤ 65536
   pub wires-lent : List ℕ
   pub board-lent : List ℕ
-  pub state : JuryState given s (lent list ballots tape wires-lent board-lent) wires board shown
+  pub state : JuryState given s (tablesOf list ballots tape wires-lent board-lent) wires board shown
 
 -- What a round asks: a call between two rounds. A jury has at most 1,048,576 gates, so at most that many rounds come
 -- before one.
-pub record RoundReady (count : ℕ) (headers : List JuryHeader) (done quantum : ℕ) (lists ballots tapes : List ℕ)
+pub record RoundReady (count : ℕ) (headers : List JuryHeader) (done gatesPerRound : ℕ) (lists ballots tapes : List ℕ)
     (conditional wires boards shown : List ℕ) : Type 0 where
   pub few : count ≤ 8
-  pub quantum-least : 1 ≤ quantum
-  pub quantum-most : quantum ≤ 65536
+  pub per-round-least : 1 ≤ gatesPerRound
+  pub per-round-most : gatesPerRound ≤ 65536
   pub done-most : done ≤ 1048576
   pub wires-lent : List ℕ
   pub boards-lent : List ℕ
-  pub state : RoundState (done * quantum) (take count headers) (lent lists ballots tapes wires-lent boards-lent)
+  pub state : RoundState (done * gatesPerRound) (take count headers)
+      (tablesOf lists ballots tapes wires-lent boards-lent)
       conditional
       wires boards shown

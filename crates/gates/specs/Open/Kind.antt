@@ -27,14 +27,14 @@ unfoldable pub differ : ℕ → ℕ → ℕ
 differ a b = cond (eqb a b) 0 1
 
 -- The first number chooses between the other two.
-unfoldable pub choose : ℕ → ℕ → ℕ → ℕ
-choose a b c = cond (eqb a 0) c b
+unfoldable pub chosen : ℕ → ℕ → ℕ → ℕ
+chosen a b c = cond (eqb a 0) c b
 
 -- The value of a kind from the values of its operands. Of two bits, the smaller is their conjunction and the larger
 -- their disjunction. A number above 7 is no kind; if it needs a value, that is 0.
 unfoldable pub valueOf : ℕ → ℕ → ℕ → ℕ → ℕ
 valueOf kind a b c =
-    getD (0 ∷ 1 ∷ a ∷ (1 - a) ∷ min a b ∷ max a b ∷ differ a b ∷ choose a b c ∷ []) kind 0
+    getD (0 ∷ 1 ∷ a ∷ (1 - a) ∷ min a b ∷ max a b ∷ differ a b ∷ chosen a b c ∷ []) kind 0
 
 -- The value of a known kind, or the refusal of an unknown one.
 unfoldable pub applied : ℕ → ℕ → ℕ → ℕ → GateValue

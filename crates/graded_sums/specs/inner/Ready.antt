@@ -5,7 +5,7 @@ use Rattle.gate_words.specs.Limits.{writerLimit}
 use Rattle.gate_words.specs.Writing.{Room}
 use Rattle.graded_circuit.specs.declared.plan.Plan.{Plan}
 use Rattle.graded_circuit.specs.Plan.{Planned}
-use Rattle.graded_circuit.specs.RunningSums.{wordSpan, sumSize, worstSize, levelsFrom}
+use Rattle.graded_circuit.specs.RunningSums.{wordSpan, sumSize, worstSize, sumLevelsFrom}
 
 -- A grade of a candidate.
 pub record GradeOf (p : Plan) (c g : ℕ) : Type 0 where
@@ -45,7 +45,7 @@ pub record WordReady (w : Writer) (p : Plan) (n base c g : ℕ) : Type 0 where
 
 pub record WordsReady (w : Writer) (p : Plan) (n m c : ℕ) : Type 0 where
   pub of : GradesReady w p n m c ((p .grades - 2) * wordSpan p)
-  pub levels : levelsFrom p m (p .grades - 2) ≤ w .wire
+  pub levels : sumLevelsFrom p m (p .grades - 2) ≤ w .wire
 
 -- The word of the second worst grade: the levels of the worst grade's count start at wire base.
 pub record WorstReady (w : Writer) (p : Plan) (base c : ℕ) : Type 0 where

@@ -9,7 +9,7 @@ use Rattle.gates.specs.Board.{conditionalCount, Bits}
 use Rattle.jury.specs.declared.shape.Shape.{Shape}
 use Rattle.jury.specs.Shape.{withinLimits}
 use Rattle.tally.specs.OwnList.{ownList}
-use Rattle.rehearsal.specs.Rehearsal.{shapeIn}
+use Rattle.rehearsal.specs.Rehearsal.{shapeOfInput}
 
 -- A tape of bits (the program's are zeros), a table for at most 4,000 gates, and a wire table and a board that are
 -- long enough for them.
@@ -22,7 +22,7 @@ pub record Buffers (table tape wires board : List ℕ) : Type 0 where
 
 -- The same, with the input's shape.
 pub record Ready (s : Shape) (input table tape wires board : List ℕ) : Type 0 where
-  pub shape-is : s ≡ shapeIn input
+  pub shape-is : s ≡ shapeOfInput input
   pub buffers : Buffers table tape wires board
 
 -- What a run of the own list is lent: its numbers, a mask tape, and buffers that are long enough.

@@ -21,5 +21,5 @@ pub record Rehearses (expected : Outcome Printed) (board : List ℕ) (r : Rehear
   pub on-board : endOn r ≤ length board
 
 -- The run by itself, of a list that was written.
-unfoldable pub runOutcome : Shape → List ℕ → Outcome Printed
-runOutcome s ballots = outcome (firstOf (ballotReasons s ballots)) (printedOf s ballots)
+unfoldable pub ballotsOutcome : Shape → List ℕ → Outcome Printed
+ballotsOutcome s ballots = outcome (firstOf (ballotReasons s ballots)) (printedOf s ballots)

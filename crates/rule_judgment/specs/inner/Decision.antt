@@ -1,16 +1,8 @@
 -- Definitions for inner functions and their proofs: no entry point's contract needs them.
-use mathlib.Core.Bool.{Bool, true, false, cond, _&&_, _||_}
-use mathlib.Core.List.{List, [], _∷_}
+use mathlib.Core.Bool.{Bool, cond, _&&_, _||_}
 use Prim.Native.Nat.{ℕ, _+_, _*_}
-use lib.Dec.{leb, ltb, eqb}
+use lib.Dec.{leb, ltb}
 use Rattle.rule_judgment.specs.declared.rule.Sums.{Sums}
-
--- Whether two rows of counts are the same.
-unfoldable pub sameCounts : List ℕ → List ℕ → Bool
-sameCounts [] [] = true
-sameCounts [] (y ∷ ys) = false
-sameCounts (x ∷ xs) [] = false
-sameCounts (x ∷ xs) (y ∷ ys) = eqb x y && sameCounts xs ys
 
 -- Whether the sum of one of two candidates is at least half of n.
 unfoldable pub halfReached : ℕ → Sums → Bool

@@ -5,22 +5,23 @@ use mathlib.Core.List.{List, []}
 use Prim.Native.Nat.{ℕ, _≤_, _<_}
 use lib.Dec.{T}
 use lib.ListN.{length, take, getD}
-use Rattle.basics.specs.Lists.{sum}
+use Rattle.basics.specs.Lists.{sum, sameNumbers}
 use Rattle.jury.specs.declared.shape.Shape.{Shape}
 use Rattle.jury.specs.Shape.{gradedLimits}
 use Rattle.jury.specs.inner.Counts.{rowsIn}
 use Rattle.rule_judgment.specs.Judgment.{judgmentOf}
 use Rattle.rule_judgment.specs.Theorems.{EachGets}
-use Rattle.rule_judgment.specs.inner.Decision.{sameCounts}
 
 -- The array of counts of a shape: each candidate has as many grades as there are ballots.
 pub record WinnersReady (s : Shape) (counts : List (List ℕ)) : Type 0 where
   pub within : T (gradedLimits s)
+  pub eight : length counts ≡ 8
   pub gets : EachGets (s .ballots) (rowsIn (s .candidates) (s .grades) counts)
   pub columns : (i : ℕ) → i < 8 → length (getD counts i []) ≡ 7
 
 -- The same for k candidates, d grades and n ballots.
 pub record FirstReady (counts : List (List ℕ)) (k d n : ℕ) : Type 0 where
+  pub eight : length counts ≡ 8
   pub someCandidate : 0 < k
   pub fewCandidates : k ≤ 8
   pub fewGrades : d ≤ 7
@@ -29,7 +30,7 @@ pub record FirstReady (counts : List (List ℕ)) (k d n : ℕ) : Type 0 where
   pub gets : EachGets n (rowsIn k d counts)
 
 -- Candidate r is one of k and wins.
-pub record Wins (counts : List (List ℕ)) (k d r : ℕ) : Type 0 where
+pub record WinningCandidate (counts : List (List ℕ)) (k d r : ℕ) : Type 0 where
   pub inside : r < k
   pub byte : getD (judgmentOf (rowsIn k d counts)) r 0 ≡ 1
 
@@ -43,7 +44,7 @@ pub record RowsReady (counts : List (List ℕ)) (a b d : ℕ) : Type 0 where
 
 -- The rows x and y, of d counts each, were compared.
 pub record Compared (x y : List ℕ) (d : ℕ) (r : Bool) : Type 0 where
-  pub answer : r ≡ sameCounts x y
+  pub answer : r ≡ sameNumbers x y
   pub firstLength : length x ≡ d
   pub secondLength : length y ≡ d
 

@@ -6,7 +6,8 @@ use mathlib.Core.List.{List, []}
 use Prim.Native.Nat.{ℕ, _*_, _≤_, _<_}
 use lib.Dec.{leb, eqb}
 use lib.ListN.{length, getD}
-use Rattle.rule_schulze.specs.Schulze.{candidates, every}
+use Rattle.basics.specs.Lists.{all}
+use Rattle.rule_schulze.specs.Schulze.{allCandidates}
 
 -- The number in row i and column j.
 abbrev pub entry : List (List ℕ) → ℕ → ℕ → ℕ
@@ -22,7 +23,7 @@ HoldsPairs k t v = (i j : ℕ) → i < k → j < k → i ≢ j → entry t i j �
 
 -- No number of column i is above its counterpart in row i.
 unfoldable pub unbeatenIn : List (List ℕ) → ℕ → ℕ → Bool
-unbeatenIn t k i = every (λ j. eqb j i || leb (entry t j i) (entry t i j)) (candidates k)
+unbeatenIn t k i = all (λ j. eqb j i || leb (entry t j i) (entry t i j)) (allCandidates k)
 
 -- The number of bytes of n ballots of k candidates, with limits on k and n.
 pub record RankedSize (k n : ℕ) (xs : List ℕ) : Type 0 where

@@ -15,13 +15,13 @@ use Rattle.trustee_rounds.specs.Rounds.{Turn, enters, publishes, closes}
 
 -- A turn by the program's numbers and tables.
 abbrev pub turnBy : Seat → List ℕ → List ℕ → List ℕ → Turn
-turnBy seat levels dealt heard = record {
+turnBy seat levels triples heard = record {
   trustee =
       seat .trustee;
   round = seat .round;
   inputs = seat .inputs;
   levels = levels;
-  dealt = dealt;
+  triples = triples;
   heard = heard;
 }
 
@@ -32,42 +32,42 @@ pub record GateIn (g : Numbers) (ws : List ℕ) : Type 0 where
   pub c-in : g .c < length ws
 
 -- If the gate is conditional, so are its triple and its sums.
-pub record PartReady (g : Numbers) (i : ℕ) (dealt heard ws : List ℕ) : Type 0 where
+pub record PartReady (g : Numbers) (i : ℕ) (triples heard ws : List ℕ) : Type 0 where
   pub operands : GateIn g ws
   pub known : g .kind < 8
-  pub triple-in : conditionalOf (g .kind) ≡ true → 3 * i + 2 < length dealt
+  pub triple-in : conditionalOf (g .kind) ≡ true → 3 * i + 2 < length triples
   pub sums-in : conditionalOf (g .kind) ≡ true → 2 * i + 1 < length heard
 
-pub record EnterReady (g : Numbers) (own i : ℕ) (dealt heard ws : List ℕ) : Type 0 where
-  pub ready : PartReady g i dealt heard ws
+pub record EnterReady (g : Numbers) (own i : ℕ) (triples heard ws : List ℕ) : Type 0 where
+  pub ready : PartReady g i triples heard ws
   pub own-in : own < length ws
 
-pub record PublishReady (g : Numbers) (i : ℕ) (dealt ws published : List ℕ) : Type 0 where
+pub record PublishReady (g : Numbers) (i : ℕ) (triples ws published : List ℕ) : Type 0 where
   pub operands : GateIn g ws
-  pub triple-in : conditionalOf (g .kind) ≡ true → 3 * i + 2 < length dealt
+  pub triple-in : conditionalOf (g .kind) ≡ true → 3 * i + 2 < length triples
   pub places-in : conditionalOf (g .kind) ≡ true → 2 * i + 1 < length published
 
 -- A list of good gates with at least one input, and tables of one trustee's lengths.
-pub record Pass (inputs : ℕ) (table levels dealt ws : List ℕ) : Type 0 where
+pub record Pass (inputs : ℕ) (table levels triples ws : List ℕ) : Type 0 where
   pub some-input : 1 ≤ inputs
   pub few : inputs + length (gatesOf table) < 1073741824
   pub good : firstBad inputs 0 (gatesOf table) ≡ Nowhere
   pub levels-length : length levels ≡ length (gatesOf table)
-  pub dealt-length : length dealt ≡ 3 * conditionalCount (gatesOf table)
+  pub triples-length : length triples ≡ 3 * conditionalCount (gatesOf table)
   pub wires-length : length ws ≡ inputs + length (gatesOf table)
 
-pub record EnterPass (seat : Seat) (table levels dealt heard ws : List ℕ) : Type 0 where
-  pub pass : Pass (seat .inputs) table levels dealt ws
+pub record EnterPass (seat : Seat) (table levels triples heard ws : List ℕ) : Type 0 where
+  pub pass : Pass (seat .inputs) table levels triples ws
   pub heard-length : length heard ≡ 2 * conditionalCount (gatesOf table)
 
-pub record PublishPass (inputs round : ℕ) (table levels dealt ws published : List ℕ) : Type 0 where
-  pub pass : Pass inputs table levels dealt ws
+pub record PublishPass (inputs round : ℕ) (table levels triples ws published : List ℕ) : Type 0 where
+  pub pass : Pass inputs table levels triples ws
   pub early : round < 1073741824
   pub published-length : 2 * conditionalCount (gatesOf table) ≤ length published
 
-pub record RoundReady (seat : Seat) (conditional k : ℕ) (table levels dealt heard ws published : List ℕ) : Type 0
+pub record RoundReady (seat : Seat) (conditional k : ℕ) (table levels triples heard ws published : List ℕ) : Type 0
   where
-    pub pass : Pass (seat .inputs) table levels dealt ws
+    pub pass : Pass (seat .inputs) table levels triples ws
     pub early : seat .round < 1073741824
     pub conditional-is : conditional ≡ conditionalCount (gatesOf table)
     pub enough : k ≤ length (gatesOf table)
@@ -76,9 +76,9 @@ pub record RoundReady (seat : Seat) (conditional k : ℕ) (table levels dealt he
 
 -- After a round: the parts that were entered, and what was published.
 pub record Turned (seat : Seat) (rounds conditional k : ℕ)
-    (table levels dealt heard ws published ws′ published′ : List ℕ) : Type 0 where
-  pub parts : ws′ ≡ enters (turnBy seat levels dealt heard) (gatesOf table) 0 0 ws
+    (table levels triples heard ws published ws′ published′ : List ℕ) : Type 0 where
+  pub parts : ws′ ≡ enters (turnBy seat levels triples heard) (gatesOf table) 0 0 ws
   pub shown : published′ ≡ closes (seat .round) rounds conditional k
-      (enters (turnBy seat levels dealt heard) (gatesOf table) 0 0 ws)
-      (publishes (turnBy seat levels dealt heard) (enters (turnBy seat levels dealt heard) (gatesOf table) 0 0 ws)
+      (enters (turnBy seat levels triples heard) (gatesOf table) 0 0 ws)
+      (publishes (turnBy seat levels triples heard) (enters (turnBy seat levels triples heard) (gatesOf table) 0 0 ws)
       (gatesOf table) 0 0 published)

@@ -5,7 +5,7 @@ use mathlib.Core.Path.{_∙_, ap}
 use mathlib.Core.List.{List, [], _∷_}
 use borrow.Author.Needs.{needs}
 use Rattle.dispatch_rounds.specs.declared.header.JuryHeader.{JuryHeader}
-use Rattle.dispatch_rounds.specs.Tables.{lent}
+use Rattle.dispatch_rounds.specs.Tables.{tablesOf}
 use Rattle.dispatch.specs.Call.{Call}
 use Rattle.dispatch.specs.Result.{DispatchResult, dispatchResult}
 use Rattle.c_dispatch.specs.Numbers.{headersIn, dispatchNumbers, dispatchAnswer}
@@ -20,8 +20,8 @@ with-headers s headers =
     record {
       count = a .count;
       headers = headers;
-      quantum = a .quantum;
-      tables = lent (a .lists .now) (a .ballots .now) (a .tapes .now) (a .wires .now) (a .boards .now);
+      gatesPerRound = a .gates-per-round;
+      tables = tablesOf (a .lists .now) (a .ballots .now) (a .tapes .now) (a .wires .now) (a .boards .now);
     }
 
 abbrev call : tie.Start → Call

@@ -22,7 +22,7 @@ use Rattle.c_trustee.proofs.calls.jugy_trustee_round.Tie as tie
 abbrev left-for : Shape → tie.Start → OwnResult Depths
 left-for s start =
     let a = start .args in
-    roundResult s (a .table .now) (a .trustees) (a .trustee) (a .round) (a .levels .now) (a .dealt .now)
+    roundResult s (a .table .now) (a .trustees) (a .trustee) (a .round) (a .levels .now) (a .triples .now)
     (a .heard .now) (a .wires .now) (a .published .now)
 
 abbrev left-by : tie.Start → OwnResult Depths
@@ -69,7 +69,7 @@ returns-2 c =
     let outside = outside-is (withinLimits s) s (sym (made .new .ensures .result) ∙ told .enum-told .given .1) in
     let r = left-by (started long) in
     let left = outside-round s outside (a .table .now) (a .trustees) (a .trustee) (a .round) (a .levels .now)
-    (a .dealt .now) (a .heard .now) (a .wires .now) (a .published .now) in
+    (a .triples .now) (a .heard .now) (a .wires .now) (a .published .now) in
     put-call depthAnswer (a .answer .now) (long .if1 .left) (depthNumbers (r .answer)) _ _ _ (c .before .before .put-depths .ensures)
     (ap (λ (z : OwnResult Depths). depthNumbers (z .answer)) (sym left)) (a .wires .now ∷ a .published .now ∷ [])
     (r .wires ∷ r .published ∷ []) _ (ap (λ (z : OwnResult Depths). z .wires ∷ z .published ∷ []) (sym left))

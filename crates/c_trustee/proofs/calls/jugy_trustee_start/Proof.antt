@@ -21,7 +21,7 @@ use Rattle.c_trustee.proofs.calls.jugy_trustee_start.Tie as tie
 abbrev left-for : Shape → tie.Start → OwnResult Size
 left-for s start =
     let a = start .args in
-    startResult s (a .table .now) (a .trustees) (a .trustee) (a .parts .now) (a .dealt .now) (a .wires .now) (a .published .now)
+    startResult s (a .table .now) (a .trustees) (a .trustee) (a .shares .now) (a .triples .now) (a .wires .now) (a .published .now)
 
 abbrev left-by : tie.Start → OwnResult Size
 left-by start = left-for (shapeOf (start .args .candidates) (start .args .grades) (start .args .ballots)) start
@@ -66,7 +66,7 @@ returns-2 c =
     let s = shapeOf (a .candidates) (a .grades) (a .ballots) in
     let outside = outside-is (withinLimits s) s (sym (made .new .ensures .result) ∙ told .enum-told .given .1) in
     let r = left-by (started long) in
-    let left = outside-start s outside (a .table .now) (a .trustees) (a .trustee) (a .parts .now) (a .dealt .now)
+    let left = outside-start s outside (a .table .now) (a .trustees) (a .trustee) (a .shares .now) (a .triples .now)
     (a .wires .now) (a .published .now) in
     put-call sizeAnswer (a .answer .now) (long .if1 .left) (sizeNumbers (r .answer)) _ _ _ (c .before .before .put-size .ensures)
     (ap (λ (z : OwnResult Size). sizeNumbers (z .answer)) (sym left)) (a .wires .now ∷ a .published .now ∷ [])

@@ -13,12 +13,12 @@ use borrow.Author.Needs.{needs}
 use borrow.Author.Tests.{leb-true, not-true, not-false}
 use Rattle.jury.specs.Reason.{Reason, reasonAt, reasonOf, firstOf}
 use Rattle.basics.proofs.Flags.{and-first, and-second}
-use Rattle.dispatch_rounds.specs.Tables.{lent}
+use Rattle.dispatch_rounds.specs.Tables.{tablesOf}
 use Rattle.dispatch_rounds.specs.Reasons.{juryReasons}
 use Rattle.dispatch.specs.Call.{Call, juriesIn}
 use Rattle.dispatch.specs.Reasons.{verdictReason}
 use Rattle.dispatch.specs.Result.{DispatchResult, dispatchResultAfter, dispatchResult}
-use Rattle.dispatch.proofs.Whole.{bad-count, bad-quantum, by-juries, result-by, same-result, few-gates, wires-room, boards-end, emptied}
+use Rattle.dispatch.proofs.Whole.{bad-count, bad-per-round, by-juries, result-by, same-result, few-gates, wires-room, boards-end, emptied}
 use Rattle.dispatch.proofs.dispatch.dispatch.Statement.{statement}
 use Rattle.dispatch.proofs.dispatch.dispatch.Tie as tie
 
@@ -29,11 +29,11 @@ call s =
     record {
       count = a .count;
       headers = a .headers;
-      quantum = a .quantum;
-      tables = lent (a .lists .now) (a .ballots .now) (a .tapes .now) (a .wires .now) (a .boards .now);
+      gatesPerRound = a .gates-per-round;
+      tables = tablesOf (a .lists .now) (a .ballots .now) (a .tapes .now) (a .wires .now) (a .boards .now);
     }
 
--- The stages: the number of juries is good; so is the quantum; the juries are tested; they pass; the rounds are done.
+-- The stages: the number of juries is good; so are the gates per round; the juries are tested; they pass; the rounds are done.
 abbrev started : tie.Else1 → tie.Start
 started c = c .before .before .before .before .before .before .before
 
@@ -55,17 +55,17 @@ passed c = c .before .before .before .before
 count-good : (c : tie.Else1) → let of = call (started c) in (leb 1 (of .count) && leb (of .count) 8) ≡ true
 count-good c = sym (c .before .is-between .ensures) ∙ not-false (c .before .is-between .result) (c .if1 .left)
 
-quantum-good : (c : tie.Else2) → let of = call (started (counted c)) in (leb 1 (of .quantum) && leb (of .quantum) 65536) ≡ true
-quantum-good c = sym (c .before .is-between2 .ensures) ∙ not-false (c .before .is-between2 .result) (c .if2 .left)
+per-round-good : (c : tie.Else2) → let of = call (started (counted c)) in (leb 1 (of .gatesPerRound) && leb (of .gatesPerRound) 65536) ≡ true
+per-round-good c = sym (c .before .is-between2 .ensures) ∙ not-false (c .before .is-between2 .result) (c .if2 .left)
 
 few : (c : tie.Else1) → call (started c) .count ≤ 8
 few c = let n = call (started c) .count in leb-true n 8 (and-second (leb 1 n) (leb n 8) (count-good c))
 
-least : (c : tie.Else2) → 1 ≤ call (started (counted c)) .quantum
-least c = let q = call (started (counted c)) .quantum in leb-true 1 q (and-first (leb 1 q) (leb q 65536) (quantum-good c))
+least : (c : tie.Else2) → 1 ≤ call (started (counted c)) .gatesPerRound
+least c = let q = call (started (counted c)) .gatesPerRound in leb-true 1 q (and-first (leb 1 q) (leb q 65536) (per-round-good c))
 
-most : (c : tie.Else2) → call (started (counted c)) .quantum ≤ 65536
-most c = let q = call (started (counted c)) .quantum in leb-true q 65536 (and-second (leb 1 q) (leb q 65536) (quantum-good c))
+most : (c : tie.Else2) → call (started (counted c)) .gatesPerRound ≤ 65536
+most c = let q = call (started (counted c)) .gatesPerRound in leb-true q 65536 (and-second (leb 1 q) (leb q 65536) (per-round-good c))
 
 -- the reason that the tests found is the call's
 by-tests : (c : tie.After-test-juries) (o : Option Reason) → verdictReason (c .test-juries .result .verdict) ≡ o
@@ -73,7 +73,7 @@ by-tests : (c : tie.After-test-juries) (o : Option Reason) → verdictReason (c 
 by-tests c o e =
     let two = limited c in
     result-by (call (begun c)) o
-    (by-juries (call (begun c)) (count-good (counted two)) (quantum-good two) ∙ sym (c .test-juries .ensures .reason) ∙ e)
+    (by-juries (call (begun c)) (count-good (counted two)) (per-round-good two) ∙ sym (c .test-juries .ensures .reason) ∙ e)
 
 is-between-requires : tie.Need-is-between-requires
 is-between-requires c κs = search needs
@@ -94,7 +94,7 @@ returns-2 c =
     let of = call (started (c .before .before)) in
     let b = c .before .is-between2 in
     sym (result-by of (some (reasonAt 20 0))
-    (bad-quantum of (count-good (c .before .before)) (sym (b .ensures) ∙ not-true (b .result) (c .if2 .taken))))
+    (bad-per-round of (count-good (c .before .before)) (sym (b .ensures) ∙ not-true (b .result) (c .if2 .taken))))
 
 test-juries-requires : tie.Need-test-juries-requires
 test-juries-requires c κs = few (c .before .before .before .before)
@@ -135,8 +135,8 @@ run-rounds-requires c κs =
     let two = limited (tested t) in
     record {
       few = few (counted two);
-      quantum-least = least two;
-      quantum-most = most two;
+      per-round-least = least two;
+      per-round-most = most two;
       accepted = no-reason t;
       conditionalAre = tested t .test-juries .ensures .conditional (passes t);
     }
@@ -152,7 +152,7 @@ room c =
       arith,
       tested t .test-juries .ensures .wires (passes t),
       ap length (fin .state .wiresAre),
-      wires-room (fin .done * of .quantum) 0 (juriesIn of) (of .tables) (no-reason t),
+      wires-room (fin .done * of .gatesPerRound) 0 (juriesIn of) (of .tables) (no-reason t),
     )
 
 slice-relend-prefix-empty : tie.Need-slice-relend-prefix-empty
@@ -171,8 +171,8 @@ rounds-of-requires c κs =
     let two = limited (tested t) in
     record {
       few = few (counted two);
-      quantum-least = least two;
-      quantum-most = most two;
+      per-round-least = least two;
+      per-round-most = most two;
       gates-most = few-gates 0 (juriesIn of) (of .tables) (no-reason t);
     }
 
@@ -190,7 +190,7 @@ returns-4 c =
     let t = passed run in
     let of = call (begun (tested t)) in
     let fin = run .run-rounds .ensures in
-    let given = fin .done * of .quantum in
+    let given = fin .done * of .gatesPerRound in
     let e = by-tests (tested t) none (passes t) in
     same-result _ _ (passes t ∙ sym (ap (λ (d : DispatchResult). d .reason) e))
     (c .rounds-of .ensures (of .tables) ∙ sym (ap (λ (d : DispatchResult). d .rounds) e))

@@ -22,17 +22,17 @@ abbrev unknown : JuryHeader → Tables → ℕ
 unknown s p = 0
 
 abbrev rate : ℕ → JuryHeader → Tables → ℕ
-rate quantum s p = roundsFor (s .gates) quantum
+rate gatesPerRound s p = roundsFor (s .gates) gatesPerRound
 
 abbrev Inv-loop : tie.InvT-loop
-Inv-loop count quantum headers rounds₀ j₀ rounds j =
+Inv-loop count gatesPerRound headers rounds₀ j₀ rounds j =
     (j ≤ count)
     × ((t : Tables) → (u : Tables)
-    × Upto (oneOf unknown) (oneOf (rate quantum)) (padding (take count headers)) (drop j (take count headers)) u
-    j rounds (eightOf (rate quantum) (take count headers) t))
+    × Upto (oneOf unknown) (oneOf (rate gatesPerRound)) (padding (take count headers)) (drop j (take count headers)) u
+    j rounds (eightOf (rate gatesPerRound) (take count headers) t))
 
 abbrev μ-loop : tie.MeasureT-loop
-μ-loop count quantum headers rounds₀ j₀ rounds j = count - j
+μ-loop count gatesPerRound headers rounds₀ j₀ rounds j = count - j
 
 abbrev blank : JuryHeader
 blank = record { candidates = 0; grades = 0; ballots = 0; gates = 0 }
@@ -55,17 +55,17 @@ few c =
       s .pre .gates-most,
     )
 
-start : (ss : List JuryHeader) (t : Tables) (quantum : ℕ) → length ss ≤ 8
-    → Upto (oneOf unknown) (oneOf (rate quantum)) (padding ss) ss t 0 (replicate 8 0) (eightOf (rate quantum) ss t)
+start : (ss : List JuryHeader) (t : Tables) (gatesPerRound : ℕ) → length ss ≤ 8
+    → Upto (oneOf unknown) (oneOf (rate gatesPerRound)) (padding ss) ss t 0 (replicate 8 0) (eightOf (rate gatesPerRound) ss t)
 unfolding eightOf
-start ss t quantum few = upto-start (oneOf unknown) (oneOf (rate quantum)) (padding ss) ss t (replicate 8 0)
+start ss t gatesPerRound few = upto-start (oneOf unknown) (oneOf (rate gatesPerRound)) (padding ss) ss t (replicate 8 0)
     (sym (eight-zeros unknown (λ (s : JuryHeader) (p : Tables). refl) ss t few))
 
 loop-holds : tie.Need-loop-holds Inv-loop μ-loop
 loop-holds c =
     let ss = take (c .args .count) (c .args .t2) in
     let short : length ss ≤ 8 = omega (arith, length-take-le (c .args .count) (c .args .t2) (enough c), c .pre .few) in
-    (omega arith, λ (t : Tables). (t, start ss t (c .args .quantum) short))
+    (omega arith, λ (t : Tables). (t, start ss t (c .args .gates-per-round) short))
 
 mul-header : tie.Need-mul-header Inv-loop μ-loop
 mul-header c = omega arith
@@ -77,7 +77,7 @@ sub-rounds : tie.Need-sub-rounds Inv-loop μ-loop
 sub-rounds c = search needs
 
 add-rounds : tie.Need-add-rounds Inv-loop μ-loop
-add-rounds c = omega (arith, few (c .before .before), c .before .before .before .before .pre .quantum-most)
+add-rounds c = omega (arith, few (c .before .before), c .before .before .before .before .pre .per-round-most)
 
 div-rounds : tie.Need-div-rounds Inv-loop μ-loop
 div-rounds c = search needs
@@ -97,27 +97,27 @@ loop-less c = omega arith
 -- the jury's number put in its place
 next : (c : tie.In-loop Inv-loop μ-loop) (t : Tables) → let s = c .before .before in let l = c .before .loop in
     let ss = take (s .args .count) (s .args .t2) in
-    (u : Tables) × Upto (oneOf unknown) (oneOf (rate (s .args .quantum))) (padding ss) (drop (l .j + 1) ss) u (l .j + 1)
-    (set (l .rounds) (l .j) ((getD (s .args .t2) (l .j) blank .gates + (s .args .quantum - 1)) / s .args .quantum))
-    (eightOf (rate (s .args .quantum)) ss t)
+    (u : Tables) × Upto (oneOf unknown) (oneOf (rate (s .args .gates-per-round))) (padding ss) (drop (l .j + 1) ss) u (l .j + 1)
+    (set (l .rounds) (l .j) ((getD (s .args .t2) (l .j) blank .gates + (s .args .gates-per-round - 1)) / s .args .gates-per-round))
+    (eightOf (rate (s .args .gates-per-round)) ss t)
 unfolding roundsFor
 next c t =
     let s = c .before .before in
     let l = c .before .loop in
     let ss = take (s .args .count) (s .args .t2) in
     let x = getD (s .args .t2) (l .j) blank in
-    let final = eightOf (rate (s .args .quantum)) ss t in
+    let final = eightOf (rate (s .args .gates-per-round)) ss t in
     let u = l .inv .1 t in
-    let first = subst (λ (left : List JuryHeader). Upto (oneOf unknown) (oneOf (rate (s .args .quantum)))
+    let first = subst (λ (left : List JuryHeader). Upto (oneOf unknown) (oneOf (rate (s .args .gates-per-round)))
     (padding ss) left (u .0) (l .j) (l .rounds) final)
     (left-cons (s .args .count) (l .j) (s .args .t2) blank (c .loop-test .taken) (enough s)) (u .1) in (
       behind x (u .0),
-      subst (λ (left : List JuryHeader). Upto (oneOf unknown) (oneOf (rate (s .args .quantum))) (padding ss) left
+      subst (λ (left : List JuryHeader). Upto (oneOf unknown) (oneOf (rate (s .args .gates-per-round))) (padding ss) left
           (behind x (u .0)) (l .j + 1)
-          (set (l .rounds) (l .j) ((x .gates + (s .args .quantum - 1)) / s .args .quantum)) final)
+          (set (l .rounds) (l .j) ((x .gates + (s .args .gates-per-round - 1)) / s .args .gates-per-round)) final)
           (ap (λ (i : ℕ). drop i ss) (sym (add-one (l .j))))
-          (upto-set unknown (rate (s .args .quantum)) (padding ss) x (drop (suc (l .j)) ss) (u .0) (l .j)
-          (l .rounds) final first ((x .gates + (s .args .quantum - 1)) / s .args .quantum) refl),
+          (upto-set unknown (rate (s .args .gates-per-round)) (padding ss) x (drop (suc (l .j)) ss) (u .0) (l .j)
+          (l .rounds) final first ((x .gates + (s .args .gates-per-round - 1)) / s .args .gates-per-round) refl),
     )
 
 loop-again : tie.Need-loop-again Inv-loop μ-loop
@@ -136,10 +136,10 @@ returns c =
     (omega (arith, length-take-le (s .args .count) (s .args .t2) (enough s), c .loop-test .left)) in
     λ (t : Tables).
     let u = l .inv .1 t in
-    upto-end (oneOf unknown) (oneOf (rate (s .args .quantum))) (padding ss) (u .0) (l .j) (l .rounds)
-    (eightOf (rate (s .args .quantum)) ss t)
-    (subst (λ (left : List JuryHeader). Upto (oneOf unknown) (oneOf (rate (s .args .quantum))) (padding ss) left
-    (u .0) (l .j) (l .rounds) (eightOf (rate (s .args .quantum)) ss t)) none-left (u .1))
+    upto-end (oneOf unknown) (oneOf (rate (s .args .gates-per-round))) (padding ss) (u .0) (l .j) (l .rounds)
+    (eightOf (rate (s .args .gates-per-round)) ss t)
+    (subst (λ (left : List JuryHeader). Upto (oneOf unknown) (oneOf (rate (s .args .gates-per-round))) (padding ss) left
+    (u .0) (l .j) (l .rounds) (eightOf (rate (s .args .gates-per-round)) ss t)) none-left (u .1))
 
 pub rounds-of-spec : {M : Type 1} → statement M
 rounds-of-spec =

@@ -9,22 +9,22 @@ use native.Mathlib.Numerals.{add-one}
 use native.Mathlib.Omega.{arith}
 use lib.ListN.{length, take, replicate, length-take}
 use Rattle.basics.proofs.Cases.{below-or-not}
-use Rattle.dispatch_rounds.specs.Tables.{Tables, lent}
+use Rattle.dispatch_rounds.specs.Tables.{Tables, tablesOf}
 use Rattle.dispatch_rounds.specs.Rounds.{RoundState}
 use Rattle.dispatch.proofs.Whole.{state-start, few-gates, gets-gate}
 use Rattle.dispatch.proofs.dispatch.run_rounds.Statement.{statement}
 use Rattle.dispatch.proofs.dispatch.run_rounds.Tie as tie
 
 abbrev Inv-loop : tie.InvT-loop
-Inv-loop count headers conditional quantum lists ballots tapes wires₀ boards₀ most shown₀ done₀ wires boards shown done =
-    RoundState (done * quantum) (take count headers) (lent lists ballots tapes wires₀ boards₀) conditional wires boards shown
+Inv-loop count headers conditional gatesPerRound lists ballots tapes wires₀ boards₀ most shown₀ done₀ wires boards shown done =
+    RoundState (done * gatesPerRound) (take count headers) (tablesOf lists ballots tapes wires₀ boards₀) conditional wires boards shown
     × (length wires ≡ length wires₀)
     × (length boards ≡ length boards₀)
     × (done ≤ most)
-    × ((r : ℕ) → r < done → r * quantum < most)
+    × ((r : ℕ) → r < done → r * gatesPerRound < most)
 
 abbrev μ-loop : tie.MeasureT-loop
-μ-loop count headers conditional quantum lists ballots tapes wires₀ boards₀ most shown₀ done₀ wires boards shown done = most - done
+μ-loop count headers conditional gatesPerRound lists ballots tapes wires₀ boards₀ most shown₀ done₀ wires boards shown done = most - done
 
 -- From a round back to where the function starts.
 abbrev begun : tie.In-loop Inv-loop μ-loop → tie.Start Inv-loop μ-loop
@@ -32,7 +32,7 @@ begun c = c .before .before .before .before .before .before .before .before
 
 -- the tables as they are lent
 abbrev all : tie.Start Inv-loop μ-loop → Tables
-all s = lent (s .args .lists .now) (s .args .ballots .now) (s .args .tapes .now) (s .args .wires .now) (s .args .boards .now)
+all s = tablesOf (s .args .lists .now) (s .args .ballots .now) (s .args .tapes .now) (s .args .wires .now) (s .args .boards .now)
 
 -- no jury has too many gates
 few : (c : tie.At-loop Inv-loop μ-loop) → c .before .most-gates .result ≤ 1048576
@@ -41,8 +41,8 @@ few c =
     omega (arith, c .before .most-gates .ensures, few-gates 0 (take (s .args .count) (s .args .headers)) (all s) (s .pre .accepted))
 
 -- a round gives at least one gate
-below : (done quantum most : ℕ) → 1 ≤ quantum → done * quantum < most → done < most
-below done quantum most h l = omega (arith, mul-le-mul {n₁ = done} {m₁ = 1} {n₂ = done} {m₂ = quantum} (omega arith) h)
+below : (done gatesPerRound most : ℕ) → 1 ≤ gatesPerRound → done * gatesPerRound < most → done < most
+below done gatesPerRound most h l = omega (arith, mul-le-mul {n₁ = done} {m₁ = 1} {n₂ = done} {m₂ = gatesPerRound} (omega arith) h)
 
 most-gates-requires : tie.Need-most-gates-requires Inv-loop μ-loop
 most-gates-requires c κs = c .before .before .before .before .before .pre .few
@@ -54,7 +54,7 @@ loop-holds c =
     let ss = take (a .count) (a .headers) in
     let short : length ss ≤ 8 = omega (arith, length-take (a .count) (a .headers), s .pre .few) in (
       subst (λ (n : ℕ). RoundState n ss (all s) (a .conditional) (a .wires .now) (a .boards .now) (replicate 8 0))
-          (sym (zero-mul (a .quantum)))
+          (sym (zero-mul (a .gates-per-round)))
           (state-start ss (all s) (a .conditional) short (s .pre .accepted) (s .pre .conditionalAre)),
       refl,
       refl,
@@ -67,8 +67,8 @@ mul-loop c =
     let s = c .before .before .before .before .before .before .before in
     omega (
       arith,
-      mul-le-mul {n₁ = c .loop .done} {m₁ = s .args .quantum} {n₂ = 1048576} {m₂ = 65536}
-          (omega (arith, c .loop .inv .3, few c)) (s .pre .quantum-most),
+      mul-le-mul {n₁ = c .loop .done} {m₁ = s .args .gates-per-round} {n₂ = 1048576} {m₂ = 65536}
+          (omega (arith, c .loop .inv .3, few c)) (s .pre .per-round-most),
     )
 
 round-requires : tie.Need-round-requires Inv-loop μ-loop
@@ -78,8 +78,8 @@ round-requires c κs =
     let most = few (c .before .before .before) in
     record {
       few = s .pre .few;
-      quantum-least = s .pre .quantum-least;
-      quantum-most = s .pre .quantum-most;
+      per-round-least = s .pre .per-round-least;
+      per-round-most = s .pre .per-round-most;
       done-most = omega (arith, l .inv .3, most);
       wires-lent = s .args .wires .now;
       boards-lent = s .args .boards .now;
@@ -95,7 +95,7 @@ add-done c =
 needed : (c : tie.In-loop Inv-loop μ-loop) → c .before .loop .done < c .before .before .most-gates .result
 needed c =
     let s = c .before .before .before .before .before .before .before .before in
-    below (c .before .loop .done) (s .args .quantum) (c .before .before .most-gates .result) (s .pre .quantum-least) (c .loop-test .taken)
+    below (c .before .loop .done) (s .args .gates-per-round) (c .before .before .most-gates .result) (s .pre .per-round-least) (c .loop-test .taken)
 
 loop-less : tie.Need-loop-less Inv-loop μ-loop
 loop-less c = omega (arith, needed (c .before .before .before .before .before .before .before))
@@ -106,23 +106,23 @@ loop-again c =
     let a = s .args in
     let l = c .before .before .before .before .before .before .before .before .loop in
     let r = c .before .before .before .before .round in (
-      subst (λ (n : ℕ). RoundState (n * a .quantum) (take (a .count) (a .headers)) (all s) (a .conditional)
+      subst (λ (n : ℕ). RoundState (n * a .gates-per-round) (take (a .count) (a .headers)) (all s) (a .conditional)
           (r .last .1 .1 .1 .1 .1 .1 .1 .1 .1 .0) (r .last .1 .1 .1 .1 .1 .1 .1 .1 .1 .1 .0) (r .result))
           (sym (add-one (l .done)))
           (r .ensures (a .wires .now) (a .boards .now) (l .inv .0)),
       r .kept .1 .1 .1 .1 .1 .1 .1 .1 .1 .0 ∙ l .inv .1,
       r .kept .1 .1 .1 .1 .1 .1 .1 .1 .1 .1 .0 ∙ l .inv .2,
       omega (arith, needed (c .before .before .before .before .before .before .before)),
-      further (a .quantum)
+      further (a .gates-per-round)
           ((c .before .before .before .before .before .before .before) .before .before .most-gates .result) (l .done)
           (l .inv .4) (c .before .before .before .before .before .before .before .loop-test .taken),
     )
   where
-    further : (quantum most done : ℕ) → ((r : ℕ) → r < done → r * quantum < most) → done * quantum < most
-        → (r : ℕ) → r < done + 1 → r * quantum < most
-    further quantum most done before now r h =
+    further : (gatesPerRound most done : ℕ) → ((r : ℕ) → r < done → r * gatesPerRound < most) → done * gatesPerRound < most
+        → (r : ℕ) → r < done + 1 → r * gatesPerRound < most
+    further gatesPerRound most done before now r h =
         ⊎-elim (λ (l : r < done). before r l)
-        (λ (l : done ≤ r). let e : r ≡ done = omega arith in subst (λ (n : ℕ). n * quantum < most) (sym e) now) (below-or-not r done)
+        (λ (l : done ≤ r). let e : r ≡ done = omega arith in subst (λ (n : ℕ). n * gatesPerRound < most) (sym e) now) (below-or-not r done)
 
 same-length : tie.Need-same-length Inv-loop μ-loop
 same-length c = c .before .loop .inv .1
@@ -140,7 +140,7 @@ returns c =
       done = l .done;
       shown = l .shown;
       all = omega (arith, c .loop-test .left, most);
-      none-idle = λ (r : ℕ) h. gets-gate (s .args .quantum) r ss (s .pre .quantum-least) (omega (arith, l .inv .4 r h, most));
+      none-idle = λ (r : ℕ) h. gets-gate (s .args .gates-per-round) r ss (s .pre .per-round-least) (omega (arith, l .inv .4 r h, most));
       state = l .inv .0;
     }
 

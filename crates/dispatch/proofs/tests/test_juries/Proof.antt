@@ -13,7 +13,7 @@ use Rattle.gates.specs.Gate.{gatesOf}
 use Rattle.jury.specs.Reason.{reasonOf, firstOf}
 use Rattle.tally.specs.Answer.{outcome, outcomeOf, sizeOf}
 use Rattle.dispatch_rounds.specs.declared.header.JuryHeader.{JuryHeader}
-use Rattle.dispatch_rounds.specs.Tables.{Tables, lent, listOf, conditionalIn}
+use Rattle.dispatch_rounds.specs.Tables.{Tables, tablesOf, listOf, conditionalIn}
 use Rattle.dispatch_rounds.specs.Reasons.{reasonsOf, atJury}
 use Rattle.dispatch.specs.Reasons.{verdictReason}
 use Rattle.dispatch_rounds.specs.inner.State.{placesAfter}
@@ -26,7 +26,7 @@ use Rattle.dispatch.proofs.tests.test_juries.Tie as tie
 
 abbrev Inv-loop : tie.InvT-loop
 Inv-loop count lists ballots tapes wires boards headers conditional₀ at₀ j₀ conditional at j =
-    (j ≤ count) × TestedSoFar (take count headers) (lent lists ballots tapes wires boards) j (drop j (take count headers)) at conditional
+    (j ≤ count) × TestedSoFar (take count headers) (tablesOf lists ballots tapes wires boards) j (drop j (take count headers)) at conditional
 
 abbrev μ-loop : tie.MeasureT-loop
 μ-loop count lists ballots tapes wires boards headers conditional₀ at₀ j₀ conditional at j = count - j
@@ -35,7 +35,7 @@ abbrev blank : JuryHeader
 blank = record { candidates = 0; grades = 0; ballots = 0; gates = 0 }
 
 abbrev all : tie.Start Inv-loop μ-loop → Tables
-all s = lent (s .args .lists .now) (s .args .ballots .now) (s .args .tapes .now) (s .args .wires .now) (s .args .boards .now)
+all s = tablesOf (s .args .lists .now) (s .args .ballots .now) (s .args .tapes .now) (s .args .wires .now) (s .args .boards .now)
 
 enough : (s : tie.Start Inv-loop μ-loop) → s .args .count ≤ length (s .args .t2)
 enough s = omega (arith, s .pre, s .good .1 .0 .1 .0 .1)

@@ -19,7 +19,7 @@ use Rattle.tally.specs.Test.{testOutcome}
 use Rattle.tally.specs.Run.{bufferReasons}
 use Rattle.tally.proofs.TestReasons.{TestPassed, test-passed}
 use Rattle.tally.proofs.RunReasons.{by-test, by-ballots, by-lent}
-use Rattle.dispatch_rounds.specs.Tables.{Tables, lent, shapeOf, listOf, piecesOf}
+use Rattle.dispatch_rounds.specs.Tables.{Tables, tablesOf, headerShape, listOf, piecesOf}
 use Rattle.dispatch_rounds.specs.Reasons.{reasonsOf}
 use Rattle.dispatch.proofs.JuryTests.{fitting-most, list-piece, ballots-piece, tape-piece, wires-piece, board-piece, stated-size}
 use Rattle.dispatch.proofs.tests.test_jury.Statement.{statement}
@@ -27,7 +27,7 @@ use Rattle.dispatch.proofs.tests.test_jury.Tie as tie
 
 -- the tables that are left
 abbrev all : tie.Start → Tables
-all s = lent (s .args .lists .now) (s .args .ballots .now) (s .args .tapes .now) (s .args .wires .now) (s .args .boards .now)
+all s = tablesOf (s .args .lists .now) (s .args .ballots .now) (s .args .tapes .now) (s .args .wires .now) (s .args .boards .now)
 
 abbrev pieces : tie.Start → Tables
 pieces s = piecesOf (s .args .header) (all s)
@@ -66,35 +66,35 @@ refuses s r e = sym (ap (λ (o : Option Reason). outcome o (sizeOf (gatesOf (lis
 
 -- the test of the list, on its piece
 list-outcome : (c : tie.After-test) → let s = to-start c in outcomeOf (c .test .result)
-    ≡ testOutcome (shapeOf (s .args .header)) (pieces s .lists)
+    ≡ testOutcome (headerShape (s .args .header)) (pieces s .lists)
 list-outcome c =
     let s = to-start c in
     let n = c .before .before .numbers-fitting in
-    c .test .ensures ∙ ap (testOutcome (shapeOf (s .args .header))) (list-piece (s .args .header) (all s) (n .result) (n .ensures))
+    c .test .ensures ∙ ap (testOutcome (headerShape (s .args .header))) (list-piece (s .args .header) (all s) (n .result) (n .ensures))
 
 size : tie.After-known-told → Size
 size c = let g = c .before .answer .given in record { gates = g .0 .0; conditional = g .0 .1 .0 }
 
-passed : (c : tie.After-known-told) → let s = listed c in TestPassed (shapeOf (s .args .header)) (pieces s .lists) (size c)
+passed : (c : tie.After-known-told) → let s = listed c in TestPassed (headerShape (s .args .header)) (pieces s .lists) (size c)
 unfolding outcomeOf size
 passed c =
     let s = listed c in
-    test-passed (shapeOf (s .args .header)) (pieces s .lists) (size c)
+    test-passed (headerShape (s .args .header)) (pieces s .lists) (size c)
     (sym (list-outcome (to-list-test c)) ∙ ap outcomeOf (c .before .answer .given .1))
 
 -- the test of the ballots, on theirs
 ballots-outcome : (c : tie.After-test2) → let s = listed (to-list-passed c) in refusedFor (c .test2 .result)
-    ≡ firstOf (ballotReasons (shapeOf (s .args .header)) (pieces s .ballots))
+    ≡ firstOf (ballotReasons (headerShape (s .args .header)) (pieces s .ballots))
 ballots-outcome c =
     let s = listed (to-list-passed c) in
     let n = c .before .before .bytes-fitting in
     let i = c .before .before .before .ballot-bytes in
     c .test2 .ensures
-    ∙ ap (λ (x : List ℕ). firstOf (ballotReasons (shapeOf (s .args .header)) x))
+    ∙ ap (λ (x : List ℕ). firstOf (ballotReasons (headerShape (s .args .header)) x))
     (ballots-piece (s .args .header) (all s) (i .result) (n .result) (i .ensures) (n .ensures))
 
 no-reason : (c : tie.After-enum-told2) → let s = listed (balloted c) in
-    firstOf (ballotReasons (shapeOf (s .args .header)) (pieces s .ballots)) ≡ none
+    firstOf (ballotReasons (headerShape (s .args .header)) (pieces s .ballots)) ≡ none
 unfolding refusedFor
 no-reason c = sym (ballots-outcome (to-ballots-test c)) ∙ ap refusedFor (c .enum-told2 .given .1)
 
@@ -124,11 +124,11 @@ returns c =
     let p = pieces s in
     let r = reasonOf (c .enum-told .given .0 .0) in
     let e = ap outcomeOf (c .enum-told .given .1) in
-    e ∙ refuses s r (by-test (shapeOf (s .args .header)) (p .lists) (p .ballots) (p .tapes) (p .wires) (p .boards) r
+    e ∙ refuses s r (by-test (headerShape (s .args .header)) (p .lists) (p .ballots) (p .tapes) (p .wires) (p .boards) r
     (sym (list-outcome (c .before .before)) ∙ e))
 
 ballot-bytes-requires : tie.Need-ballot-bytes-requires
-ballot-bytes-requires c κs = true-T (withinLimits (shapeOf (listed c .args .header))) (passed c .within)
+ballot-bytes-requires c κs = true-T (withinLimits (headerShape (listed c .args .header))) (passed c .within)
 
 bytes-fitting-requires : tie.Need-bytes-fitting-requires
 bytes-fitting-requires c κs = search needs
@@ -142,7 +142,7 @@ slice-aggregate-test-2 c =
     (omega (arith, n .ensures, fitting-most (i .result + 0) (length (s .args .ballots .now)))))
 
 test-requires-2 : tie.Need-test-requires-2
-test-requires-2 c κs = true-T (withinLimits (shapeOf (listed (c .before .before .before) .args .header)))
+test-requires-2 c κs = true-T (withinLimits (headerShape (listed (c .before .before .before) .args .header)))
     (passed (c .before .before .before) .within)
 
 enum-known-reason : tie.Need-enum-known-reason
@@ -155,7 +155,7 @@ returns-2 c =
     let s = listed (to-list-passed t) in
     let p = pieces s in
     let r = reasonOf (c .before .reason .given .0 .0) in
-    refuses s r (by-ballots (shapeOf (s .args .header)) (p .lists) (p .ballots) (p .tapes) (p .wires) (p .boards)
+    refuses s r (by-ballots (headerShape (s .args .header)) (p .lists) (p .ballots) (p .tapes) (p .wires) (p .boards)
     (passed (to-list-passed t) .reasons) r (sym (ballots-outcome t) ∙ ap refusedFor (c .before .reason .given .1)))
 
 enum-told-2 : tie.Need-enum-told-2
@@ -223,7 +223,7 @@ enum-told-3 c = search needs
 -- the tests of the buffers, on their pieces
 lent-outcome : (c : tie.After-test-buffers) → let s = listed (buffered c) in let p = pieces s in
     refusedFor (c .test-buffers .result)
-    ≡ firstOf (bufferReasons (ballotBytes (shapeOf (s .args .header))) (s .args .header .candidates)
+    ≡ firstOf (bufferReasons (ballotBytes (headerShape (s .args .header))) (s .args .header .candidates)
     (size (buffered c)) (p .tapes) (p .wires) (p .boards))
 unfolding size
 lent-outcome c =
@@ -241,13 +241,13 @@ lent-outcome c =
     c .test-buffers .ensures
     ∙ ap (λ (x : ℕ). firstOf (bufferReasons x k z (take (n .result) (s .args .tapes .now))
     (take (v .result) (s .args .wires .now)) (take (o .result) (s .args .boards .now)))) (i .ensures)
-    ∙ ap (λ (x : List ℕ). firstOf (bufferReasons (ballotBytes (shapeOf st)) k z x
+    ∙ ap (λ (x : List ℕ). firstOf (bufferReasons (ballotBytes (headerShape st)) k z x
     (take (v .result) (s .args .wires .now)) (take (o .result) (s .args .boards .now))))
     (tape-piece st (all s) (z .conditional) (n .result) (facts .1) (n .ensures))
-    ∙ ap (λ (x : List ℕ). firstOf (bufferReasons (ballotBytes (shapeOf st)) k z (p .tapes) x
+    ∙ ap (λ (x : List ℕ). firstOf (bufferReasons (ballotBytes (headerShape st)) k z (p .tapes) x
     (take (o .result) (s .args .boards .now))))
     (wires-piece st (all s) (i .result) (z .gates) (v .result) (i .ensures) (facts .0) (v .ensures))
-    ∙ ap (λ (x : List ℕ). firstOf (bufferReasons (ballotBytes (shapeOf st)) k z (p .tapes) (p .wires) x))
+    ∙ ap (λ (x : List ℕ). firstOf (bufferReasons (ballotBytes (headerShape st)) k z (p .tapes) (p .wires) x))
     (board-piece st (all s) (z .conditional) (o .result) (facts .1) (o .ensures))
 
 -- what they answer is the answer of the whole
@@ -258,7 +258,7 @@ whole-outcome c =
     let told = buffered c in
     let s = listed (buffered c) in
     let p = pieces s in
-    by-lent (shapeOf (s .args .header)) (p .lists) (p .ballots) (p .tapes) (p .wires) (p .boards)
+    by-lent (headerShape (s .args .header)) (p .lists) (p .ballots) (p .tapes) (p .wires) (p .boards)
     (passed told .reasons) (size told) (refusedFor (c .test-buffers .result)) (passed told .size)
     (no-reason (to-ballots-passed c)) (sym (lent-outcome c))
 

@@ -12,7 +12,7 @@ use lib.Seq.{length-take-le}
 use Rattle.jury.specs.Shape.{ballotBytes}
 use Rattle.dispatch_rounds.specs.declared.header.JuryHeader.{JuryHeader}
 use Rattle.dispatch_rounds.specs.declared.header.Places.{Places}
-use Rattle.dispatch_rounds.specs.Tables.{Tables, lent, shapeOf, conditionalIn, piecesOf}
+use Rattle.dispatch_rounds.specs.Tables.{Tables, tablesOf, headerShape, conditionalIn, piecesOf}
 use Rattle.dispatch_rounds.specs.Rounds.{juryWires, juryBoard, juryShown, RoundState}
 use Rattle.dispatch_rounds.specs.inner.State.{placesAfter, JuryState}
 use Rattle.dispatch_rounds.proofs.Passed.{Passed}
@@ -21,16 +21,16 @@ use Rattle.dispatch_rounds.proofs.round.round.Statement.{statement}
 use Rattle.dispatch_rounds.proofs.round.round.Tie as tie
 
 abbrev Inv-loop : tie.InvT-loop
-Inv-loop count done quantum lists ballots tapes wires₀ boards₀ headers conditional given shown₀ at₀ j₀ wires boards shown at j =
+Inv-loop count done gatesPerRound lists ballots tapes wires₀ boards₀ headers conditional given shown₀ at₀ j₀ wires boards shown at j =
     (j ≤ count)
-    × ((ws bs : List ℕ) → RoundState given (take count headers) (lent lists ballots tapes ws bs) conditional wires₀ boards₀ shown₀
-    → Mid (take count headers) (lent lists ballots tapes ws bs) given (given + quantum) conditional j
+    × ((ws bs : List ℕ) → RoundState given (take count headers) (tablesOf lists ballots tapes ws bs) conditional wires₀ boards₀ shown₀
+    → Mid (take count headers) (tablesOf lists ballots tapes ws bs) given (given + gatesPerRound) conditional j
     (drop j (take count headers)) at wires boards shown)
     × (length wires ≡ length wires₀)
     × (length boards ≡ length boards₀)
 
 abbrev μ-loop : tie.MeasureT-loop
-μ-loop count done quantum lists ballots tapes wires₀ boards₀ headers conditional given shown₀ at₀ j₀ wires boards shown at j = count - j
+μ-loop count done gatesPerRound lists ballots tapes wires₀ boards₀ headers conditional given shown₀ at₀ j₀ wires boards shown at j = count - j
 
 -- The stages of a turn: it begins; the places after the jury are known; the jury has had its turn.
 abbrev begun : tie.In-loop Inv-loop μ-loop → tie.Start Inv-loop μ-loop
@@ -48,11 +48,11 @@ blank = record { candidates = 0; grades = 0; ballots = 0; gates = 0 }
 
 -- the tables as they were lent, for some old contents of wires and boards
 abbrev lentTo : tie.Start Inv-loop μ-loop → List ℕ → List ℕ → Tables
-lentTo s ws bs = lent (s .args .lists .now) (s .args .ballots .now) (s .args .tapes .now) ws bs
+lentTo s ws bs = tablesOf (s .args .lists .now) (s .args .ballots .now) (s .args .tapes .now) ws bs
 
 -- the gates that each jury was given before
 abbrev given : tie.Start Inv-loop μ-loop → ℕ
-given s = s .args .done * s .args .quantum
+given s = s .args .done * s .args .gates-per-round
 
 abbrev Entry : tie.Start Inv-loop μ-loop → List ℕ → List ℕ → Type 0
 Entry s ws bs =
@@ -72,13 +72,13 @@ here c ws bs = from (c .before .loop .at) (lentTo (c .before .before .before .be
 mid : (c : tie.In-loop Inv-loop μ-loop) (ws bs : List ℕ)
     → Entry (c .before .before .before .before .before .before .before) ws bs → let s =
     c .before .before .before .before .before .before .before in let l = c .before .loop in
-    Mid (take (s .args .count) (s .args .t2)) (lentTo s ws bs) (given s) (given s + s .args .quantum) (s .args .t3) (l .j)
+    Mid (take (s .args .count) (s .args .t2)) (lentTo s ws bs) (given s) (given s + s .args .gates-per-round) (s .args .t3) (l .j)
     (jury c ∷ drop (suc (l .j)) (take (s .args .count) (s .args .t2))) (l .at) (l .wires) (l .boards) (l .shown)
 mid c ws bs st =
     let s = c .before .before .before .before .before .before .before in
     let l = c .before .loop in
     subst (λ (left : List JuryHeader). Mid (take (s .args .count) (s .args .t2)) (lentTo s ws bs) (given s)
-    (given s + s .args .quantum) (s .args .t3) (l .j) left (l .at) (l .wires) (l .boards) (l .shown))
+    (given s + s .args .gates-per-round) (s .args .t3) (l .j) left (l .at) (l .wires) (l .boards) (l .shown))
     (left-cons (s .args .count) (l .j) (s .args .t2) blank (c .loop-test .taken) (enough s)) (l .inv .1 ws bs st)
 
 -- what is known of it, whatever the wires and boards held
@@ -89,11 +89,11 @@ record Turn (c : tie.In-loop Inv-loop μ-loop) (ws bs : List ℕ) : Type 0 where
   pub inside : Inside (c .before .loop .at) (lentTo (c .before .before .before .before .before .before .before) ws bs)
   pub inside-after : Inside (placesAfter (c .before .loop .at) (jury c) (conditionalIn (jury c) (here c ws bs)))
       (lentTo (c .before .before .before .before .before .before .before) ws bs)
-  pub wires : take (ballotBytes (shapeOf (jury c)) + jury c .gates)
+  pub wires : take (ballotBytes (headerShape (jury c)) + jury c .gates)
       (drop (c .before .loop .at .wires) (c .before .loop .wires))
       ≡ juryWires (given (c .before .before .before .before .before .before .before)) (jury c)
       (piecesOf (jury c) (here c ws bs))
-  pub wires-room : c .before .loop .at .wires + (ballotBytes (shapeOf (jury c)) + jury c .gates) ≤ length (c .before .loop .wires)
+  pub wires-room : c .before .loop .at .wires + (ballotBytes (headerShape (jury c)) + jury c .gates) ≤ length (c .before .loop .wires)
   pub boards : take (conditionalIn (jury c) (here c ws bs) + jury c .candidates)
       (drop (c .before .loop .at .boards) (c .before .loop .boards))
       ≡ juryBoard (given (c .before .before .before .before .before .before .before)) (jury c)
@@ -120,7 +120,7 @@ in-turn c ws bs st =
     let ss = take (s .args .count) (s .args .t2) in
     let t = lentTo s ws bs in
     let g = given s in
-    let n = given s + s .args .quantum in
+    let n = given s + s .args .gates-per-round in
     let left = drop (suc (l .j)) ss in
     let m = mid c ws bs st in
     let p = mid-passed ss t g n (s .args .t3) (l .j) (jury c) left (l .at) (l .wires) (l .boards) (l .shown) m in
@@ -160,8 +160,8 @@ mul-given c =
     let s = c .before .before .before .before .before in
     omega (
       arith,
-      mul-le-mul {n₁ = s .args .done} {m₁ = s .args .quantum} {n₂ = 1048576} {m₂ = 65536}
-          (s .pre .done-most) (s .pre .quantum-most),
+      mul-le-mul {n₁ = s .args .done} {m₁ = s .args .gates-per-round} {n₂ = 1048576} {m₂ = 65536}
+          (s .pre .done-most) (s .pre .per-round-most),
       s .pre .done-most,
     )
 
@@ -171,7 +171,7 @@ loop-holds c =
     let a = s .args in (
       omega arith,
       λ (ws bs : List ℕ) st.
-          mid-start (given s) (given s + a .quantum) (take (a .count) (a .t2)) (a .lists .now) (a .ballots .now)
+          mid-start (given s) (given s + a .gates-per-round) (take (a .count) (a .t2)) (a .lists .now) (a .ballots .now)
           (a .tapes .now) ws bs (a .t3) (a .wires .now) (a .boards .now) (a .before) st,
       refl,
       refl,
@@ -304,7 +304,7 @@ ready : (c : tie.After-after Inv-loop μ-loop) (ws bs : List ℕ) → Turn (c .b
     begun (in-loop c) in let l = c .before .before .before .loop in let j = jury (c .before .before) in let p =
     piecesOf j (here (c .before .before) ws bs) in
     JuryState (given s) j
-    (lent (take (c .after .result .lists - l .at .lists) (drop (l .at .lists) (s .args .lists .now)))
+    (tablesOf (take (c .after .result .lists - l .at .lists) (drop (l .at .lists) (s .args .lists .now)))
     (take (c .after .result .ballots - l .at .ballots) (drop (l .at .ballots) (s .args .ballots .now)))
     (take (c .after .result .tapes - l .at .tapes) (drop (l .at .tapes) (s .args .tapes .now))) (p .wires) (p .boards))
     (take (c .after .result .wires - l .at .wires) (drop (l .at .wires) (l .wires)))
@@ -322,8 +322,8 @@ turn-requires c κs =
     let s = begun (in-loop a) in
     let p = piecesOf (jury (a .before .before)) (here (a .before .before) (s .pre .wires-lent) (s .pre .boards-lent)) in
     record {
-      quantum-least = s .pre .quantum-least;
-      quantum-most = s .pre .quantum-most;
+      per-round-least = s .pre .per-round-least;
+      per-round-most = s .pre .per-round-most;
       wires-lent = p .wires;
       board-lent = p .boards;
       state = ready a (s .pre .wires-lent) (s .pre .boards-lent) (known (a .before .before));
@@ -345,7 +345,7 @@ loop-less c = omega arith
 next : (c : tie.After-turn Inv-loop μ-loop) (ws bs : List ℕ) → Entry (begun (in-loop (placed c))) ws bs → let a =
     c .before .before .before .before .before .before in let s = begun (in-loop (placed c)) in let l =
     a .before .before .before .loop in
-    Mid (take (s .args .count) (s .args .t2)) (lentTo s ws bs) (given s) (given s + s .args .quantum) (s .args .t3)
+    Mid (take (s .args .count) (s .args .t2)) (lentTo s ws bs) (given s) (given s + s .args .gates-per-round) (s .args .t3)
     (l .j + 1) (drop (l .j + 1) (take (s .args .count) (s .args .t2))) (a .after .result)
     (take (l .at .wires) (l .wires)
     ++ (c .turn .last .1 .1 .1 .1 .1 .1 .1 .0
@@ -367,11 +367,11 @@ next c ws bs st =
     let h = handed a ws bs k in
     let places = places-are a ws bs k in
     let p = piecesOf j (here i ws bs) in
-    let n = ballotBytes (shapeOf j) + j .gates in
+    let n = ballotBytes (headerShape j) + j .gates in
     let m = conditionalIn j (here i ws bs) + j .candidates in
     let q = c .turn .last .1 .1 .1 .1 .1 .1 .1 .0 in
     let r = c .turn .last .1 .1 .1 .1 .1 .1 .1 .1 .0 in
-    let after = jury-back (g + s .args .quantum) j p _ _ _ q r (c .turn .result) (h .list) (h .ballots) (h .tape)
+    let after = jury-back (g + s .args .gates-per-round) j p _ _ _ q r (c .turn .result) (h .list) (h .ballots) (h .tape)
     (c .turn .ensures (p .wires) (p .boards) (ready a ws bs k)) in
     let long : length q ≡ n = c .turn .kept .1 .1 .1 .1 .1 .1 .1 .0
     ∙ ap length (slice-is n (l .at .wires) (a .after .result .wires) (l .wires)
@@ -379,7 +379,7 @@ next c ws bs st =
     let high : length r ≡ m = c .turn .kept .1 .1 .1 .1 .1 .1 .1 .1 .0
     ∙ ap length (slice-is m (l .at .boards) (a .after .result .boards) (l .boards)
     (ap (λ (x : Places). x .boards) places)) ∙ part-long m (l .at .boards) (l .boards) (k .boards-room) in
-    mid-as ss t g (g + s .args .quantum) (s .args .t3) (suc (l .j)) (l .j + 1) (drop (suc (l .j)) ss)
+    mid-as ss t g (g + s .args .gates-per-round) (s .args .t3) (suc (l .j)) (l .j + 1) (drop (suc (l .j)) ss)
     (drop (l .j + 1) ss) _ (a .after .result) _ _ _ _ _
     (add-one (l .j))
     (ap (λ (x : ℕ). drop x ss) (add-one (l .j)))
@@ -388,7 +388,7 @@ next c ws bs st =
     {x = a .after .result .wires - l .at .wires} {y = n} (omega (arith, ap (λ (x : Places). x .wires) places)))
     (ap (λ (x : ℕ). take (l .at .boards) (l .boards) ++ (r ++ drop x (drop (l .at .boards) (l .boards))))
     {x = a .after .result .boards - l .at .boards} {y = m} (omega (arith, ap (λ (x : Places). x .boards) places)))
-    (mid-next ss t g (g + s .args .quantum) (s .args .t3) (l .j) j (drop (suc (l .j)) ss) (l .at) (l .wires)
+    (mid-next ss t g (g + s .args .gates-per-round) (s .args .t3) (l .j) j (drop (suc (l .j)) ss) (l .at) (l .wires)
     (l .boards) (l .shown) (mid i ws bs st) q r (c .turn .result) after long high)
 
 -- no length changes
@@ -444,10 +444,10 @@ returns c =
     (omega (arith, length-take-le (s .args .count) (s .args .t2) (enough s), c .loop-test .left)) in
     λ (ws bs : List ℕ) st.
     subst (λ (n : ℕ). RoundState n ss (lentTo s ws bs) (s .args .t3) (l .wires) (l .boards) (l .shown))
-    (sym (suc-mul (s .args .done) (s .args .quantum)))
-    (mid-end ss (lentTo s ws bs) (given s) (given s + s .args .quantum) (s .args .t3) (l .j) (l .at) (l .wires)
+    (sym (suc-mul (s .args .done) (s .args .gates-per-round)))
+    (mid-end ss (lentTo s ws bs) (given s) (given s + s .args .gates-per-round) (s .args .t3) (l .j) (l .at) (l .wires)
     (l .boards) (l .shown) (st .accepted) (st .conditionalAre)
-    (subst (λ (left : List JuryHeader). Mid ss (lentTo s ws bs) (given s) (given s + s .args .quantum) (s .args .t3)
+    (subst (λ (left : List JuryHeader). Mid ss (lentTo s ws bs) (given s) (given s + s .args .gates-per-round) (s .args .t3)
     (l .j) left (l .at) (l .wires) (l .boards) (l .shown)) none-left (l .inv .1 ws bs st)))
 
 pub round-spec : {M : Type 1} → statement M

@@ -9,7 +9,7 @@ use lib.ListN.{length}
 use borrow.Author.Needs.{needs}
 use Rattle.gates.specs.Gate.{gatesOf}
 use Rattle.gates.proofs.Prefix.{Stands, can-step, step-stands, can-close}
-use Rattle.dispatch_rounds.specs.Tables.{lent}
+use Rattle.dispatch_rounds.specs.Tables.{tablesOf}
 use Rattle.dispatch_rounds.specs.inner.State.{JuryState}
 use Rattle.dispatch_rounds.proofs.JuryStates.{turn-begins, turn-goes-on, turn-ends, turn-idle, jury-wires-long}
 use Rattle.dispatch_rounds.proofs.round.turn.Statement.{statement}
@@ -25,14 +25,14 @@ loaded c = c .before .before .before .before .before .before
 -- the jury at entry
 abbrev Entry : tie.Start → List ℕ → List ℕ → Type 0
 Entry c ws bs =
-    JuryState (c .args .given) (c .args .header) (lent (c .args .list .now) (c .args .ballots .now) (c .args .tape .now) ws bs)
+    JuryState (c .args .given) (c .args .header) (tablesOf (c .args .list .now) (c .args .ballots .now) (c .args .tape .now) ws bs)
     (c .args .wires .now) (c .args .board .now) (c .args .shown)
 
 returns : tie.Need-returns
 returns c =
     let a = c .before .before .before .before .before .before .args in
     λ (ws bs : List ℕ) j.
-    turn-idle (a .header) (lent (a .list .now) (a .ballots .now) (a .tape .now) ws bs) (a .given) (a .quantum)
+    turn-idle (a .header) (tablesOf (a .list .now) (a .ballots .now) (a .tape .now) ws bs) (a .given) (a .gates-per-round)
     (a .wires .now) (a .board .now) (a .shown) (c .if1 .taken) j
 
 load-requires : tie.Need-load-requires
@@ -42,7 +42,7 @@ load-requires c κs =
     let ws = s .pre .wires-lent in
     let bs = s .pre .board-lent in
     let j = s .pre .state in
-    let p = lent (a .list .now) (a .ballots .now) (a .tape .now) ws bs in
+    let p = tablesOf (a .list .now) (a .ballots .now) (a .tape .now) ws bs in
     let long = jury-wires-long (a .header) p (a .given) (j .gates) (omega (arith, j .run .wiresLength, j .gates)) in
     omega (arith, ap length (j .wiresAre), long, j .run .wiresLength)
 
@@ -56,7 +56,7 @@ begun : (c : tie.After-load) (ws bs : List ℕ)
     Stands (a .ballots .now) (a .list .now) (a .tape .now) ws bs (a .given) (c .load .last .1 .1 .0) (a .board .now) (a .shown)
 begun c ws bs j =
     let a = c .before .before .before .before .before .before .before .before .args in
-    turn-begins (a .header) (lent (a .list .now) (a .ballots .now) (a .tape .now) ws bs) (a .given) (a .wires .now)
+    turn-begins (a .header) (tablesOf (a .list .now) (a .ballots .now) (a .tape .now) ws bs) (a .given) (a .wires .now)
     _ (a .board .now) (a .shown) j (c .before .before .if1 .left) (c .load .ensures)
 
 step-requires : tie.Need-step-requires
@@ -107,8 +107,8 @@ returns-2 c =
     let a = started (loaded e) .args in
     let past = e .before .before .before .if2 .taken in
     λ (ws bs : List ℕ) j.
-    turn-ends (a .header) (lent (a .list .now) (a .ballots .now) (a .tape .now) ws bs) (j .run) (j .some-gate)
-    (j .gates) (a .given + a .quantum) _ _ _ _ (omega arith) (finished e ws bs j) (c .before .before .close .ensures)
+    turn-ends (a .header) (tablesOf (a .list .now) (a .ballots .now) (a .tape .now) ws bs) (j .run) (j .some-gate)
+    (j .gates) (a .given + a .gates-per-round) _ _ _ _ (omega arith) (finished e ws bs j) (c .before .before .close .ensures)
 
 add-step : tie.Need-add-step
 add-step c = search needs
@@ -121,7 +121,7 @@ step-requires-2 c κs =
     let j = s .pre .state in
     let ahead = c .before .before .if2 .left in
     can-step (a .ballots .now) (a .list .now) (a .header .candidates) (a .tape .now) (s .pre .wires-lent)
-    (s .pre .board-lent) (j .run) (a .given) (a .given + a .quantum) (omega arith) (omega (arith, j .gates))
+    (s .pre .board-lent) (j .run) (a .given) (a .given + a .gates-per-round) (omega arith) (omega (arith, j .gates))
     _ (a .board .now) (a .shown) (begun l (s .pre .wires-lent) (s .pre .board-lent) j)
 
 same-length-3 : tie.Need-same-length-3
@@ -138,12 +138,12 @@ returns-3 c =
     let a = s .args in
     let ahead = e .before .before .before .if2 .left in
     let r = e .step2 in
-    let quantum-least = s .pre .quantum-least in
+    let per-round-least = s .pre .per-round-least in
     λ (ws bs : List ℕ) j.
-    turn-goes-on (a .header) (lent (a .list .now) (a .ballots .now) (a .tape .now) ws bs) (j .run) (j .some-gate)
-    (j .gates) (a .given + a .quantum) _ _ _ (omega arith) (omega arith)
+    turn-goes-on (a .header) (tablesOf (a .list .now) (a .ballots .now) (a .tape .now) ws bs) (j .run) (j .some-gate)
+    (j .gates) (a .given + a .gates-per-round) _ _ _ (omega arith) (omega arith)
     (step-stands (a .ballots .now) (a .list .now) (a .header .candidates) (a .tape .now) ws bs (j .run) (a .given)
-    (a .given + a .quantum) (omega arith) (omega (arith, j .gates))
+    (a .given + a .gates-per-round) (omega arith) (omega (arith, j .gates))
     _ (a .board .now) (a .shown) (begun l ws bs j) _ _ (r .result) (r .ensures .next) (r .ensures .wires) (r .ensures .board))
 
 pub turn-spec : {M : Type 1} → statement M

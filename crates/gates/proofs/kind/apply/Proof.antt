@@ -4,7 +4,7 @@ use mathlib.Core.Path.{ap}
 use Prim.Native.Nat.{_≤_}
 use native.Mathlib.Omega.{arith}
 use borrow.Author.Tests.{eq-eqb, ne-eqb, le-ltb}
-use Rattle.gates.specs.Open.Kind.{applied, valueOf, differ, choose}
+use Rattle.gates.specs.Open.Kind.{applied, valueOf, differ, chosen}
 use Rattle.gates.specs.declared.kind.GateValue.the-variants.{Value}
 use Rattle.gates.proofs.kind.apply.Statement.{statement}
 use Rattle.gates.proofs.kind.apply.Tie as tie
@@ -56,11 +56,11 @@ unfolding applied valueOf differ
 returns-11 c = rw (c .before .match .keys7) (simp (ne-eqb _ _ (c .if4 .left)))
 
 returns-12 : tie.Need-returns-12
-unfolding applied valueOf choose
+unfolding applied valueOf chosen
 returns-12 c = rw (c .before .match .keys8) (simp (eq-eqb _ _ (c .if5 .taken)))
 
 returns-13 : tie.Need-returns-13
-unfolding applied valueOf choose
+unfolding applied valueOf chosen
 returns-13 c = rw (c .before .match .keys8) (simp (ne-eqb _ _ (c .if5 .left)))
 
 returns-14 : tie.Need-returns-14

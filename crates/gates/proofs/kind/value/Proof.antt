@@ -7,7 +7,7 @@ use Prim.Native.Nat.{ℕ, _-_, min, max}
 use lib.Dec.{ltb}
 use lib.ListN.{List·getD-eq-default}
 use borrow.Author.Tests.{ltb-false}
-use Rattle.gates.specs.Open.Kind.{applied, valueOf, differ, choose}
+use Rattle.gates.specs.Open.Kind.{applied, valueOf, differ, chosen}
 use Rattle.gates.specs.declared.kind.GateValue.{GateValue}
 use Rattle.gates.specs.declared.kind.GateValue.the-variants.{Value, NoSuchKind}
 use borrow.Author.Needs.{needs}
@@ -27,7 +27,7 @@ taken-applied k a b c = go (ltb k 8) refl
     go true e = ap (λ u. taken (cond u (Value (valueOf k a b c)) NoSuchKind)) e
     go false e =
         ap (λ u. taken (cond u (Value (valueOf k a b c)) NoSuchKind)) e
-        ∙ sym (List·getD-eq-default (0 ∷ 1 ∷ a ∷ (1 - a) ∷ min a b ∷ max a b ∷ differ a b ∷ choose a b c ∷ []) 0 (ltb-false k 8 e))
+        ∙ sym (List·getD-eq-default (0 ∷ 1 ∷ a ∷ (1 - a) ∷ min a b ∷ max a b ∷ differ a b ∷ chosen a b c ∷ []) 0 (ltb-false k 8 e))
 
 apply-requires : tie.Need-apply-requires
 apply-requires c κs = search needs

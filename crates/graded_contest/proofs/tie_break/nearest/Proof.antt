@@ -7,7 +7,7 @@ use native.Mathlib.Numerals.{add-one}
 use native.Mathlib.Omega.{arith}
 use borrow.Author.Needs.{needs}
 use Rattle.gate_words.proofs.Writing.{room-less}
-use Rattle.graded_circuit.specs.Nearest.{stride, sideSpan, belowAt, fromAt, eitherSpan, lastOf, firstOf}
+use Rattle.graded_circuit.specs.Nearest.{stride, sideSpan, belowAt, fromAt, eitherSpan, lastWords, firstWords}
 use Rattle.graded_circuit.specs.TieBreak.{downAt, upAt, farAt, nearest}
 use Rattle.graded_circuit.proofs.NearestLaws.{sides-block, last-of-block}
 use Rattle.graded_keys.proofs.Steps.{product-most}
@@ -228,14 +228,14 @@ returns c =
     (wrote-then (a .w) (a .table .now) _ (((sides-from-first-of (c .before .before)) .sides) .last .1 .0)
     (((sides-from-first-of (c .before .before)) .sides) .result) _ _ _ _
     (((sides-from-first-of (c .before .before)) .sides) .ensures) (((last-of-from-slice-known4 c) .last-of) .ensures)
-    (ap (λ (k : ℕ). lastOf k below x y (a .x) (a .y) r t) (sided (sides-from-first-of (c .before .before)) .place)
-    ∙ ap (λ (k : ℕ). lastOf (downAt n r t) k x y (a .x) (a .y) r t) e₁))
+    (ap (λ (k : ℕ). lastWords k below x y (a .x) (a .y) r t) (sided (sides-from-first-of (c .before .before)) .place)
+    ∙ ap (λ (k : ℕ). lastWords (downAt n r t) k x y (a .x) (a .y) r t) e₁))
     ((c .before .before .first-of) .ensures)
-    (ap (λ (k : ℕ). firstOf k (below + 1) x y (a .x + (t + 1) * (r + 2)) (a .y + (t + 1) * (r + 2)) r t)
+    (ap (λ (k : ℕ). firstWords k (below + 1) x y (a .x + (t + 1) * (r + 2)) (a .y + (t + 1) * (r + 2)) r t)
     (down (last-of-from-slice-known4 c) .place)
-    ∙ ap (λ (k : ℕ). firstOf (upAt n r t) k x y (a .x + (t + 1) * (r + 2)) (a .y + (t + 1) * (r + 2)) r t) e₂
-    ∙ ap (λ (k : ℕ). firstOf (upAt n r t) (fromAt n r) x y k (a .y + (t + 1) * (r + 2)) r t) ex
-    ∙ ap (λ (k : ℕ). firstOf (upAt n r t) (fromAt n r) x y (farAt (a .x) r t) k r t) ey)
+    ∙ ap (λ (k : ℕ). firstWords (upAt n r t) k x y (a .x + (t + 1) * (r + 2)) (a .y + (t + 1) * (r + 2)) r t) e₂
+    ∙ ap (λ (k : ℕ). firstWords (upAt n r t) (fromAt n r) x y k (a .y + (t + 1) * (r + 2)) r t) ex
+    ∙ ap (λ (k : ℕ). firstWords (upAt n r t) (fromAt n r) x y (farAt (a .x) r t) k r t) ey)
 
 same-length : tie.Need-same-length
 same-length c = search needs

@@ -6,7 +6,7 @@ use Prim.Native.Nat.{ℕ, suc, _+_, _-_, _*_, _≤_, _<_}
 use native.Mathlib.Omega.{arith}
 use lib.ListN.{length}
 use Rattle.gate_words.proofs.Going.{Goes, goes-start, goes-as, goes-on, goes-room, goes-end}
-use Rattle.graded_circuit.specs.Nearest.{stride, sideSpan, either, eitherSpan, firstOf}
+use Rattle.graded_circuit.specs.Nearest.{stride, sideSpan, either, eitherSpan, firstWords}
 use Rattle.graded_circuit.proofs.NearestLaws.{either-block, first-of-block}
 use Rattle.graded_keys.proofs.Steps.{product-most, fewer, first-step, first-none}
 use Rattle.graded_keys.proofs.nearest.first_of.Statement.{statement}
@@ -16,7 +16,7 @@ use Rattle.basics.proofs.Arithmetic.{one-less}
 abbrev Inv-loop : tie.InvT-loop
 Inv-loop table₀ f x y u v above count next₀ first₀ second₀ more₀ table next first second more =
     (more ≤ count) × (next₀ .wire ≤ next .wire) × (first + suc above ≤ next .wire) × (second + suc above ≤ next .wire)
-    × Goes next₀ table₀ (firstOf (next₀ .wire) f x y u v above count) next table (firstOf (next .wire) f x y first second above more)
+    × Goes next₀ table₀ (firstWords (next₀ .wire) f x y u v above count) next table (firstWords (next .wire) f x y first second above more)
 
 abbrev μ-loop : tie.MeasureT-loop
 μ-loop table₀ f x y u v above count next₀ first₀ second₀ more₀ table next first second more = more
@@ -29,7 +29,7 @@ loop-holds c =
       q .uBelow,
       q .vBelow,
       goes-start ((c .before .args) .w) ((c .before .args) .table .now)
-          (firstOf ((c .before .args) .w .wire) ((c .before .args) .f) ((c .before .args) .x) ((c .before .args) .y)
+          (firstWords ((c .before .args) .w .wire) ((c .before .args) .f) ((c .before .args) .x) ((c .before .args) .y)
           ((c .before .args) .u) ((c .before .args) .v) ((c .before .args) .above) ((c .before .args) .count))
           ((c .before .args) .count * eitherSpan ((c .before .args) .above)) ((c .before) .pre .room),
     )
@@ -70,7 +70,7 @@ small c =
     (omega arith, omega arith)
 
 all-long : (c : tie.In-loop Inv-loop μ-loop)
-    → length (firstOf ((c .before .before .before .args) .w .wire) ((c .before .before .before .args) .f)
+    → length (firstWords ((c .before .before .before .args) .w .wire) ((c .before .before .before .args) .f)
     ((c .before .before .before .args) .x) ((c .before .before .before .args) .y)
     ((c .before .before .before .args) .u) ((c .before .before .before .args) .v)
     ((c .before .before .before .args) .above) ((c .before .before .before .args) .count))
@@ -82,7 +82,7 @@ all-long c =
     (q .yBelow) (q .uBelow) (q .vBelow) .long
 
 left-long : (c : tie.In-loop Inv-loop μ-loop)
-    → length (firstOf ((c .before .loop) .next .wire) ((c .before .before .before .args) .f)
+    → length (firstWords ((c .before .loop) .next .wire) ((c .before .before .before .args) .f)
     ((c .before .before .before .args) .x) ((c .before .before .before .args) .y) ((c .before .loop) .first)
     ((c .before .loop) .second) ((c .before .before .before .args) .above) ((c .before .loop) .more))
     ≡ (c .before .loop) .more * eitherSpan ((c .before .before .before .args) .above)
@@ -146,8 +146,8 @@ either-requires c κs =
     let q = there (c .before) in
     record {
       room = goes-room (a .w) (a .table .now)
-          (firstOf (a .w .wire) (a .f) (a .x) (a .y) (a .u) (a .v) (a .above) (a .count)) (l .next) (l .table)
-          (firstOf (l .next .wire) (a .f) (a .x) (a .y) (l .first) (l .second) (a .above) (l .more)) _
+          (firstWords (a .w .wire) (a .f) (a .x) (a .y) (a .u) (a .v) (a .above) (a .count)) (l .next) (l .table)
+          (firstWords (l .next .wire) (a .f) (a .x) (a .y) (l .first) (l .second) (a .above) (l .more)) _
           (a .count * eitherSpan (a .above)) (l .inv .4)
           (omega (arith, left-long (c .before), one-less (l .more) (eitherSpan (a .above)) ((c .before .loop-test) .taken)))
           (omega (arith, all-long (c .before))) ((c .before .before .before .before) .pre .room);
@@ -204,18 +204,18 @@ loop-again c =
     let r = a .above in
     let n = l .next .wire in
     let i = l .more - 1 in
-    let whole = firstOf (a .w .wire) (a .f) (a .x) (a .y) (a .u) (a .v) r (a .count) in
+    let whole = firstWords (a .w .wire) (a .f) (a .x) (a .y) (a .u) (a .v) r (a .count) in
     let e₁ : sideSpan r ≡ 2 * r + 3 = omega arith in
     let e₂ : n + suc r ≡ n + r + 1 = omega arith in
     let e₅ = ends (c .before .before) in
-    let rest = firstOf (n + eitherSpan r) (a .f) (a .x) (a .y) n (n + suc r) r i in (
+    let rest = firstWords (n + eitherSpan r) (a .f) (a .x) (a .y) n (n + suc r) r i in (
       omega (arith, l .inv .0),
       omega (arith, l .inv .1),
       omega arith,
       omega arith,
       goes-as (a .w) (a .table .now) whole (h .result) (h .last .1 .0) _ _
-          (ap (λ (k : ℕ). firstOf k (a .f) (a .x) (a .y) n (n + suc r) r i) (sym e₅)
-          ∙ ap (λ (k : ℕ). firstOf (h .result .wire) (a .f) (a .x) (a .y) n k r i) e₂)
+          (ap (λ (k : ℕ). firstWords k (a .f) (a .x) (a .y) n (n + suc r) r i) (sym e₅)
+          ∙ ap (λ (k : ℕ). firstWords (h .result .wire) (a .f) (a .x) (a .y) n k r i) e₂)
           (goes-on (a .w) (a .table .now) whole (l .next) (l .table) _ _ (h .last .1 .0) (h .result)
           (goes-as (a .w) (a .table .now) whole (l .next) (l .table) _ _
           (first-step n (a .f) (a .x) (a .y) (l .first) (l .second) r (l .more) t
@@ -232,7 +232,7 @@ returns : tie.Need-returns Inv-loop μ-loop
 returns c =
     let a = (c .before .before .before .args) in
     let l = (c .before .loop) in
-    goes-end (a .w) (a .table .now) (firstOf (a .w .wire) (a .f) (a .x) (a .y) (a .u) (a .v) (a .above) (a .count))
+    goes-end (a .w) (a .table .now) (firstWords (a .w .wire) (a .f) (a .x) (a .y) (a .u) (a .v) (a .above) (a .count))
     (l .next) (l .table) _ (first-none (l .next .wire) (a .f) (a .x) (a .y) (l .first) (l .second) (a .above)
     (l .more) ((c .loop-test) .left)) (l .inv .4)
 

@@ -5,7 +5,7 @@ use Prim.Native.Nat.{ℕ, suc, _+_, _-_, _*_, _≤_, _<_}
 use native.Mathlib.Omega.{arith}
 use lib.ListN.{length}
 use Rattle.gate_words.proofs.Going.{Goes, goes-start, goes-as, goes-on, goes-room, goes-end}
-use Rattle.graded_circuit.specs.Nearest.{stride, sideSpan, either, eitherSpan, lastOf}
+use Rattle.graded_circuit.specs.Nearest.{stride, sideSpan, either, eitherSpan, lastWords}
 use Rattle.graded_circuit.proofs.NearestLaws.{either-block, last-of-block}
 use Rattle.graded_keys.proofs.Steps.{last-step, last-none}
 use Rattle.graded_keys.proofs.nearest.last_of.Statement.{statement}
@@ -17,8 +17,8 @@ Inv-loop table₀ f x y u v above count next₀ flag₀ left₀ right₀ first�
     (flag + more * sideSpan above < next .wire + sideSpan above) × (left + more * stride above ≤ next .wire)
     × (right + more * stride above ≤ next .wire)
     × (first + suc above ≤ next .wire) × (second + suc above ≤ next .wire)
-    × Goes next₀ table₀ (lastOf (next₀ .wire) f x y u v above count) next table
-    (lastOf (next .wire) flag left right first second above more)
+    × Goes next₀ table₀ (lastWords (next₀ .wire) f x y u v above count) next table
+    (lastWords (next .wire) flag left right first second above more)
 
 abbrev μ-loop : tie.MeasureT-loop
 μ-loop table₀ f x y u v above count next₀ flag₀ left₀ right₀ first₀ second₀ more₀ table next flag left right first second more = more
@@ -32,7 +32,7 @@ loop-holds c =
       q .uBelow,
       q .vBelow,
       goes-start ((c .before .args) .w) ((c .before .args) .table .now)
-          (lastOf ((c .before .args) .w .wire) ((c .before .args) .f) ((c .before .args) .x) ((c .before .args) .y)
+          (lastWords ((c .before .args) .w .wire) ((c .before .args) .f) ((c .before .args) .x) ((c .before .args) .y)
           ((c .before .args) .u) ((c .before .args) .v) ((c .before .args) .above) ((c .before .args) .count))
           ((c .before .args) .count * eitherSpan ((c .before .args) .above)) ((c .before) .pre .room),
     )
@@ -48,7 +48,7 @@ there c =
     (omega (arith, (c .before .loop) .inv .0), omega (arith, (c .before .loop) .inv .1), omega (arith, (c .before .loop) .inv .2))
 
 all-long : (c : tie.In-loop Inv-loop μ-loop)
-    → length (lastOf ((c .before .before .before .args) .w .wire) ((c .before .before .before .args) .f)
+    → length (lastWords ((c .before .before .before .args) .w .wire) ((c .before .before .before .args) .f)
     ((c .before .before .before .args) .x) ((c .before .before .before .args) .y)
     ((c .before .before .before .args) .u) ((c .before .before .before .args) .v)
     ((c .before .before .before .args) .above) ((c .before .before .before .args) .count))
@@ -60,7 +60,7 @@ all-long c =
     (q .yBelow) (q .uBelow) (q .vBelow) .long
 
 left-long : (c : tie.In-loop Inv-loop μ-loop)
-    → length (lastOf ((c .before .loop) .next .wire) ((c .before .loop) .flag) ((c .before .loop) .left)
+    → length (lastWords ((c .before .loop) .next .wire) ((c .before .loop) .flag) ((c .before .loop) .left)
     ((c .before .loop) .right) ((c .before .loop) .first) ((c .before .loop) .second)
     ((c .before .before .before .args) .above) ((c .before .loop) .more)) ≡ (c .before .loop) .more
     * eitherSpan ((c .before .before .before .args) .above)
@@ -83,8 +83,8 @@ either-requires c κs =
     let q = there (c .before) in
     record {
       room = goes-room (a .w) (a .table .now)
-          (lastOf (a .w .wire) (a .f) (a .x) (a .y) (a .u) (a .v) (a .above) (a .count)) (l .next) (l .table)
-          (lastOf (l .next .wire) (l .flag) (l .left) (l .right) (l .first) (l .second) (a .above) (l .more)) _
+          (lastWords (a .w .wire) (a .f) (a .x) (a .y) (a .u) (a .v) (a .above) (a .count)) (l .next) (l .table)
+          (lastWords (l .next .wire) (l .flag) (l .left) (l .right) (l .first) (l .second) (a .above) (l .more)) _
           (a .count * eitherSpan (a .above)) (l .inv .5)
           (omega (arith, left-long (c .before), one-less (l .more) (eitherSpan (a .above)) ((c .before .loop-test) .taken)))
           (omega (arith, all-long (c .before))) ((c .before .before .before .before) .pre .room);
@@ -183,7 +183,7 @@ loop-again c =
     let h = (c .before .before .either) in
     let r = a .above in
     let n = l .next .wire in
-    let whole = lastOf (a .w .wire) (a .f) (a .x) (a .y) (a .u) (a .v) r (a .count) in
+    let whole = lastWords (a .w .wire) (a .f) (a .x) (a .y) (a .u) (a .v) r (a .count) in
     let e₁ : l .flag + sideSpan r ≡ l .flag + (2 * r + 3) = omega arith in
     let e₂ : n + suc r ≡ n + r + 1 = omega arith in
     let e₃ = one-less (l .more) (stride r) t in
@@ -195,9 +195,9 @@ loop-again c =
       omega arith,
       omega arith,
       goes-as (a .w) (a .table .now) whole (h .result) (h .last .1 .0) _ _
-          (ap (λ (k : ℕ). lastOf k (l .flag + sideSpan r) (l .left + stride r) (l .right + stride r) n (n + suc r) r (l .more - 1)) (sym e₅)
-          ∙ ap (λ (k : ℕ). lastOf (h .result .wire) k (l .left + stride r) (l .right + stride r) n (n + suc r) r (l .more - 1)) e₁
-          ∙ ap (λ (k : ℕ). lastOf (h .result .wire) (l .flag + (2 * r + 3)) (l .left + stride r)
+          (ap (λ (k : ℕ). lastWords k (l .flag + sideSpan r) (l .left + stride r) (l .right + stride r) n (n + suc r) r (l .more - 1)) (sym e₅)
+          ∙ ap (λ (k : ℕ). lastWords (h .result .wire) k (l .left + stride r) (l .right + stride r) n (n + suc r) r (l .more - 1)) e₁
+          ∙ ap (λ (k : ℕ). lastWords (h .result .wire) (l .flag + (2 * r + 3)) (l .left + stride r)
           (l .right + stride r) n k r (l .more - 1)) e₂)
           (goes-on (a .w) (a .table .now) whole (l .next) (l .table) _ _ (h .last .1 .0) (h .result)
           (goes-as (a .w) (a .table .now) whole (l .next) (l .table) _ _
@@ -213,7 +213,7 @@ returns : tie.Need-returns Inv-loop μ-loop
 returns c =
     let a = (c .before .before .before .args) in
     let l = (c .before .loop) in
-    goes-end (a .w) (a .table .now) (lastOf (a .w .wire) (a .f) (a .x) (a .y) (a .u) (a .v) (a .above) (a .count))
+    goes-end (a .w) (a .table .now) (lastWords (a .w .wire) (a .f) (a .x) (a .y) (a .u) (a .v) (a .above) (a .count))
     (l .next) (l .table) _ (last-none (l .next .wire) (l .flag) (l .left) (l .right) (l .first) (l .second)
     (a .above) (l .more) ((c .loop-test) .left)) (l .inv .5)
 

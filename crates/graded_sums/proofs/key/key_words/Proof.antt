@@ -7,7 +7,7 @@ use native.Mathlib.Numerals.{add-one}
 use native.Mathlib.Omega.{arith}
 use Rattle.basics.proofs.Arithmetic.{one-less}
 use Rattle.gate_words.proofs.Going.{Goes, goes-start, goes-as, goes-on, goes-room, goes-end}
-use Rattle.graded_circuit.specs.RunningSums.{wordSpan, sumSize, levelsFrom}
+use Rattle.graded_circuit.specs.RunningSums.{wordSpan, sumSize, sumLevelsFrom}
 use Rattle.graded_circuit.specs.Key.{keyWords}
 use Rattle.graded_circuit.proofs.PlanFacts.{first-countable}
 use Rattle.graded_circuit.proofs.CandidateBlocks.{RowsBefore, key-words-block}
@@ -17,7 +17,7 @@ use Rattle.graded_sums.proofs.key.key_words.Tie as tie
 
 abbrev Inv-loop : tie.InvT-loop
 Inv-loop table₀ p n m c size next₀ base₀ g₀ table next base g =
-    (g ≤ p .grades) × (base ≡ levelsFrom p m g) × (next₀ .wire ≤ next .wire)
+    (g ≤ p .grades) × (base ≡ sumLevelsFrom p m g) × (next₀ .wire ≤ next .wire)
     × Goes next₀ table₀ (keyWords p n m c 0 (p .grades - 2)) next table (keyWords p n m c g (p .grades - 2 - g))
 
 abbrev μ-loop : tie.MeasureT-loop
@@ -82,7 +82,7 @@ key-word-requires c κs =
     let all : l .g + left ≡ p .grades - 2 = omega arith in
     let every : 0 + (p .grades - 2) ≡ p .grades - 2 = omega arith in
     let before : (u : ℕ) → u ≤ p .grades - 2 → RowsBefore p (a .n) (a .m) u = λ u few. rows-there p (a .n) (a .m) u few (q .rows) in
-    let end : levelsFrom p (a .m) (p .grades - 2) ≤ l .next .wire = omega (arith, s .pre .levels, l .inv .2) in
+    let end : sumLevelsFrom p (a .m) (p .grades - 2) ≤ l .next .wire = omega (arith, s .pre .levels, l .inv .2) in
     record {
       of = record {
         part = record {
@@ -95,14 +95,14 @@ key-word-requires c κs =
                 arith,
                 key-words-block p f (l .next .wire) (a .n) (a .m) (a .c) (l .g) left (q .part .inputs)
                     (q .part .candidate) (before (l .g + left) (omega arith))
-                    (subst (λ (k : ℕ). levelsFrom p (a .m) k ≤ l .next .wire) (sym all) end) .long,
+                    (subst (λ (k : ℕ). sumLevelsFrom p (a .m) k ≤ l .next .wire) (sym all) end) .long,
                 one-less left (wordSpan p) (omega arith),
               ))
               (omega (
                 arith,
                 key-words-block p f (l .next .wire) (a .n) (a .m) (a .c) 0 (p .grades - 2)
                     (q .part .inputs) (q .part .candidate) (before (0 + (p .grades - 2)) (omega arith))
-                    (subst (λ (k : ℕ). levelsFrom p (a .m) k ≤ l .next .wire) (sym every) end) .long,
+                    (subst (λ (k : ℕ). sumLevelsFrom p (a .m) k ≤ l .next .wire) (sym every) end) .long,
               ))
               (q .part .room);
         };

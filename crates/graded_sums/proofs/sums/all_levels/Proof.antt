@@ -8,7 +8,7 @@ use native.Mathlib.Omega.{arith}
 use Rattle.basics.proofs.Arithmetic.{one-less}
 use Rattle.gate_words.proofs.Going.{Goes, goes-start, goes-as, goes-on, goes-room, goes-end}
 use Rattle.gate_words.proofs.CounterSteps.{length-count}
-use Rattle.graded_circuit.specs.RunningSums.{sumSize, rowAt, rowApart, levelsFrom, allLevels}
+use Rattle.graded_circuit.specs.RunningSums.{sumSize, rowAt, rowStride, sumLevelsFrom, allLevels}
 use Rattle.graded_circuit.proofs.CandidateBlocks.{RowsBefore, all-levels-block}
 use Rattle.graded_sums.proofs.Writers.{levels-turn, levels-end, rows-there}
 use Rattle.graded_sums.proofs.sums.all_levels.Statement.{statement}
@@ -16,7 +16,7 @@ use Rattle.graded_sums.proofs.sums.all_levels.Tie as tie
 
 abbrev Inv-loop : tie.InvT-loop
 Inv-loop table₀ p n c next₀ g₀ table next g =
-    (g ≤ p .grades) × (next .wire ≡ levelsFrom p (next₀ .wire) g)
+    (g ≤ p .grades) × (next .wire ≡ sumLevelsFrom p (next₀ .wire) g)
     × Goes next₀ table₀ (allLevels p n (next₀ .wire) c 0 (p .grades - 2)) next table
     (allLevels p n (next₀ .wire) c g (p .grades - 2 - g))
 
@@ -109,7 +109,7 @@ loop-again c =
         arith,
         l .inv .1,
         h .ensures .wires,
-        length-count (l .next .wire) (rowAt p (a .n) (a .c) (l .g)) (rowApart p (l .g)) (p .ballots) (p .offset)
+        length-count (l .next .wire) (rowAt p (a .n) (a .c) (l .g)) (rowStride p (l .g)) (p .ballots) (p .offset)
             (p .digits),
         ap (λ (k : ℕ). k * sumSize p) (add-one (l .g)),
         suc-mul (l .g) (sumSize p),

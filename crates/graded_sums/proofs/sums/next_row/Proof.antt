@@ -8,7 +8,7 @@ use borrow.Author.Needs.{needs}
 use Rattle.gate_words.specs.Word.{Below}
 use Rattle.gate_words.specs.Rows.{xorRows}
 use Rattle.gate_words.proofs.Writing.{wrote-as}
-use Rattle.graded_circuit.specs.Plan.{bitsAt, apart}
+use Rattle.graded_circuit.specs.Plan.{bitsAt}
 use Rattle.graded_circuit.proofs.PlanFacts.{bits-below}
 use Rattle.graded_circuit.proofs.CandidateBlocks.{counted-below}
 use Rattle.graded_sums.proofs.Writers.{apart-most, row-apart-most}

@@ -8,8 +8,8 @@ use native.Mathlib.Omega.{arith}
 use Rattle.basics.proofs.Arithmetic.{one-less}
 use Rattle.gate_words.proofs.Going.{Goes, goes-start, goes-as, goes-on, goes-room, goes-end}
 use Rattle.gate_words.proofs.RowLaws.{length-rows}
-use Rattle.graded_circuit.specs.Plan.{bitsAt, apart}
-use Rattle.graded_circuit.specs.RunningSums.{rowAt, rowApart, rows}
+use Rattle.graded_circuit.specs.Plan.{bitsAt, ballotStride}
+use Rattle.graded_circuit.specs.RunningSums.{rowAt, rowStride, rows}
 use Rattle.graded_circuit.proofs.CandidateBlocks.{next-rows-block}
 use Rattle.graded_sums.proofs.Writers.{rows-turn, rows-end}
 use Rattle.graded_sums.proofs.sums.rows.Statement.{statement}
@@ -104,8 +104,8 @@ loop-again c =
         arith,
         l .inv .1,
         h .ensures .wires,
-        length-rows (rowAt (a .p) n (a .c) (l .g)) (rowApart (a .p) (l .g)) (bitsAt (a .p) (a .c) (suc (l .g)))
-            (apart (a .p)) (a .p .ballots),
+        length-rows (rowAt (a .p) n (a .c) (l .g)) (rowStride (a .p) (l .g)) (bitsAt (a .p) (a .c) (suc (l .g)))
+            (ballotStride (a .p)) (a .p .ballots),
         ap (λ (k : ℕ). k * a .p .ballots) (add-one (l .g)),
         suc-mul (l .g) (a .p .ballots),
       ),

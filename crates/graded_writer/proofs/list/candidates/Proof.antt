@@ -7,7 +7,7 @@ use native.Mathlib.Omega.{arith}
 use lib.ListN.{length}
 use Rattle.gate_words.proofs.Going.{Goes, goes-start, goes-as, goes-on, goes-room, goes-end}
 use Rattle.graded_circuit.specs.Key.{candidate, candidateSpan}
-use Rattle.graded_circuit.specs.OwnList.{candidates}
+use Rattle.graded_circuit.specs.OwnList.{candidatesFrom}
 use Rattle.graded_circuit.proofs.CandidateBlocks.{candidate-block}
 use Rattle.graded_circuit.proofs.LevelsLaws.{candidates-block}
 use Rattle.graded_writer.proofs.ListWriters.{candidates-step, candidates-none}
@@ -17,7 +17,7 @@ use Rattle.graded_writer.proofs.list.candidates.Tie as tie
 abbrev Inv-loop : tie.InvT-loop
 Inv-loop table₀ p count next₀ c₀ table next c =
     (count ≡ p .candidates) × (p .inputs ≤ next .wire) × (c ≤ p .candidates)
-    × Goes next₀ table₀ (candidates p (next₀ .wire) 0 (p .candidates)) next table (candidates p (next .wire) c (p .candidates - c))
+    × Goes next₀ table₀ (candidatesFrom p (next₀ .wire) 0 (p .candidates)) next table (candidatesFrom p (next .wire) c (p .candidates - c))
 
 abbrev μ-loop : tie.MeasureT-loop
 μ-loop table₀ p count next₀ c₀ table next c = p .candidates - c
@@ -26,17 +26,17 @@ loop-holds : tie.Need-loop-holds Inv-loop μ-loop
 loop-holds c =
     let a = (c .before .args) in
     let e : a .p .candidates ≡ a .p .candidates - 0 = omega arith in
-    let whole = candidates (a .p) (a .w .wire) 0 (a .p .candidates) in (
+    let whole = candidatesFrom (a .p) (a .w .wire) 0 (a .p .candidates) in (
       refl,
       (c .before) .pre .inputsBelow,
       omega arith,
-      goes-as (a .w) (a .table .now) whole (a .w) (a .table .now) _ _ (ap (candidates (a .p) (a .w .wire) 0) e)
+      goes-as (a .w) (a .table .now) whole (a .w) (a .table .now) _ _ (ap (candidatesFrom (a .p) (a .w .wire) 0) e)
           (goes-start (a .w) (a .table .now) whole (a .p .candidates * candidateSpan (a .p)) ((c .before) .pre .room)),
     )
 
 one-more : (c : tie.In-loop Inv-loop μ-loop)
     → ((c .before .loop) .c < (c .before .before .before .args) .p .candidates)
-    × (length (candidates ((c .before .before .before .args) .p) ((c .before .loop) .next .wire)
+    × (length (candidatesFrom ((c .before .before .before .args) .p) ((c .before .loop) .next .wire)
     ((c .before .loop) .c) ((c .before .before .before .args) .p .candidates - (c .before .loop) .c))
     ≡ ((c .before .before .before .args) .p .candidates - (c .before .loop) .c)
     * candidateSpan ((c .before .before .before .args) .p))
@@ -65,8 +65,8 @@ candidate-requires c κs =
       planned = s .pre .plan;
       candidate = q .0;
       inputs = l .inv .1;
-      room = goes-room (a .w) (a .table .now) (candidates (a .p) (a .w .wire) 0 (a .p .candidates)) (l .next)
-          (l .table) (candidates (a .p) (l .next .wire) (l .c) (a .p .candidates - l .c)) _
+      room = goes-room (a .w) (a .table .now) (candidatesFrom (a .p) (a .w .wire) 0 (a .p .candidates)) (l .next)
+          (l .table) (candidatesFrom (a .p) (l .next .wire) (l .c) (a .p .candidates - l .c)) _
           (a .p .candidates * candidateSpan (a .p)) (l .inv .3)
           (omega (arith, q .1, q .2)) (omega (
             arith,
@@ -96,7 +96,7 @@ loop-again c =
     let l = ((loop-reached-from-slice-known2 c) .loop) in
     let t = one-more (c .before .before .before .before) .0 in
     let h = (c .before .before .candidate) in
-    let whole = candidates (a .p) (a .w .wire) 0 (a .p .candidates) in
+    let whole = candidatesFrom (a .p) (a .w .wire) 0 (a .p .candidates) in
     let e : h .result .wire ≡ l .next .wire + candidateSpan (a .p) =
     omega (
       arith,
@@ -108,7 +108,7 @@ loop-again c =
       omega (arith, l .inv .1, e),
       omega (arith, t),
       goes-as (a .w) (a .table .now) whole (h .result) (h .last .1 .0) _ _
-          (ap (λ (k : ℕ). candidates (a .p) k (l .c + 1) (a .p .candidates - (l .c + 1))) (sym e))
+          (ap (λ (k : ℕ). candidatesFrom (a .p) k (l .c + 1) (a .p .candidates - (l .c + 1))) (sym e))
           (goes-on (a .w) (a .table .now) whole (l .next) (l .table) _ _ (h .last .1 .0) (h .result)
           (goes-as (a .w) (a .table .now) whole (l .next) (l .table) _ _
           (candidates-step (a .p) (l .next .wire) (l .c) (a .p .candidates) t) (l .inv .3))
@@ -123,7 +123,7 @@ returns : tie.Need-returns Inv-loop μ-loop
 returns c =
     let a = (c .before .before .before .args) in
     let l = (c .before .loop) in
-    goes-end (a .w) (a .table .now) (candidates (a .p) (a .w .wire) 0 (a .p .candidates)) (l .next) (l .table) _
+    goes-end (a .w) (a .table .now) (candidatesFrom (a .p) (a .w .wire) 0 (a .p .candidates)) (l .next) (l .table) _
     (candidates-none (a .p) (l .next .wire) (l .c) (a .p .candidates)
     (omega (arith, (c .loop-test) .left, l .inv .0))) (l .inv .3)
 

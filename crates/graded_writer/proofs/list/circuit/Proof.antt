@@ -7,7 +7,7 @@ use lib.ListN.{length}
 use borrow.Author.Needs.{needs}
 use Rattle.gate_words.proofs.Writing.{wrote-as, room-less}
 use Rattle.graded_circuit.specs.Key.{candidateSpan}
-use Rattle.graded_circuit.specs.OwnList.{candidates, levelsAt, circuit}
+use Rattle.graded_circuit.specs.OwnList.{candidatesFrom, levelsAt, circuit}
 use Rattle.graded_circuit.proofs.LevelsLaws.{candidates-block}
 use Rattle.gate_words.proofs.Standing.{Stands, stands, stands-after, wrote-then}
 use Rattle.graded_writer.proofs.ListWriters.{divided, allLevelsSpan, circuit-parts, circuit-long}
@@ -85,7 +85,7 @@ returns c =
     let g = c .before .before .all-levels in
     wrote-as (a .w) (a .table .now) _ (circuit p) (g .last .1 .0) (g .result) (circuit-parts p)
     (wrote-then (a .w) (a .table .now) _ (f .last .1 .0) (f .result) _ _ _ _
-    (wrote-as (a .w) (a .table .now) _ _ _ _ (ap (λ (i : ℕ). candidates p i 0 (p .candidates)) (s .pre .place)) (f .ensures))
+    (wrote-as (a .w) (a .table .now) _ _ _ _ (ap (λ (i : ℕ). candidatesFrom p i 0 (p .candidates)) (s .pre .place)) (f .ensures))
     (g .ensures) refl)
 
 pub circuit-spec : {M : Type 1} → statement M

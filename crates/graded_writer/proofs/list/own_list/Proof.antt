@@ -11,7 +11,7 @@ use Rattle.gate_words.specs.declared.writer.Writer.{Writer}
 use Rattle.gate_words.proofs.Writing.{wrote-as}
 use Rattle.gate_words.proofs.Emitting.{constant-wrote}
 use Rattle.jury.specs.Shape.{ballotBytes}
-use Rattle.graded_circuit.specs.OwnList.{circuit, ownList}
+use Rattle.graded_circuit.specs.OwnList.{circuit, ownGrading}
 use Rattle.graded_writer.proofs.ListWriters.{own-one, own-more, first-writer, first-room, plan-planned, plan-many, circuit-short}
 use Rattle.graded_writer.proofs.list.own_list.Statement.{statement}
 use Rattle.graded_writer.proofs.list.own_list.Tie as tie
@@ -62,8 +62,8 @@ returns c =
     let a = ((start-from-emit (c .before .before)) .args) in
     let w = ((new2-from-slice-known2 c) .new2) .result in
     let e = (c .before .before .emit) in
-    subst (λ (v : Writer). Wrote v (a .table .now) (ownList (a .shape)) (e .last .1 .0) (e .result)) (start (new2-from-slice-known2 c))
-    (wrote-as w (a .table .now) (constant 1 ∷ []) (ownList (a .shape)) (e .last .1 .0) (e .result)
+    subst (λ (v : Writer). Wrote v (a .table .now) (ownGrading (a .shape)) (e .last .1 .0) (e .result)) (start (new2-from-slice-known2 c))
+    (wrote-as w (a .table .now) (constant 1 ∷ []) (ownGrading (a .shape)) (e .last .1 .0) (e .result)
     (own-one (a .shape) ((c .before .before .before .before .if1) .taken))
     (constant-wrote w (a .table .now) (e .last .1 .0) (e .result) 0 0 0 1 (e .ensures)))
 
@@ -93,8 +93,8 @@ returns-2 c =
     let p = ((new-from-circuit (c .before .before)) .new) .result in
     let w = ((new2-from-slice-known3 c) .new2) .result in
     let e = (c .before .before .circuit) in
-    subst (λ (v : Writer). Wrote v (a .table .now) (ownList (a .shape)) (e .last .1 .0) (e .result)) (start (new2-from-slice-known3 c))
-    (wrote-as w (a .table .now) (circuit p) (ownList (a .shape)) (e .last .1 .0) (e .result)
+    subst (λ (v : Writer). Wrote v (a .table .now) (ownGrading (a .shape)) (e .last .1 .0) (e .result)) (start (new2-from-slice-known3 c))
+    (wrote-as w (a .table .now) (circuit p) (ownGrading (a .shape)) (e .last .1 .0) (e .result)
     (own-more (a .shape) p (((new-from-circuit (c .before .before)) .new) .ensures)
     ((c .before .before .before .before .if1) .left)) (e .ensures))
 

@@ -5,7 +5,7 @@ use mathlib.Core.Bool.{Bool, cond}
 use Prim.Native.Nat.{ℕ, suc, _+_, _-_, _≤_, _<_}
 use native.Mathlib.Omega.{arith}
 use borrow.Author.Tests.{lt-ltb, le-ltb}
-use Rattle.ranked_circuit.specs.RankedList.{other, joined}
+use Rattle.ranked_circuit.specs.RankedList.{other, joinedWire}
 use Rattle.ranked_circuit.proofs.LoserLaws.{other-low}
 use Rattle.ranked_blocks.specs.Ranked.{keptOf}
 use Rattle.ranked_writer.proofs.losers.joined.Statement.{statement}
@@ -15,15 +15,15 @@ low : (k i s o : ℕ) → 2 ≤ k → s < k - 1 → o ≡ other i s → o < k
 low k i s o h l e = let two : suc (suc (k - 2)) ≡ k = omega arith in omega (arith, other-low i s (k - 2) (omega arith))
 
 other-is : (beats : ℕ → ℕ → ℕ) (k at i s o x : ℕ) → 2 ≤ k → s < k - 1 → o ≡ other i s → x ≡ beats o i → x
-    ≡ joined beats (suc (k - 2)) at i s
-unfolding joined
+    ≡ joinedWire beats (suc (k - 2)) at i s
+unfolding joinedWire
 other-is beats k at i s o x h l eo ex =
     ex ∙ ap (λ (z : ℕ). beats z i) eo
     ∙ sym (ap (λ (c : Bool). cond c (beats (other i s) i) (at + (s - suc (k - 2))))
     (lt-ltb s (suc (k - 2)) (omega arith)))
 
-own-is : (beats : ℕ → ℕ → ℕ) (k at i s : ℕ) → 2 ≤ k → k - 1 ≤ s → at + (s - (k - 1)) ≡ joined beats (suc (k - 2)) at i s
-unfolding joined
+own-is : (beats : ℕ → ℕ → ℕ) (k at i s : ℕ) → 2 ≤ k → k - 1 ≤ s → at + (s - (k - 1)) ≡ joinedWire beats (suc (k - 2)) at i s
+unfolding joinedWire
 own-is beats k at i s h l =
     let e : k - 1 ≡ suc (k - 2) = omega arith in
     ap (λ (z : ℕ). at + (s - z)) e

@@ -9,15 +9,15 @@ use Rattle.gate_words.specs.Gates.{orOf}
 use Rattle.gate_words.proofs.Writing.{wrote-as}
 use Rattle.gate_words.proofs.Emitting.{or-wrote}
 use Rattle.ranked_circuit.specs.Table.{blocks}
-use Rattle.ranked_circuit.specs.RankedList.{joined, loserRow}
+use Rattle.ranked_circuit.specs.RankedList.{joinedWire, loserRow}
 use Rattle.ranked_blocks.specs.Ranked.{keptOf}
 use Rattle.ranked_writer.proofs.Filling.{Filled, fill-start, fill-next, fill-room, fill-end, single-room}
 use Rattle.ranked_writer.proofs.losers.loser_row.Statement.{statement}
 use Rattle.ranked_writer.proofs.losers.loser_row.Tie as tie
 
 abbrev gate : List ℕ → ℕ → ℕ → ℕ → ℕ → ℕ → List Gate
-gate beats k at i wire t = orOf (joined (keptOf beats k) (suc (k - 2)) at i (2 * t))
-    (joined (keptOf beats k) (suc (k - 2)) at i (2 * t + 1)) ∷ []
+gate beats k at i wire t = orOf (joinedWire (keptOf beats k) (suc (k - 2)) at i (2 * t))
+    (joinedWire (keptOf beats k) (suc (k - 2)) at i (2 * t + 1)) ∷ []
 
 abbrev Inv-loop : tie.InvT-loop
 Inv-loop table₀ beats k i at next₀ t₀ table next t = (at ≡ next₀ .wire) × (t ≤ k - 2) × Filled next₀ table₀ (gate beats k at i) t table next
@@ -109,7 +109,7 @@ loop-again c =
           (wrote-as (l .next) (l .table) _ _ (h .last .1 .0) (h .result)
           (ap (λ (x : ℕ). orOf x ((c .before .before .before .before .joined2) .result) ∷ [])
           (((joined-from-slice-known2 c) .joined) .ensures)
-          ∙ ap (λ (x : ℕ). orOf (joined (keptOf (a .beats .now) (a .k)) (suc (a .k - 2)) (a .w .wire) (a .i)
+          ∙ ap (λ (x : ℕ). orOf (joinedWire (keptOf (a .beats .now) (a .k)) (suc (a .k - 2)) (a .w .wire) (a .i)
           (2 * l .t)) x ∷ []) ((c .before .before .before .before .joined2) .ensures))
           (or-wrote (l .next) (l .table) (h .last .1 .0) (h .result) _ _ 0 (h .ensures))),
     )
@@ -118,7 +118,7 @@ same-length : tie.Need-same-length Inv-loop μ-loop
 same-length c = (c .before .loop) .inv .2 .long
 
 row-is : (beats : ℕ → ℕ → ℕ) (r at i : ℕ)
-    → blocks at (λ wire t. orOf (joined beats (suc r) at i (2 * t)) (joined beats (suc r) at i (2 * t + 1)) ∷ []) r
+    → blocks at (λ wire t. orOf (joinedWire beats (suc r) at i (2 * t)) (joinedWire beats (suc r) at i (2 * t + 1)) ∷ []) r
     ≡ loserRow beats r at i
 row-is beats r at i = unfold loserRow in refl
 

@@ -10,14 +10,14 @@ use Rattle.gate_words.specs.Gates.{notOf}
 use Rattle.gate_words.proofs.Writing.{wrote-as}
 use Rattle.gate_words.proofs.Emitting.{not-wrote}
 use Rattle.ranked_circuit.specs.Table.{blocks}
-use Rattle.ranked_circuit.specs.RankedList.{joined, outputGates}
+use Rattle.ranked_circuit.specs.RankedList.{joinedWire, outputGates}
 use Rattle.ranked_blocks.specs.Ranked.{keptOf}
 use Rattle.ranked_writer.proofs.Filling.{Filled, fill-start, fill-next, fill-room, fill-end, single-room}
 use Rattle.ranked_writer.proofs.losers.output_gates.Statement.{statement}
 use Rattle.ranked_writer.proofs.losers.output_gates.Tie as tie
 
 abbrev gate : List ℕ → ℕ → ℕ → ℕ → ℕ → List Gate
-gate beats k rows wire i = notOf (joined (keptOf beats k) (suc (k - 2)) (rows + i * (k - 2)) i (2 * (k - 2))) ∷ []
+gate beats k rows wire i = notOf (joinedWire (keptOf beats k) (suc (k - 2)) (rows + i * (k - 2)) i (2 * (k - 2))) ∷ []
 
 abbrev Inv-loop : tie.InvT-loop
 Inv-loop table₀ beats k rows next₀ i₀ table next i = (i ≤ k) × Filled next₀ table₀ (gate beats k rows) i table next
@@ -121,9 +121,9 @@ same-length : tie.Need-same-length Inv-loop μ-loop
 same-length c = (c .before .loop) .inv .1 .long
 
 outputs-are : (beats : ℕ → ℕ → ℕ) (r rows k wire : ℕ) → wire ≡ rows + k * r
-    → blocks wire (λ at i. notOf (joined beats (suc r) (rows + i * r) i (2 * r)) ∷ []) k ≡ outputGates beats r rows k
+    → blocks wire (λ at i. notOf (joinedWire beats (suc r) (rows + i * r) i (2 * r)) ∷ []) k ≡ outputGates beats r rows k
 outputs-are beats r rows k wire q =
-    ap (λ (x : ℕ). blocks x (λ at i. notOf (joined beats (suc r) (rows + i * r) i (2 * r)) ∷ []) k) q
+    ap (λ (x : ℕ). blocks x (λ at i. notOf (joinedWire beats (suc r) (rows + i * r) i (2 * r)) ∷ []) k) q
     ∙ unfold outputGates in refl
 
 returns : tie.Need-returns Inv-loop μ-loop

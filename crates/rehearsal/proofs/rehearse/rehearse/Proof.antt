@@ -6,7 +6,7 @@ use native.Mathlib.Omega.{arith}
 use borrow.Author.Needs.{needs}
 use Rattle.jury.specs.Shape.{withinLimits}
 use Rattle.jury.proofs.Constructed.{shape-is, outside-is}
-use Rattle.rehearsal.specs.Rehearsal.{shapeIn, outcomeOn}
+use Rattle.rehearsal.specs.Rehearsal.{shapeOfInput, outcomeOn}
 use Rattle.rehearsal.specs.inner.Rehearses.{endOn}
 use Rattle.rehearsal.proofs.Rehearsing.{by-the-limits}
 use Rattle.rehearsal.proofs.rehearse.rehearse.Statement.{statement}
@@ -30,7 +30,7 @@ rehearse-shape-requires c κs =
     let known = c .before .before .before .before in
     let made = known .before .before in
     let start = (start-from-shape made) in
-    let s = shapeIn (start .args .input .now) in
+    let s = shapeOfInput (start .args .input .now) in
     record {
       shape-is = shape-is (withinLimits s) s (known .shape2 .given .0 .0) (sym (made .shape .ensures) ∙ known .shape2 .given .1);
       buffers = start .pre;
@@ -41,7 +41,7 @@ unfolding outcomeOn endOn
 returns c =
     let made = c .before .before in
     let start = (start-from-shape made) in
-    let s = shapeIn (start .args .input .now) in
+    let s = shapeOfInput (start .args .input .now) in
     record {
       answers = by-the-limits (start .args .input .now) (start .args .table .now)
           (outside-is (withinLimits s) s (sym (made .shape .ensures) ∙ c .enum-told .given .1));

@@ -9,9 +9,9 @@ use borrow.Author.Needs.{needs}
 use Rattle.tally.specs.Answer.{outcomeOf}
 use Rattle.tally.specs.declared.answer.Answer.the-variants as answer
 use Rattle.tally.specs.Write.{writeOutcome}
-use Rattle.rehearsal.specs.Rehearsal.{ballotsIn, rehearsalOutcome, outcomeOn}
+use Rattle.rehearsal.specs.Rehearsal.{ballotsOfInput, rehearsalOutcome, outcomeOn}
 use Rattle.rehearsal.specs.inner.Buffers.{Cut}
-use Rattle.rehearsal.specs.inner.Rehearses.{runOutcome, endOn}
+use Rattle.rehearsal.specs.inner.Rehearses.{ballotsOutcome, endOn}
 use Rattle.rehearsal.proofs.Rehearsing.{cut-long, gates-few, list-fits, write-cut, by-the-run, by-the-write, no-ballots, some-ballots}
 use Rattle.rehearsal.proofs.rehearse.rehearse_shape.Statement.{statement}
 use Rattle.rehearsal.proofs.rehearse.rehearse_shape.Tie as tie
@@ -147,12 +147,12 @@ same-answer : (c : tie.After-known-told2) (ballots : List ℕ) →
     let w = (write-from-known-told2 c) in
     let start = (start-from-write w) in
     let a = start .args in
-    ballots ≡ ballotsIn (a .input .now) → runOutcome (start .args .shape) ballots ≡ rehearsalOutcome (a .input .now) (a .table .now)
+    ballots ≡ ballotsOfInput (a .input .now) → ballotsOutcome (start .args .shape) ballots ≡ rehearsalOutcome (a .input .now) (a .table .now)
 same-answer c ballots e =
     let w = (write-from-known-told2 c) in
     let start = (start-from-write w) in
     let a = start .args in
-    ap (runOutcome (start .args .shape)) e
+    ap (ballotsOutcome (start .args .shape)) e
     ∙ by-the-run (start .args .shape) (a .table .now) (a .tape .now) (a .wires .now) (a .board .now)
     (start .pre .buffers) (gates-of c) (conditional-of c) (outcome-accepted c) (a .input .now) (start .pre .shape-is)
 

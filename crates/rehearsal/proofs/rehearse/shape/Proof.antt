@@ -2,7 +2,7 @@
 -- Assumes nothing.
 use mathlib.Core.Path.{_∙_}
 use borrow.Author.Needs.{needs}
-use Rattle.rehearsal.specs.Rehearsal.{shapeIn}
+use Rattle.rehearsal.specs.Rehearsal.{shapeOfInput}
 use Rattle.rehearsal.proofs.rehearse.shape.Statement.{statement}
 use Rattle.rehearsal.proofs.rehearse.shape.Tie as tie
 
@@ -19,7 +19,7 @@ new-requires : tie.Need-new-requires
 new-requires c κs = search needs
 
 returns : tie.Need-returns
-unfolding shapeIn
+unfolding shapeOfInput
 returns c = c .new .ensures .result
     ∙ rw (c .before .before .before .byte .ensures, c .before .before .byte2 .ensures, c .before .byte3 .ensures)
 

@@ -16,29 +16,29 @@ use Rattle.rule_judgment.proofs.rule.first_winner.Statement.{statement}
 use Rattle.rule_judgment.proofs.rule.first_winner.Tie as tie
 
 abbrev Inv-loop : tie.InvT-loop
-Inv-loop k d n counts first₀ c₀ first c = (c ≤ k) × (first < k) × Leads (rowsIn k d counts) first c
+Inv-loop counts k d n first₀ c₀ first c = (c ≤ k) × (first < k) × Leads (rowsIn k d counts) first c
 
 abbrev μ-loop : tie.MeasureT-loop
-μ-loop k d n counts first₀ c₀ first c = k - c
+μ-loop counts k d n first₀ c₀ first c = k - c
 
 abbrev rows : tie.Start Inv-loop μ-loop → List (List ℕ)
-rows c = rowsIn (c .args .k) (c .args .d) (c .args .t1)
+rows c = rowsIn (c .args .k) (c .args .d) (c .args .counts .now)
 
 rows-are : (c : tie.Start Inv-loop μ-loop) → length (rows c) ≡ c .args .k
-rows-are c = rows-length (c .args .k) (c .args .d) (c .args .t1) (omega (arith, c .good .0 .1 .0 .1))
+rows-are c = rows-length (c .args .k) (c .args .d) (c .args .counts .now) (omega (arith, c .pre .eight, c .pre .fewCandidates))
 
 -- a row's grades
-row-sum : (c : tie.Start Inv-loop μ-loop) (i : ℕ) → i < c .args .k → sum (take (c .args .d) (getD (c .args .t1) i [])) ≡ c .args .n
-row-sum c i l = ap sum (sym (row-at (c .args .k) (c .args .d) (c .args .t1) i l)) ∙ c .pre .gets i (omega (arith, rows-are c))
+row-sum : (c : tie.Start Inv-loop μ-loop) (i : ℕ) → i < c .args .k → sum (take (c .args .d) (getD (c .args .counts .now) i [])) ≡ c .args .n
+row-sum c i l = ap sum (sym (row-at (c .args .k) (c .args .d) (c .args .counts .now) i l)) ∙ c .pre .gets i (omega (arith, rows-are c))
 
 loop-holds : tie.Need-loop-holds Inv-loop μ-loop
 loop-holds c =
     let x = c .args in
-    (omega arith, omega arith, leads-start (rowsIn (x .k) (x .d) (x .t1)))
+    (omega arith, omega arith, leads-start (rowsIn (x .k) (x .d) (x .counts .now)))
 
 comes-before-requires : tie.Need-comes-before-requires Inv-loop μ-loop
 comes-before-requires c κs =
-    let at = c .before .before in
+    let at = c .before in
     let start = at .before in
     let p = start .pre in
     record {
@@ -59,14 +59,14 @@ loop-less c = omega arith
 
 -- the call's answer, in terms of the rows
 as-rows : (c : tie.Start Inv-loop μ-loop) (i j : ℕ) → i < c .args .k → j < c .args .k →
-    precedes (sequenceOf (take (c .args .d) (getD (c .args .t1) i [])))
-    (sequenceOf (take (c .args .d) (getD (c .args .t1) j [])))
+    precedes (sequenceOf (take (c .args .d) (getD (c .args .counts .now) i [])))
+    (sequenceOf (take (c .args .d) (getD (c .args .counts .now) j [])))
     ≡ precedes (sequenceOf (getD (rows c) i [])) (sequenceOf (getD (rows c) j []))
-as-rows c i j hi hj = sym (rw (row-at (c .args .k) (c .args .d) (c .args .t1) i hi, row-at (c .args .k) (c .args .d) (c .args .t1) j hj))
+as-rows c i j hi hj = sym (rw (row-at (c .args .k) (c .args .d) (c .args .counts .now) i hi, row-at (c .args .k) (c .args .d) (c .args .counts .now) j hj))
 
 loop-again : tie.Need-loop-again Inv-loop μ-loop
 loop-again c =
-    let at = c .before .before .before .before in
+    let at = c .before .before .before in
     let start = at .before in
     let x = start .args in
     let i = at .loop .first in

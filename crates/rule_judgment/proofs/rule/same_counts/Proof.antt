@@ -9,7 +9,7 @@ use native.Mathlib.Numerals.{add-one}
 use native.Mathlib.Omega.{arith}
 use lib.ListN.{length, take, drop, getD}
 use lib.Seq.{length-take-le}
-use Rattle.rule_judgment.specs.inner.Decision.{sameCounts}
+use Rattle.basics.specs.Lists.{sameNumbers}
 use Rattle.rule_judgment.specs.inner.Ready.{Compared}
 use Rattle.rule_judgment.proofs.SameCounts.{same-later, same-not, same-end}
 use Rattle.rule_judgment.proofs.rule.same_counts.Statement.{statement}
@@ -17,8 +17,8 @@ use Rattle.rule_judgment.proofs.rule.same_counts.Tie as tie
 
 abbrev Inv-loop : tie.InvT-loop
 Inv-loop counts a b d g₀ g =
-    (g ≤ d) × (sameCounts (drop g (take d (getD counts a []))) (drop g (take d (getD counts b [])))
-    ≡ sameCounts (take d (getD counts a [])) (take d (getD counts b [])))
+    (g ≤ d) × (sameNumbers (drop g (take d (getD counts a []))) (drop g (take d (getD counts b [])))
+    ≡ sameNumbers (take d (getD counts a [])) (take d (getD counts b [])))
 
 abbrev μ-loop : tie.MeasureT-loop
 μ-loop counts a b d g₀ g = d - g
@@ -37,7 +37,7 @@ second-length : (c : tie.Start Inv-loop μ-loop) → c .args .d ≤ length (seco
 second-length c = omega (arith, c .pre .fewGrades, c .pre .secondColumns)
 
 -- an answer, with the rows' length
-both : (c : tie.Start Inv-loop μ-loop) {r : Bool} → r ≡ sameCounts (take (c .args .d) (first c)) (take (c .args .d) (second c)) →
+both : (c : tie.Start Inv-loop μ-loop) {r : Bool} → r ≡ sameNumbers (take (c .args .d) (first c)) (take (c .args .d) (second c)) →
     Compared (take (c .args .d) (first c)) (take (c .args .d) (second c)) (c .args .d) r
 both c e =
     record {
@@ -95,7 +95,7 @@ loop-again c =
     let x = start .args in
     let g = at .loop .g in (
       omega arith,
-      ap (λ (j : ℕ). sameCounts (drop j (take (x .d) (first start)))
+      ap (λ (j : ℕ). sameNumbers (drop j (take (x .d) (first start)))
           (drop j (take (x .d) (second start)))) (add-one g)
           ∙ sym (same-later (first start) (second start) g (x .d) (first-length start) (second-length start)
           (omega arith) (c .if1 .left)) ∙ at .loop .inv .1,

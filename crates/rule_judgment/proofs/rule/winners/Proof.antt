@@ -9,13 +9,12 @@ use Prim.Native.Nat.{ℕ, suc, _-_, _≤_, _<_}
 use native.Mathlib.Numerals.{add-one}
 use native.Mathlib.Omega.{arith}
 use lib.ListN.{length, getD, set, take}
-use Rattle.basics.specs.Lists.{tabulate}
+use Rattle.basics.specs.Lists.{tabulate, sameNumbers}
 use Rattle.jury.specs.inner.Counts.{rowsIn}
 use Rattle.jury.proofs.Limits.{Within, within-T}
 use Rattle.basics.proofs.Tabulate.{upTo, fill-start, fill-step, fill-skip}
 use Rattle.jury.proofs.Rows.{rows-length, row-at}
 use Rattle.rule_judgment.specs.Judgment.{judgmentOf}
-use Rattle.rule_judgment.specs.inner.Decision.{sameCounts}
 use Rattle.rule_judgment.proofs.Leading.{same-wins, other-loses, eight-judged}
 use Rattle.rule_judgment.proofs.rule.winners.Statement.{statement}
 use Rattle.rule_judgment.proofs.rule.winners.Tie as tie
@@ -38,16 +37,17 @@ within-limits : (c : tie.Start Inv-loop μ-loop) → Within (c .args .shape)
 within-limits c = within-T (c .args .shape) (c .pre .within)
 
 abbrev rows : tie.Start Inv-loop μ-loop → List (List ℕ)
-rows c = rowsIn (c .args .shape .candidates) (c .args .shape .grades) (c .args .t2)
+rows c = rowsIn (c .args .shape .candidates) (c .args .shape .grades) (c .args .counts .now)
 
 rows-are : (c : tie.Start Inv-loop μ-loop) → length (rows c) ≡ c .args .shape .candidates
-rows-are c = rows-length (c .args .shape .candidates) (c .args .shape .grades) (c .args .t2)
-    (omega (arith, c .good .1 .0 .1 .0 .1, within-limits c .k-most))
+rows-are c = rows-length (c .args .shape .candidates) (c .args .shape .grades) (c .args .counts .now)
+    (omega (arith, c .pre .eight, within-limits c .k-most))
 
 first-winner-requires : tie.Need-first-winner-requires Inv-loop μ-loop
 first-winner-requires c κs =
     let w = within-limits c in
     record {
+      eight = c .pre .eight;
       someCandidate = w .k-least;
       fewCandidates = w .k-most;
       fewGrades = w .d-most;
@@ -62,7 +62,7 @@ loop-holds c = (omega arith, sym (fill-start 8 (byte (rows (c .before))) (λ j. 
 
 same-counts-requires : tie.Need-same-counts-requires Inv-loop μ-loop
 same-counts-requires c κs =
-    let at = c .before .before in
+    let at = c .before in
     let start = at .before .before in
     let w = within-limits start in
     let now : at .loop .c < 8 = omega (arith, w .k-most) in
@@ -77,7 +77,7 @@ same-counts-requires c κs =
 
 -- The stages of the function, seen from later ones.
 abbrev start-from-then1 : tie.Then1 Inv-loop μ-loop → tie.Start Inv-loop μ-loop
-start-from-then1 c = c .before .before .before .before .before .before
+start-from-then1 c = c .before .before .before .before .before
 
 array-write-closing : tie.Need-array-write-closing Inv-loop μ-loop
 array-write-closing c = omega (arith, within-limits (start-from-then1 c) .k-most)
@@ -91,7 +91,7 @@ loop-less c = omega arith
 -- what a turn's comparison says about its candidate's byte
 module _ (c : tie.After-same-counts Inv-loop μ-loop) where
   abbrev at : tie.At-loop Inv-loop μ-loop
-  at = c .before .before .before
+  at = c .before .before
 
   abbrev begin : tie.Start Inv-loop μ-loop
   begin = at .before .before
@@ -100,8 +100,8 @@ module _ (c : tie.After-same-counts Inv-loop μ-loop) where
   winner = at .before .first-winner .result
 
   row : (i : ℕ) → i < begin .args .shape .candidates → getD (rows begin) i []
-      ≡ take (begin .args .shape .grades) (getD (begin .args .t2) i [])
-  row i l = row-at (begin .args .shape .candidates) (begin .args .shape .grades) (begin .args .t2) i l
+      ≡ take (begin .args .shape .grades) (getD (begin .args .counts .now) i [])
+  row i l = row-at (begin .args .shape .candidates) (begin .args .shape .grades) (begin .args .counts .now) i l
 
   winner-inside : winner < begin .args .shape .candidates
   winner-inside = at .before .first-winner .ensures .inside
@@ -109,7 +109,7 @@ module _ (c : tie.After-same-counts Inv-loop μ-loop) where
   turn-inside : at .loop .c < begin .args .shape .candidates
   turn-inside = omega arith
 
-  compared-rows : c .same-counts .result ≡ sameCounts (getD (rows begin) (at .loop .c) []) (getD (rows begin) winner [])
+  compared-rows : c .same-counts .result ≡ sameNumbers (getD (rows begin) (at .loop .c) []) (getD (rows begin) winner [])
   compared-rows = c .same-counts .ensures .answer ∙ sym (rw (row (at .loop .c) turn-inside, row winner winner-inside))
 
   byte-one : c .same-counts .result ≡ true → byte (rows begin) (at .loop .c) ≡ 1

@@ -79,7 +79,7 @@ loop-again c =
     )
 
 returns : tie.Need-returns Inv-loop μ-loop
-unfolding spec.closingBytes
+unfolding spec.schulzeOf
 returns c =
     let at = c .before in
     let made = at .before in

@@ -14,7 +14,7 @@ use Rattle.jury.specs.inner.Counts.{rowsIn}
 use Rattle.jury.proofs.AcceptedLaws as ballots-laws
 use Rattle.basics.proofs.Flags.{true-T}
 use Rattle.jury.proofs.Limits.{within, bounds, ranked-bytes, graded-kind}
-use Rattle.jury.proofs.Matrix.{array-rows, array-columns}
+use Rattle.jury.proofs.Matrix.{array-rows, array-eight, array-columns}
 use Rattle.rule_judgment.specs.Judgment.{judgmentOf}
 use Rattle.rule_judgment.specs.Theorems.{EachGets}
 use Rattle.rule_judgment.proofs.Theorems.{array-gets}
@@ -52,15 +52,18 @@ counts-requires c κs = graded-ballots c
 
 winners-requires : tie.Need-winners-requires
 winners-requires c κs =
-    let graded = c .before in
+    let counted = c .before in
+    let graded = counted .before in
     let a = graded .before .before .before .args in
     let s = a .shape in
     let xs = a .ballots .now in
+    let array = sym (counted .counts .ensures .array) in
     record {
       within = true-T (gradedLimits s) (graded-limits graded);
+      eight = subst (λ (m : List (List ℕ)). length m ≡ 8) array (array-eight s xs);
       gets = subst (λ (m : List (List ℕ)). EachGets (s .ballots) (rowsIn (s .candidates) (s .grades) m))
-          (sym (c .counts .ensures .array)) (array-gets s xs (graded-ballots graded));
-      columns = λ i l. subst (λ (m : List (List ℕ)). length (getD m i []) ≡ 7) (sym (c .counts .ensures .array)) (array-columns s xs i l);
+          array (array-gets s xs (graded-ballots graded));
+      columns = λ i l. subst (λ (m : List (List ℕ)). length (getD m i []) ≡ 7) array (array-columns s xs i l);
     }
 
 returns : tie.Need-returns
@@ -70,12 +73,13 @@ returns c =
 
 returns-2 : tie.Need-returns-2
 returns-2 c =
-    let graded = c .before .before in
+    let counted = c .before .before in
+    let graded = counted .before in
     let a = graded .before .before .before .args in
     let s = a .shape in
     let xs = a .ballots .now in
     c .winners .ensures
-    ∙ ap (λ (m : List (List ℕ)). eightBytes (judgmentOf (rowsIn (s .candidates) (s .grades) m))) (c .before .counts .ensures .array)
+    ∙ ap (λ (m : List (List ℕ)). eightBytes (judgmentOf (rowsIn (s .candidates) (s .grades) m))) (counted .counts .ensures .array)
     ∙ ap (λ (m : List (List ℕ)). eightBytes (judgmentOf m)) (array-rows s xs (within s (graded-limits graded)))
     ∙ ap eightBytes (sym (closing-graded s xs (grading graded)))
 

@@ -50,7 +50,7 @@ ballot-bytes-from-published c = c .before .before .before .before .before .befor
 
 -- the tests passed, and the answer is the list's own
 accepted-by : (c : tie.After-answer) → let a = (start-from-answer c) .args in
-    (firstOf (roundReasons (a .shape) (a .table .now) (a .t) (a .p) (a .round) (a .levels .now) (a .dealt .now)
+    (firstOf (roundReasons (a .shape) (a .table .now) (a .t) (a .p) (a .round) (a .levels .now) (a .triples .now)
     (a .heard .now) (a .wires .now) (a .published .now)) ≡ none)
     × ((depthsOf (ballotBytes (a .shape)) (gatesOf (a .table .now)))
     ≡ record {
@@ -63,18 +63,18 @@ unfolding depthsOutcome
 accepted-by c =
     let a = (start-from-answer c) .args in
     accepted-values
-    (firstOf (roundReasons (a .shape) (a .table .now) (a .t) (a .p) (a .round) (a .levels .now) (a .dealt .now)
+    (firstOf (roundReasons (a .shape) (a .table .now) (a .t) (a .p) (a .round) (a .levels .now) (a .triples .now)
     (a .heard .now) (a .wires .now) (a .published .now)))
     (depthsOf (ballotBytes (a .shape)) (gatesOf (a .table .now))) _
     (sym (c .before .before .test-round .ensures) ∙ ap depthsOutcome (c .answer .given .1))
 
 -- what is known then
 known : (c : tie.After-answer) → let a = (start-from-answer c) .args in
-    Passed (a .shape) (a .table .now) (a .round) (a .levels .now) (a .dealt .now) (a .heard .now) (a .wires .now)
+    Passed (a .shape) (a .table .now) (a .round) (a .levels .now) (a .triples .now) (a .heard .now) (a .wires .now)
     (a .published .now)
 known c =
     let a = (start-from-answer c) .args in
-    round-passed (a .shape) (a .table .now) (a .t) (a .p) (a .round) (a .levels .now) (a .dealt .now)
+    round-passed (a .shape) (a .table .now) (a .t) (a .p) (a .round) (a .levels .now) (a .triples .now)
     (a .heard .now) (a .wires .now) (a .published .now) (accepted-by c .0)
 
 test-round-requires : tie.Need-test-round-requires
@@ -99,24 +99,24 @@ returns c =
     let r = levelReasonOf (c .enum-told .given .0 .0) in
     let e = ap depthsOutcome (c .enum-told .given .1) in
     let why = outcome-refused (firstOf
-    (roundReasons (a .shape) (a .table .now) (a .t) (a .p) (a .round) (a .levels .now) (a .dealt .now)
+    (roundReasons (a .shape) (a .table .now) (a .t) (a .p) (a .round) (a .levels .now) (a .triples .now)
     (a .heard .now) (a .wires .now) (a .published .now)))
     (depthsOf (ballotBytes (a .shape)) (gatesOf (a .table .now))) r
     (sym (c .before .before .test-round .ensures) ∙ e) in
     same-own
     (e ∙ outcome-some
-    (firstOf (roundReasons (a .shape) (a .table .now) (a .t) (a .p) (a .round) (a .levels .now) (a .dealt .now)
+    (firstOf (roundReasons (a .shape) (a .table .now) (a .t) (a .p) (a .round) (a .levels .now) (a .triples .now)
     (a .heard .now) (a .wires .now) (a .published .now)))
     (depthsOf (ballotBytes (a .shape)) (gatesOf (a .table .now))) r why)
     (left-old
-    (firstOf (roundReasons (a .shape) (a .table .now) (a .t) (a .p) (a .round) (a .levels .now) (a .dealt .now)
+    (firstOf (roundReasons (a .shape) (a .table .now) (a .t) (a .p) (a .round) (a .levels .now) (a .triples .now)
     (a .heard .now) (a .wires .now) (a .published .now)))
-    (wiresMade (a .shape) (a .table .now) (a .p) (a .round) (a .levels .now) (a .dealt .now) (a .heard .now)
+    (wiresMade (a .shape) (a .table .now) (a .p) (a .round) (a .levels .now) (a .triples .now) (a .heard .now)
     (a .wires .now)) (a .wires .now) r why)
     (left-old
-    (firstOf (roundReasons (a .shape) (a .table .now) (a .t) (a .p) (a .round) (a .levels .now) (a .dealt .now)
+    (firstOf (roundReasons (a .shape) (a .table .now) (a .t) (a .p) (a .round) (a .levels .now) (a .triples .now)
     (a .heard .now) (a .wires .now) (a .published .now)))
-    (publishedMade (a .shape) (a .table .now) (a .p) (a .round) (a .levels .now) (a .dealt .now) (a .heard .now)
+    (publishedMade (a .shape) (a .table .now) (a .p) (a .round) (a .levels .now) (a .triples .now) (a .heard .now)
     (a .wires .now) (a .published .now)) (a .published .now) r why)
 
 ballot-bytes-requires : tie.Need-ballot-bytes-requires
@@ -136,7 +136,7 @@ round-requires c κs =
         few = omega (arith, p .facts .few, inputs-bound (a .shape) (bounds (a .shape) (p .facts .within)));
         good = p .facts .good;
         levels-length = p .levels-length;
-        dealt-length = p .lengths .dealt-length;
+        triples-length = p .lengths .triples-length;
         wires-length = p .lengths .wires-length;
       };
       early = omega (
@@ -173,8 +173,8 @@ returns-2 c =
       round = a .round;
       inputs = n;
       levels = a .levels .now;
-      dealt =
-          a .dealt .now;
+      triples =
+          a .triples .now;
       heard = a .heard .now;
     } in
     let X : ℕ → ℕ → ℕ → List ℕ = λ n m c.
@@ -183,22 +183,22 @@ returns-2 c =
     (a .published .now)) in
     same-own
     (outcome-none
-    (firstOf (roundReasons (a .shape) (a .table .now) (a .t) (a .p) (a .round) (a .levels .now) (a .dealt .now)
+    (firstOf (roundReasons (a .shape) (a .table .now) (a .t) (a .p) (a .round) (a .levels .now) (a .triples .now)
     (a .heard .now) (a .wires .now) (a .published .now)))
     (depthsOf (ballotBytes (a .shape)) (gatesOf (a .table .now))) _ (by .0) (sym (by .1)))
     (done .parts ∙ ap (λ (n : ℕ). enters (u n) (gatesOf (a .table .now)) 0 0 (a .wires .now)) e
     ∙ left-new
-    (firstOf (roundReasons (a .shape) (a .table .now) (a .t) (a .p) (a .round) (a .levels .now) (a .dealt .now)
+    (firstOf (roundReasons (a .shape) (a .table .now) (a .t) (a .p) (a .round) (a .levels .now) (a .triples .now)
     (a .heard .now) (a .wires .now) (a .published .now)))
-    (wiresMade (a .shape) (a .table .now) (a .p) (a .round) (a .levels .now) (a .dealt .now) (a .heard .now)
+    (wiresMade (a .shape) (a .table .now) (a .p) (a .round) (a .levels .now) (a .triples .now) (a .heard .now)
     (a .wires .now)) (a .wires .now) (by .0))
     (done .shown ∙ ap (λ (n : ℕ). X n (ok .answer .given .0 .1 .1 .0) (ok .answer .given .0 .1 .0)) e
     ∙ ap (λ (m : ℕ). X (ballotBytes (a .shape)) m (ok .answer .given .0 .1 .0)) (sym rounds)
     ∙ ap (λ (c : ℕ). X (ballotBytes (a .shape)) (roundsOf (ballotBytes (a .shape)) (gatesOf (a .table .now))) c)
     (sym conditional) ∙ left-new (firstOf
-    (roundReasons (a .shape) (a .table .now) (a .t) (a .p) (a .round) (a .levels .now) (a .dealt .now)
+    (roundReasons (a .shape) (a .table .now) (a .t) (a .p) (a .round) (a .levels .now) (a .triples .now)
     (a .heard .now) (a .wires .now) (a .published .now)))
-    (publishedMade (a .shape) (a .table .now) (a .p) (a .round) (a .levels .now) (a .dealt .now) (a .heard .now)
+    (publishedMade (a .shape) (a .table .now) (a .p) (a .round) (a .levels .now) (a .triples .now) (a .heard .now)
     (a .wires .now) (a .published .now)) (a .published .now) (by .0))
 
 pub round-spec : {M : Type 1} → statement M

@@ -71,12 +71,12 @@ returns c =
     let g = c .before .reason .given in
     let r = reasonOf (g .0 .0) in
     outcome-some
-    (firstOf (roundReasons (a .shape) (a .table .now) (a .t) (a .p) (a .round) (a .levels .now) (a .dealt .now)
+    (firstOf (roundReasons (a .shape) (a .table .now) (a .t) (a .p) (a .round) (a .levels .now) (a .triples .now)
     (a .heard .now) (a .wires .now) (a .published .now)))
     (depthsOf (ballotBytes (a .shape)) (gatesOf (a .table .now))) r
     (before (testReasons (a .shape) (a .table .now))
     (tableReasons (ballotBytes (a .shape)) (a .shape .candidates) (gatesOf (a .table .now)) (a .t) (a .p) (a .round)
-    (a .levels .now) (a .dealt .now) (a .heard .now) (a .wires .now) (a .published .now)) r
+    (a .levels .now) (a .triples .now) (a .heard .now) (a .wires .now) (a .published .now)) r
     (outcome-refused (firstOf (testReasons (a .shape) (a .table .now))) (sizeOf (gatesOf (a .table .now))) r
     (sym (c .before .before .before .test .ensures) ∙ ap outcomeOf (g .1))))
 
@@ -86,12 +86,12 @@ returns-2 c =
     let a = (start-from-test-tables c) .args in
     c .test-tables .ensures ∙ ap (λ (n : ℕ). outcome
     (firstOf (tableReasons n (a .shape .candidates) (gatesOf (a .table .now)) (a .t) (a .p) (a .round)
-    (a .levels .now) (a .dealt .now) (a .heard .now) (a .wires .now) (a .published .now)))
+    (a .levels .now) (a .triples .now) (a .heard .now) (a .wires .now) (a .published .now)))
     (depthsOf n (gatesOf (a .table .now)))) (c .before .ballot-bytes .ensures)
     ∙ ap (λ (o : Option Reason). outcome o (depthsOf (ballotBytes (a .shape)) (gatesOf (a .table .now))))
     (sym (behind (testReasons (a .shape) (a .table .now))
     (tableReasons (ballotBytes (a .shape)) (a .shape .candidates) (gatesOf (a .table .now)) (a .t) (a .p)
-    (a .round) (a .levels .now) (a .dealt .now) (a .heard .now) (a .wires .now) (a .published .now))
+    (a .round) (a .levels .now) (a .triples .now) (a .heard .now) (a .wires .now) (a .published .now))
     (facts (c .before .before .before) .reasons)))
 
 pub test-round-spec : {M : Type 1} → statement M

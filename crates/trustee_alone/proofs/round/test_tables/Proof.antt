@@ -14,17 +14,17 @@ use Rattle.gates.specs.Gate.{gatesOf}
 use Rattle.gates.specs.Board.{conditionalCount}
 use Rattle.gates.proofs.Counting.{count-most}
 use Rattle.gate_levels.specs.Levels.{levelsOf, roundsOf}
-use Rattle.gate_levels.specs.Compared.{sameNumbers}
 use Rattle.jury.specs.Reason.{reasonAt, reasonOf, firstOf}
 use Rattle.tally.specs.Answer.{Size, sizeOf}
 use Rattle.levels.specs.Answer.{depthsOf, depthsOutcome, levelReasonOf}
 use Rattle.levels.proofs.Reasons.{depths-are}
 use Rattle.trustee_gates.specs.Dealing.{onlyBits}
-use Rattle.trustee_alone.specs.Own.{isTrustee, tablesFit}
+use Rattle.trustee_alone.specs.Own.{isTrustee, ownTablesFit}
 use Rattle.trustee_alone.specs.Rounds.{tableReasons}
 use Rattle.trustee_alone.proofs.Tests.{pass, fail, end, and-both, outcome-some, outcome-none}
 use Rattle.trustee_alone.proofs.Sizes.{small-sizes, size-is, own-same, other-same, other-long}
 use Rattle.trustee_alone.proofs.round.test_tables.Statement.{statement}
+use Rattle.basics.specs.Lists.{sameNumbers}
 use Rattle.trustee_alone.proofs.round.test_tables.Tie as tie
 
 -- The stages of the function, seen from later ones.
@@ -153,21 +153,21 @@ trustee : (c : tie.Else1) → let a = (start-from-else1 c) .args in isTrustee (a
 trustee c = sym (c .before .is-trustee .ensures) ∙ not-false (c .before .is-trustee .result) (c .if1 .left)
 
 fit-is : (c : tie.After-tables-fit) → let a = (start-from-tables-fit c) .args in c .tables-fit .result
-    ≡ tablesFit (a .inputs) (a .k) (sizeOf (gatesOf (a .table .now))) (a .dealt .now) (a .wires .now)
+    ≡ ownTablesFit (a .inputs) (a .k) (sizeOf (gatesOf (a .table .now))) (a .triples .now) (a .wires .now)
     (a .published .now)
 fit-is c =
     let s = (start-from-tables-fit c) in
     let a = s .args in
-    c .tables-fit .ensures ∙ ap (λ (z : Size). tablesFit (a .inputs) (a .k) z (a .dealt .now) (a .wires .now)
+    c .tables-fit .ensures ∙ ap (λ (z : Size). ownTablesFit (a .inputs) (a .k) z (a .triples .now) (a .wires .now)
     (a .published .now)) (size-is (a .gates) (a .conditional) (a .table .now) (s .pre .gates-are)
     (s .pre .conditional-are))
 
 fits : (c : tie.Else2) → let a = (start-from-else2 c) .args in
-    tablesFit (a .inputs) (a .k) (sizeOf (gatesOf (a .table .now))) (a .dealt .now) (a .wires .now)
+    ownTablesFit (a .inputs) (a .k) (sizeOf (gatesOf (a .table .now))) (a .triples .now) (a .wires .now)
     (a .published .now) ≡ true
 fits c = sym (fit-is (c .before)) ∙ not-false (c .before .tables-fit .result) (c .if2 .left)
 
-bits : (c : tie.Else3) → let a = (start-from-else3 c) .args in onlyBits (a .dealt .now) ≡ true
+bits : (c : tie.Else3) → let a = (start-from-else3 c) .args in onlyBits (a .triples .now) ≡ true
 bits c = sym (c .before .only-bits .ensures) ∙ not-false (c .before .only-bits .result) (c .if3 .left)
 
 same : (c : tie.After-rounds) → let a = (start-from-rounds c) .args in
@@ -201,7 +201,7 @@ returns c =
     let a = s .args in
     outcome-some
     (firstOf (tableReasons (a .inputs) (a .k) (gatesOf (a .table .now)) (a .t) (a .p) (a .round) (a .levels .now)
-    (a .dealt .now) (a .heard .now) (a .wires .now) (a .published .now)))
+    (a .triples .now) (a .heard .now) (a .wires .now) (a .published .now)))
     (depthsOf (a .inputs) (gatesOf (a .table .now))) (reasonAt 16 0)
     (fail _ 16 _ (sym (c .before .is-trustee .ensures) ∙ not-true (c .before .is-trustee .result) (c .if1 .taken)))
 
@@ -216,7 +216,7 @@ returns-2 c =
     let a = s .args in
     outcome-some
     (firstOf (tableReasons (a .inputs) (a .k) (gatesOf (a .table .now)) (a .t) (a .p) (a .round) (a .levels .now)
-    (a .dealt .now) (a .heard .now) (a .wires .now) (a .published .now)))
+    (a .triples .now) (a .heard .now) (a .wires .now) (a .published .now)))
     (depthsOf (a .inputs) (gatesOf (a .table .now))) (reasonAt 17 0)
     (pass _ 16 _ (trustee (c .before .before))
     ∙ fail _ 17 _ (sym (fit-is (c .before)) ∙ not-true (c .before .tables-fit .result) (c .if2 .taken)))
@@ -231,7 +231,7 @@ returns-3 c =
     let a = s .args in
     outcome-some
     (firstOf (tableReasons (a .inputs) (a .k) (gatesOf (a .table .now)) (a .t) (a .p) (a .round) (a .levels .now)
-    (a .dealt .now) (a .heard .now) (a .wires .now) (a .published .now)))
+    (a .triples .now) (a .heard .now) (a .wires .now) (a .published .now)))
     (depthsOf (a .inputs) (gatesOf (a .table .now))) (reasonAt 18 0)
     (pass _ 16 _ (trustee (c .before .before .before .before)) ∙ pass _ 17 _ (fits (c .before .before))
     ∙ fail _ 18 _ (sym (c .before .only-bits .ensures) ∙ not-true (c .before .only-bits .result) (c .if3 .taken)))
@@ -243,7 +243,7 @@ returns-4 c =
     let a = s .args in
     outcome-some
     (firstOf (tableReasons (a .inputs) (a .k) (gatesOf (a .table .now)) (a .t) (a .p) (a .round) (a .levels .now)
-    (a .dealt .now) (a .heard .now) (a .wires .now) (a .published .now)))
+    (a .triples .now) (a .heard .now) (a .wires .now) (a .published .now)))
     (depthsOf (a .inputs) (gatesOf (a .table .now))) (reasonAt 200 0)
     (pass _ 16 _ (trustee (else1-from-then4 c)) ∙ pass _ 17 _ (fits (c .before .before .before))
     ∙ pass _ 18 _ (bits (c .before))
@@ -268,7 +268,7 @@ returns-5 c =
     let a = s .args in
     outcome-some
     (firstOf (tableReasons (a .inputs) (a .k) (gatesOf (a .table .now)) (a .t) (a .p) (a .round) (a .levels .now)
-    (a .dealt .now) (a .heard .now) (a .wires .now) (a .published .now)))
+    (a .triples .now) (a .heard .now) (a .wires .now) (a .published .now)))
     (depthsOf (a .inputs) (gatesOf (a .table .now))) (reasonAt 200 0)
     (pass _ 16 _ (trustee (else1-from-enum-told c)) ∙ pass _ 17 _ (fits (else2-from-enum-told c))
     ∙ pass _ 18 _ (bits (c .before .before .before .before))
@@ -282,7 +282,7 @@ returns-6 c =
     let a = s .args in
     outcome-some
     (firstOf (tableReasons (a .inputs) (a .k) (gatesOf (a .table .now)) (a .t) (a .p) (a .round) (a .levels .now)
-    (a .dealt .now) (a .heard .now) (a .wires .now) (a .published .now)))
+    (a .triples .now) (a .heard .now) (a .wires .now) (a .published .now)))
     (depthsOf (a .inputs) (gatesOf (a .table .now))) (reasonAt 201 0)
     (pass _ 16 _ (trustee (else1-from-then5 c)) ∙ pass _ 17 _ (fits (else2-from-then5 c))
     ∙ pass _ 18 _ (bits (else3-from-then5 c)) ∙ pass _ 200 _ (same (c .before .before) .0)
@@ -299,7 +299,7 @@ returns-7 c =
     let a = s .args in
     outcome-some
     (firstOf (tableReasons (a .inputs) (a .k) (gatesOf (a .table .now)) (a .t) (a .p) (a .round)
-    (a .levels .now) (a .dealt .now) (a .heard .now) (a .wires .now) (a .published .now)))
+    (a .levels .now) (a .triples .now) (a .heard .now) (a .wires .now) (a .published .now)))
     (depthsOf (a .inputs) (gatesOf (a .table .now))) (reasonAt 202 0)
     (pass _ 16 _ (trustee (else1-from-then6 c)) ∙ pass _ 17 _ (fits (else2-from-then6 c))
     ∙ pass _ 18 _ (bits (else3-from-then6 c)) ∙ pass _ 200 _ (same (c .before .before .before) .0)
@@ -318,7 +318,7 @@ returns-8 c =
     let a = s .args in
     outcome-some
     (firstOf (tableReasons (a .inputs) (a .k) (gatesOf (a .table .now)) (a .t) (a .p) (a .round) (a .levels .now)
-    (a .dealt .now) (a .heard .now) (a .wires .now) (a .published .now)))
+    (a .triples .now) (a .heard .now) (a .wires .now) (a .published .now)))
     (depthsOf (a .inputs) (gatesOf (a .table .now))) (reasonAt 202 0)
     (pass _ 16 _ (trustee (else1-from-then7 c)) ∙ pass _ 17 _ (fits (else2-from-then7 c))
     ∙ pass _ 18 _ (bits (else3-from-then7 c)) ∙ pass _ 200 _ (same (rounds-from-then7 c) .0)
@@ -333,7 +333,7 @@ returns-9 c =
     let a = s .args in
     outcome-none
     (firstOf (tableReasons (a .inputs) (a .k) (gatesOf (a .table .now)) (a .t) (a .p) (a .round) (a .levels .now)
-    (a .dealt .now) (a .heard .now) (a .wires .now) (a .published .now)))
+    (a .triples .now) (a .heard .now) (a .wires .now) (a .published .now)))
     (depthsOf (a .inputs) (gatesOf (a .table .now))) _
     (pass _ 16 _ (trustee (else1-from-else7 c)) ∙ pass _ 17 _ (fits (else2-from-else7 c))
     ∙ pass _ 18 _ (bits (else3-from-else7 c)) ∙ pass _ 200 _ (same (rounds-from-else7 c) .0)

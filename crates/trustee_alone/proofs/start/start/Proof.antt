@@ -21,7 +21,7 @@ use Rattle.tally.proofs.TestReasons.{test-passed}
 use Rattle.tally.proofs.RunReasons.{outcome-refused}
 use Rattle.levels.proofs.Reasons.{ListFacts, list-facts}
 use Rattle.trustee_rounds.specs.Rounds.{startWires, startPublished}
-use Rattle.trustee_alone.specs.Own.{tablesFit}
+use Rattle.trustee_alone.specs.Own.{ownTablesFit}
 use Rattle.trustee_alone.specs.Start.{ownReasons, startReasons, startOutcome, startedWires, startedPublished}
 use Rattle.trustee_alone.proofs.Tests.{passed, before, behind, both-passed, outcome-some, outcome-none, left-old, left-new, same-own}
 use Rattle.trustee_alone.proofs.Sizes.{tables-ready, small-sizes, size-is, Fit, fit, started, started-published}
@@ -89,7 +89,7 @@ facts c =
 
 -- what the tests 16 to 18 answer is what the whole answers
 own-answer : (c : tie.After-test-own) → let a = (start-from-test-own c) .args in
-    firstOf (startReasons (a .shape) (a .table .now) (a .t) (a .p) (a .parts .now) (a .dealt .now) (a .wires .now)
+    firstOf (startReasons (a .shape) (a .table .now) (a .t) (a .p) (a .shares .now) (a .triples .now) (a .wires .now)
     (a .published .now)) ≡ refusedFor (c .test-own .result)
 unfolding startReasons
 own-answer c =
@@ -97,7 +97,7 @@ own-answer c =
     let known = facts (answer-from-test-own c) in
     behind (testReasons (a .shape) (a .table .now))
     (ownReasons (ballotBytes (a .shape)) (a .shape .candidates) (sizeOf (gatesOf (a .table .now))) (a .t) (a .p)
-    (a .parts .now) (a .dealt .now) (a .wires .now) (a .published .now)) (known .reasons)
+    (a .shares .now) (a .triples .now) (a .wires .now) (a .published .now)) (known .reasons)
     ∙ sym (
     c .test-own .ensures ∙ ap (λ (n : ℕ). firstOf
     (ownReasons n (a .shape .candidates)
@@ -105,34 +105,34 @@ own-answer c =
       gates = (answer-from-test-own c) .answer .given .0 .0;
       conditional =
           (answer-from-test-own c) .answer .given .0 .1 .0;
-    }) (a .t) (a .p) (a .parts .now) (a .dealt .now)
+    }) (a .t) (a .p) (a .shares .now) (a .triples .now)
     (a .wires .now) (a .published .now))) (c .before .before .before .ballot-bytes .ensures)
     ∙ ap (λ (z : Size). firstOf (ownReasons (ballotBytes (a .shape)) (a .shape .candidates) z (a .t) (a .p)
-    (a .parts .now) (a .dealt .now) (a .wires .now) (a .published .now)))
+    (a .shares .now) (a .triples .now) (a .wires .now) (a .published .now)))
     (size-is _ _ (a .table .now) (known .gates-are) (known .conditional-are)))
 
 -- no reason applies
 none-applies : (c : tie.After-enum-told2) → let a = (start-from-enum-told2 c) .args in
-    firstOf (startReasons (a .shape) (a .table .now) (a .t) (a .p) (a .parts .now) (a .dealt .now) (a .wires .now)
+    firstOf (startReasons (a .shape) (a .table .now) (a .t) (a .p) (a .shares .now) (a .triples .now) (a .wires .now)
     (a .published .now)) ≡ none
 unfolding refusedFor
 none-applies c = own-answer (c .before .before) ∙ ap refusedFor (c .enum-told2 .given .1)
 
 -- so the tables have their lengths
 lengths : (c : tie.After-enum-told2) → let a = (start-from-enum-told2 c) .args in
-    (length (a .parts .now) ≡ ballotBytes (a .shape))
-    × Fit (ballotBytes (a .shape)) (a .shape .candidates) (gatesOf (a .table .now)) (a .dealt .now) (a .wires .now)
+    (length (a .shares .now) ≡ ballotBytes (a .shape))
+    × Fit (ballotBytes (a .shape)) (a .shape .candidates) (gatesOf (a .table .now)) (a .triples .now) (a .wires .now)
     (a .published .now)
 unfolding startReasons ownReasons
 lengths c =
     let a = (start-from-enum-told2 c) .args in
     let own = both-passed (testReasons (a .shape) (a .table .now)) _ (none-applies c) .1 in
     let two = passed _ 17 _ (passed _ 16 _ own .1) .0 in
-    let l = eqb (length (a .parts .now)) (ballotBytes (a .shape)) in
-    let t = tablesFit (ballotBytes (a .shape)) (a .shape .candidates) (sizeOf (gatesOf (a .table .now)))
-    (a .dealt .now) (a .wires .now) (a .published .now) in (
-      eqb-true (length (a .parts .now)) (ballotBytes (a .shape)) (and-first l t two),
-      fit (ballotBytes (a .shape)) (a .shape .candidates) (gatesOf (a .table .now)) (a .dealt .now) (a .wires .now)
+    let l = eqb (length (a .shares .now)) (ballotBytes (a .shape)) in
+    let t = ownTablesFit (ballotBytes (a .shape)) (a .shape .candidates) (sizeOf (gatesOf (a .table .now)))
+    (a .triples .now) (a .wires .now) (a .published .now) in (
+      eqb-true (length (a .shares .now)) (ballotBytes (a .shape)) (and-first l t two),
+      fit (ballotBytes (a .shape)) (a .shape .candidates) (gatesOf (a .table .now)) (a .triples .now) (a .wires .now)
           (a .published .now) (and-second l t two),
     )
 
@@ -153,18 +153,18 @@ returns c =
     let e = ap outcomeOf (c .enum-told .given .1) in
     let why = before (testReasons (a .shape) (a .table .now))
     (ownReasons (ballotBytes (a .shape)) (a .shape .candidates) (sizeOf (gatesOf (a .table .now))) (a .t) (a .p)
-    (a .parts .now) (a .dealt .now) (a .wires .now) (a .published .now)) r
+    (a .shares .now) (a .triples .now) (a .wires .now) (a .published .now)) r
     (outcome-refused (firstOf (testReasons (a .shape) (a .table .now))) (sizeOf (gatesOf (a .table .now))) r
     (sym (c .before .before .test .ensures) ∙ e)) in
     same-own
     (e ∙ outcome-some
-    (firstOf (startReasons (a .shape) (a .table .now) (a .t) (a .p) (a .parts .now) (a .dealt .now) (a .wires .now)
+    (firstOf (startReasons (a .shape) (a .table .now) (a .t) (a .p) (a .shares .now) (a .triples .now) (a .wires .now)
     (a .published .now))) (sizeOf (gatesOf (a .table .now))) r why)
     (left-old
-    (firstOf (startReasons (a .shape) (a .table .now) (a .t) (a .p) (a .parts .now) (a .dealt .now) (a .wires .now)
-    (a .published .now))) (startWires (length (gatesOf (a .table .now))) (a .parts .now)) (a .wires .now) r why)
+    (firstOf (startReasons (a .shape) (a .table .now) (a .t) (a .p) (a .shares .now) (a .triples .now) (a .wires .now)
+    (a .published .now))) (startWires (length (gatesOf (a .table .now))) (a .shares .now)) (a .wires .now) r why)
     (left-old
-    (firstOf (startReasons (a .shape) (a .table .now) (a .t) (a .p) (a .parts .now) (a .dealt .now) (a .wires .now)
+    (firstOf (startReasons (a .shape) (a .table .now) (a .t) (a .p) (a .shares .now) (a .triples .now) (a .wires .now)
     (a .published .now))) (startPublished (conditionalCount (gatesOf (a .table .now))) (a .shape .candidates))
     (a .published .now) r why)
 
@@ -195,13 +195,13 @@ returns-2 c =
     let why = own-answer (c .before .before .before) ∙ ap refusedFor (c .before .reason .given .1) in
     same-own
     (outcome-some
-    (firstOf (startReasons (a .shape) (a .table .now) (a .t) (a .p) (a .parts .now) (a .dealt .now) (a .wires .now)
+    (firstOf (startReasons (a .shape) (a .table .now) (a .t) (a .p) (a .shares .now) (a .triples .now) (a .wires .now)
     (a .published .now))) (sizeOf (gatesOf (a .table .now))) r why)
     (left-old
-    (firstOf (startReasons (a .shape) (a .table .now) (a .t) (a .p) (a .parts .now) (a .dealt .now) (a .wires .now)
-    (a .published .now))) (startWires (length (gatesOf (a .table .now))) (a .parts .now)) (a .wires .now) r why)
+    (firstOf (startReasons (a .shape) (a .table .now) (a .t) (a .p) (a .shares .now) (a .triples .now) (a .wires .now)
+    (a .published .now))) (startWires (length (gatesOf (a .table .now))) (a .shares .now)) (a .wires .now) r why)
     (left-old
-    (firstOf (startReasons (a .shape) (a .table .now) (a .t) (a .p) (a .parts .now) (a .dealt .now) (a .wires .now)
+    (firstOf (startReasons (a .shape) (a .table .now) (a .t) (a .p) (a .shares .now) (a .triples .now) (a .wires .now)
     (a .published .now))) (startPublished (conditionalCount (gatesOf (a .table .now))) (a .shape .candidates))
     (a .published .now) r why)
 
@@ -242,20 +242,20 @@ returns-3 c =
     let l = lengths told in
     same-own
     (outcome-none
-    (firstOf (startReasons (a .shape) (a .table .now) (a .t) (a .p) (a .parts .now) (a .dealt .now) (a .wires .now)
+    (firstOf (startReasons (a .shape) (a .table .now) (a .t) (a .p) (a .shares .now) (a .triples .now) (a .wires .now)
     (a .published .now))) (sizeOf (gatesOf (a .table .now))) _ why
     (size-is _ _ (a .table .now) (facts known .gates-are) (facts known .conditional-are)))
     (copied ((copy-from-published (c .before)) .copy .ensures)
-    ∙ ap (λ (z : List ℕ). take (length (a .parts .now)) (a .parts .now) ++ drop (length (a .parts .now)) z)
+    ∙ ap (λ (z : List ℕ). take (length (a .shares .now)) (a .shares .now) ++ drop (length (a .shares .now)) z)
     ((empty-from-published (c .before)) .empty .ensures)
-    ∙ started (a .parts .now) (a .wires .now) (ballotBytes (a .shape)) (length (gatesOf (a .table .now))) (l .0)
+    ∙ started (a .shares .now) (a .wires .now) (ballotBytes (a .shape)) (length (gatesOf (a .table .now))) (l .0)
     (l .1 .wires-length) ∙ left-new
-    (firstOf (startReasons (a .shape) (a .table .now) (a .t) (a .p) (a .parts .now) (a .dealt .now) (a .wires .now)
-    (a .published .now))) (startWires (length (gatesOf (a .table .now))) (a .parts .now)) (a .wires .now) why)
+    (firstOf (startReasons (a .shape) (a .table .now) (a .t) (a .p) (a .shares .now) (a .triples .now) (a .wires .now)
+    (a .published .now))) (startWires (length (gatesOf (a .table .now))) (a .shares .now)) (a .wires .now) why)
     (c .before .before .empty2 .ensures
     ∙ started-published (a .published .now) (conditionalCount (gatesOf (a .table .now))) (a .shape .candidates)
     (l .1 .published-length) ∙ left-new
-    (firstOf (startReasons (a .shape) (a .table .now) (a .t) (a .p) (a .parts .now) (a .dealt .now) (a .wires .now)
+    (firstOf (startReasons (a .shape) (a .table .now) (a .t) (a .p) (a .shares .now) (a .triples .now) (a .wires .now)
     (a .published .now))) (startPublished (conditionalCount (gatesOf (a .table .now))) (a .shape .candidates))
     (a .published .now) why)
 

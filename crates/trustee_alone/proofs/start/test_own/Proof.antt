@@ -9,7 +9,7 @@ use borrow.Author.Tests.{eq-eqb, ne-eqb, not-true, not-false}
 use Rattle.basics.proofs.Flags.{and-first-fails}
 use Rattle.jury.specs.Reason.{reasonOf, refusedFor}
 use Rattle.trustee_gates.specs.Dealing.{onlyBits}
-use Rattle.trustee_alone.specs.Own.{isTrustee, tablesFit}
+use Rattle.trustee_alone.specs.Own.{isTrustee, ownTablesFit}
 use Rattle.trustee_alone.specs.Start.{ownReasons}
 use Rattle.trustee_alone.proofs.Tests.{pass, fail, end, and-both}
 use Rattle.trustee_alone.proofs.start.test_own.Statement.{statement}
@@ -65,18 +65,18 @@ else2-from-then5 c = c .before .before .before .before .before .before
 trustee : (c : tie.Else1) → let a = (start-from-else1 c) .args in isTrustee (a .t) (a .p) ≡ true
 trustee c = sym (c .before .is-trustee .ensures) ∙ not-false (c .before .is-trustee .result) (c .if1 .left)
 
-long : (c : tie.Else2) → let a = (start-from-else2 c) .args in eqb (length (a .parts .now)) (a .inputs) ≡ true
-long c = let a = (start-from-else2 c) .args in eq-eqb (length (a .parts .now)) (a .inputs) (c .if2 .left)
+long : (c : tie.Else2) → let a = (start-from-else2 c) .args in eqb (length (a .shares .now)) (a .inputs) ≡ true
+long c = let a = (start-from-else2 c) .args in eq-eqb (length (a .shares .now)) (a .inputs) (c .if2 .left)
 
 fits : (c : tie.Else3) → let a = (start-from-else3 c) .args in
-    tablesFit (a .inputs) (a .k) (record { gates = a .gates; conditional = a .conditional }) (a .dealt .now)
+    ownTablesFit (a .inputs) (a .k) (record { gates = a .gates; conditional = a .conditional }) (a .triples .now)
     (a .wires .now) (a .published .now) ≡ true
 fits c = sym (c .before .tables-fit .ensures) ∙ not-false (c .before .tables-fit .result) (c .if3 .left)
 
-bits : (c : tie.Else4) → let a = (start-from-else4 c) .args in onlyBits (a .parts .now) ≡ true
+bits : (c : tie.Else4) → let a = (start-from-else4 c) .args in onlyBits (a .shares .now) ≡ true
 bits c = sym (c .before .only-bits .ensures) ∙ not-false (c .before .only-bits .result) (c .if4 .left)
 
-bits2 : (c : tie.Else5) → let a = (start-from-else5 c) .args in onlyBits (a .dealt .now) ≡ true
+bits2 : (c : tie.Else5) → let a = (start-from-else5 c) .args in onlyBits (a .triples .now) ≡ true
 bits2 c = sym (c .before .only-bits2 .ensures) ∙ not-false (c .before .only-bits2 .result) (c .if5 .left)
 
 is-trustee-requires : tie.Need-is-trustee-requires
@@ -93,7 +93,7 @@ unfolding refusedFor reasonOf ownReasons
 returns-2 c =
     let a = (start-from-then2 c) .args in
     sym (pass _ 16 _ (trustee (c .before))
-    ∙ fail _ 17 _ (and-first-fails _ _ (ne-eqb (length (a .parts .now)) (a .inputs) (c .if2 .taken))))
+    ∙ fail _ 17 _ (and-first-fails _ _ (ne-eqb (length (a .shares .now)) (a .inputs) (c .if2 .taken))))
 
 tables-fit-requires : tie.Need-tables-fit-requires
 tables-fit-requires c κs = (start-from-else2 c) .pre

@@ -14,10 +14,10 @@ use Rattle.trustee_gates.proofs.dealing.products_add_up.Statement.{stat
 use Rattle.trustee_gates.proofs.dealing.products_add_up.Tie as tie
 
 abbrev Inv-loop : tie.InvT-loop
-Inv-loop t conditional dealt size i₀ i = (i ≤ conditional) × (true ≡ allBelow i (productAddsUp t (piece (3 * conditional) dealt)))
+Inv-loop t conditional triples size i₀ i = (i ≤ conditional) × (true ≡ allBelow i (productAddsUp t (piece (3 * conditional) triples)))
 
 abbrev μ-loop : tie.MeasureT-loop
-μ-loop t conditional dealt size i₀ i = conditional - i
+μ-loop t conditional triples size i₀ i = conditional - i
 
 mul-size : tie.Need-mul-size Inv-loop μ-loop
 mul-size c = omega (arith, c .before .pre)
@@ -40,7 +40,7 @@ unfolding productsAddUp
 returns c =
     let l = c .before .before .before .loop in
     let a = (start-from-then1 c) .args in
-    not-all (productAddsUp (a .t) (piece (3 * a .conditional) (a .dealt .now))) (a .conditional) (l .i)
+    not-all (productAddsUp (a .t) (piece (3 * a .conditional) (a .triples .now))) (a .conditional) (l .i)
     (omega arith) (sym (c .before .product-adds-up .ensures) ∙ not-true _ (c .if1 .taken))
 
 add-i : tie.Need-add-i Inv-loop μ-loop
@@ -54,9 +54,9 @@ loop-again c =
     let l = c .before .before .before .loop in
     let a = (start-from-else1 c) .args in (
       omega arith,
-      all-more (productAddsUp (a .t) (piece (3 * a .conditional) (a .dealt .now))) (l .i) (l .inv .1)
+      all-more (productAddsUp (a .t) (piece (3 * a .conditional) (a .triples .now))) (l .i) (l .inv .1)
           (sym (c .before .product-adds-up .ensures) ∙ not-false _ (c .if1 .left))
-          ∙ ap (λ (n : ℕ). allBelow n (productAddsUp (a .t) (piece (3 * a .conditional) (a .dealt .now)))) (sym (add-one (l .i))),
+          ∙ ap (λ (n : ℕ). allBelow n (productAddsUp (a .t) (piece (3 * a .conditional) (a .triples .now)))) (sym (add-one (l .i))),
     )
 
 returns-2 : tie.Need-returns-2 Inv-loop μ-loop
@@ -65,7 +65,7 @@ returns-2 c =
     let l = c .before .loop in
     let a = c .before .before .before .args in
     let e : l .i ≡ a .conditional = omega arith in
-    l .inv .1 ∙ ap (λ (n : ℕ). allBelow n (productAddsUp (a .t) (piece (3 * a .conditional) (a .dealt .now)))) e
+    l .inv .1 ∙ ap (λ (n : ℕ). allBelow n (productAddsUp (a .t) (piece (3 * a .conditional) (a .triples .now)))) e
 
 pub products-add-up-spec : {M : Type 1} → statement M
 products-add-up-spec =

@@ -15,7 +15,7 @@ use Rattle.trustee_gates.proofs.evaluate.evaluate.Statement.{statement}
 use Rattle.trustee_gates.proofs.evaluate.evaluate.Tie as tie
 
 abbrev dealing : tie.Start → Dealing
-dealing s = record { ballotParts = s .args .parts .now; dealerParts = s .args .dealt .now }
+dealing s = record { ballotParts = s .args .shares .now; dealerParts = s .args .triples .now }
 
 -- sizes, by the length of the table
 size-is : (s : tie.Start) → s .args .inputs + length (s .args .table .now) / 4 ≡ s .args .inputs + length (gatesOf (s .args .table .now))
@@ -83,13 +83,13 @@ run-gates-requires c κs =
       few = r .few;
       good = r .good;
       wires-size = size-is s;
-      dealt-size = omega (arith, r .conditional-is);
+      triples-size = omega (arith, r .conditional-is);
       published-size = omega (arith, r .conditional-is);
       wires-length = copied-long (a .t) (a .inputs) (gatesOf (a .table .now)) (a .k) (dealing s) (a .wires .now)
           (a .published .now) (a .inputs + length (a .table .now) / 4) (2 * a .conditional + a .k) (a .conditional)
           (s .pre .conditional-is) (size-is s) (s .pre .enough) refl (s .pre .ballot-length) (wires-length s)
           (s .pre .published-length) _ (copied .copy-pieces .ensures);
-      dealt-length = r .dealt-length;
+      triples-length = r .triples-length;
       published-length = r .published-length;
     }
 

@@ -18,29 +18,29 @@ use Rattle.trustee_gates.proofs.evaluate.run_gates.Tie as tie
 
 -- what the whole list makes of the tables
 abbrev final : ℕ → Pieces → ℕ → List ℕ → List ℕ → List ℕ → Held
-final t pieces inputs table dealt ws =
-    partsOf t (piece (pieces .dealt) dealt) (λ p. take inputs (piece (pieces .wires) ws p)) 0 (gatesOf table)
+final t pieces inputs table triples ws =
+    partsOf t (piece (pieces .triples) triples) (λ p. take inputs (piece (pieces .wires) ws p)) 0 (gatesOf table)
 
 abbrev finalPublished : ℕ → Pieces → ℕ → List ℕ → List ℕ → List ℕ → List ℕ → Held
-finalPublished t pieces inputs table dealt ws published p =
+finalPublished t pieces inputs table triples ws published p =
     sets (piece (pieces .published) published p) 0
-    (maskedFactors (final t pieces inputs table dealt ws p) (piece (pieces .dealt) dealt p) 0 (gatesOf table))
+    (maskedFactors (final t pieces inputs table triples ws p) (piece (pieces .triples) triples p) 0 (gatesOf table))
 
 abbrev Inv-loop : tie.InvT-loop
-Inv-loop t pieces inputs table dealt wires₀ published₀ marks gates i₀ g₀ wires published i g =
-    Left t (pieces .wires) (pieces .published) inputs (piece (pieces .dealt) dealt) table
-    (final t pieces inputs table dealt wires₀) (finalPublished t pieces inputs table dealt wires₀ published₀) wires
+Inv-loop t pieces inputs table triples wires₀ published₀ marks gates i₀ g₀ wires published i g =
+    Left t (pieces .wires) (pieces .published) inputs (piece (pieces .triples) triples) table
+    (final t pieces inputs table triples wires₀) (finalPublished t pieces inputs table triples wires₀ published₀) wires
     published i g
 
 abbrev μ-loop : tie.MeasureT-loop
-μ-loop t pieces inputs table dealt wires₀ published₀ marks gates i₀ g₀ wires published i g = gates - g
+μ-loop t pieces inputs table triples wires₀ published₀ marks gates i₀ g₀ wires published i g = gates - g
 
 loop-holds : tie.Need-loop-holds Inv-loop μ-loop
 loop-holds c =
     let s = c .before .before .before .before in
     let a = s .args in
     left-start (a .t) (a .pieces .wires) (a .pieces .published) (a .inputs)
-    (piece (a .pieces .dealt) (a .dealt .now)) (a .table .now) (a .wires .now) (a .published .now) (s .pre .good)
+    (piece (a .pieces .triples) (a .triples .now)) (a .table .now) (a .wires .now) (a .published .now) (s .pre .good)
     (s .pre .wires-length) (s .pre .published-length)
 
 -- The stages of the function, seen from later ones.
@@ -76,8 +76,8 @@ run-gate-requires c κs =
     let r = s .pre in
     record {
       marked = refl;
-      gate = gate-ready (a .t) (a .inputs) (a .pieces) (a .table .now) (a .dealt .now) _ _ (r .wires-size) (r .few)
-          (r .dealt-size) (r .published-size) (r .some-input) (r .dealt-length) (l .wires) (l .published) (l .i)
+      gate = gate-ready (a .t) (a .inputs) (a .pieces) (a .table .now) (a .triples .now) _ _ (r .wires-size) (r .few)
+          (r .triples-size) (r .published-size) (r .some-input) (r .triples-length) (l .wires) (l .published) (l .i)
           (l .g) (l .inv)
           (omega (arith, length-gates (a .table .now), turn .before .loop-test .taken)) (turn .numbers-at .result)
           (turn .numbers-at .ensures);
@@ -97,8 +97,8 @@ loop-again c =
     let s = (start-from-numbers-at turn) in
     let a = s .args in
     let r = s .pre in
-    turn-by (a .t) (a .inputs) (a .pieces) (a .table .now) (a .dealt .now) _ _ (r .wires-size) (r .few)
-    (r .dealt-size) (r .published-size) (r .some-input) (r .dealt-length) (l .wires) (l .published) (l .i) (l .g)
+    turn-by (a .t) (a .inputs) (a .pieces) (a .table .now) (a .triples .now) _ _ (r .wires-size) (r .few)
+    (r .triples-size) (r .published-size) (r .some-input) (r .triples-length) (l .wires) (l .published) (l .i) (l .g)
     (l .inv)
     (omega (arith, length-gates (a .table .now), turn .before .loop-test .taken)) (turn .numbers-at .result)
     (turn .numbers-at .ensures) _ _ _ _ (runResult .run-gate .ensures .next) (runResult .run-gate .ensures .parts)
@@ -120,7 +120,7 @@ returns c =
     let a = s .args in
     let l = c .before .loop in
     let e = left-end (a .t) (a .pieces .wires) (a .pieces .published) (a .inputs)
-    (piece (a .pieces .dealt) (a .dealt .now)) (a .table .now) _ _ (s .pre .wires-size) (l .wires)
+    (piece (a .pieces .triples) (a .triples .now)) (a .table .now) _ _ (s .pre .wires-size) (l .wires)
     (l .published) (l .i) (l .g) (l .inv) (omega (arith, length-gates (a .table .now), c .loop-test .left)) in
     record { parts = e .0; shown = e .1 }
 

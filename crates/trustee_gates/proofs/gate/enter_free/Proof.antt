@@ -9,7 +9,7 @@ use lib.ListN.{length, length-set}
 use Rattle.trustee_shares.specs.Shares.{part, partOfKind}
 use Rattle.trustee_shares.specs.Views.{piece}
 use Rattle.trustee_gates.specs.declared.gate.Numbers.{Numbers}
-use Rattle.trustee_gates.specs.Tables.{eachPuts}
+use Rattle.trustee_gates.specs.inner.Tables.{eachPuts}
 use Rattle.trustee_gates.proofs.Puts.{reaches, puts-one, own-piece}
 use Rattle.trustee_gates.proofs.gate.enter_free.Statement.{statement}
 use Rattle.trustee_gates.proofs.gate.enter_free.Tie as tie

@@ -9,7 +9,7 @@ use lib.ListN.{length, length-set}
 use Rattle.trustee_shares.specs.Shares.{part, partOfKind, productPart}
 use Rattle.trustee_shares.specs.Views.{piece}
 use Rattle.trustee_gates.specs.declared.gate.Numbers.{Numbers}
-use Rattle.trustee_gates.specs.Tables.{eachPuts}
+use Rattle.trustee_gates.specs.inner.Tables.{eachPuts}
 use Rattle.trustee_gates.specs.declared.gate.Pieces.{Pieces}
 use Rattle.trustee_gates.specs.declared.gate.Opened.{Opened}
 use Rattle.trustee_gates.proofs.Puts.{reaches, puts-one, own-piece}
@@ -18,17 +18,17 @@ use Rattle.trustee_gates.proofs.gate.enter_products.Tie as tie
 
 -- what trustee q enters
 abbrev entering : Pieces → Numbers → ℕ → Opened → List ℕ → List ℕ → ℕ → ℕ
-entering pieces g i opened dealt ws q =
+entering pieces g i opened triples ws q =
     partOfKind q (g .kind) (part (piece (pieces .wires) ws q) (g .a)) (part (piece (pieces .wires) ws q) (g .b))
     (part (piece (pieces .wires) ws q) (g .c))
-    (productPart q (piece (pieces .dealt) dealt q) i (opened .first) (opened .second))
+    (productPart q (piece (pieces .triples) triples q) i (opened .first) (opened .second))
 
 abbrev Inv-loop : tie.InvT-loop
-Inv-loop t pieces gate own i opened dealt wires₀ size p₀ wires p = (p ≤ t) × (length wires ≡ length wires₀)
-    × (wires ≡ eachPuts p (pieces .wires) own (λ q. entering pieces gate i opened dealt wires₀ q ∷ []) wires₀)
+Inv-loop t pieces gate own i opened triples wires₀ size p₀ wires p = (p ≤ t) × (length wires ≡ length wires₀)
+    × (wires ≡ eachPuts p (pieces .wires) own (λ q. entering pieces gate i opened triples wires₀ q ∷ []) wires₀)
 
 abbrev μ-loop : tie.MeasureT-loop
-μ-loop t pieces gate own i opened dealt wires₀ size p₀ wires p = t - p
+μ-loop t pieces gate own i opened triples wires₀ size p₀ wires p = t - p
 
 loop-holds : tie.Need-loop-holds Inv-loop μ-loop
 unfolding eachPuts
@@ -41,8 +41,8 @@ product-part-requires c κs =
     let a = s .args in
     record {
       triple-in = s .pre .triple-in;
-      dealt-reach =
-          reaches (a .t) (a .pieces .dealt) (a .dealt .now) (l .p) (s .pre .dealt-length) (omega arith);
+      triples-reach =
+          reaches (a .t) (a .pieces .triples) (a .triples .now) (l .p) (s .pre .triples-length) (omega arith);
     }
 
 -- The stages of the function, seen from later ones.
@@ -97,7 +97,7 @@ loop-again c =
     let l = c .before .before .before .before .loop in
     let s = (start-from-new-part c) in
     let a = s .args in
-    let f : ℕ → ℕ = entering (a .pieces) (a .gate) (a .i) (a .opened) (a .dealt .now) (a .wires .now) in
+    let f : ℕ → ℕ = entering (a .pieces) (a .gate) (a .i) (a .opened) (a .triples .now) (a .wires .now) in
     let same = own-piece f (l .wires) (a .wires .now) (l .p) (a .pieces .wires) (a .own) (s .pre .free .own-in) (l .inv .2) in (
       omega arith,
       length-set (l .wires) (l .p * a .pieces .wires + a .own) (c .new-part .result) ∙ l .inv .1,
@@ -121,7 +121,7 @@ returns c =
     let a = c .before .before .before .before .args in
     let e : l .p ≡ a .t = omega arith in
     l .inv .2 ∙ ap (λ (n : ℕ). eachPuts n (a .pieces .wires) (a .own)
-    (λ q. entering (a .pieces) (a .gate) (a .i) (a .opened) (a .dealt .now) (a .wires .now) q ∷ [])
+    (λ q. entering (a .pieces) (a .gate) (a .i) (a .opened) (a .triples .now) (a .wires .now) q ∷ [])
     (a .wires .now)) e
 
 pub enter-products-spec : {M : Type 1} → statement M

@@ -10,9 +10,9 @@ use lib.ListN.{length, set, length-set}
 use Rattle.trustee_shares.specs.Shares.{opened, maskedFirst, maskedSecond, openedFirst, openedSecond}
 use Rattle.trustee_shares.specs.Views.{piece}
 use Rattle.trustee_gates.specs.declared.gate.Numbers.{Numbers}
-use Rattle.trustee_gates.specs.Tables.{eachPuts}
+use Rattle.trustee_gates.specs.inner.Tables.{eachPuts}
 use Rattle.trustee_gates.specs.declared.gate.Pieces.{Pieces}
-use Rattle.trustee_gates.specs.Gate.{gateOf, FactorReady}
+use Rattle.trustee_gates.specs.inner.Gate.{gateOfNumbers, FactorReady}
 use Rattle.trustee_gates.proofs.Puts.{reaches, puts-two}
 use Rattle.trustee_gates.proofs.Parity.{opened-more, opened-none}
 use Rattle.trustee_gates.proofs.gate.publish.Statement.{statement}
@@ -20,20 +20,20 @@ use Rattle.trustee_gates.proofs.gate.publish.Tie as tie
 
 -- trustee q's bits of both factors, masked
 abbrev firstBit : Pieces → Numbers → ℕ → List ℕ → List ℕ → ℕ → ℕ
-firstBit pieces g i dealt ws q = maskedFirst (piece (pieces .wires) ws q) (piece (pieces .dealt) dealt q) i (gateOf g)
+firstBit pieces g i triples ws q = maskedFirst (piece (pieces .wires) ws q) (piece (pieces .triples) triples q) i (gateOfNumbers g)
 
 abbrev secondBit : Pieces → Numbers → ℕ → List ℕ → List ℕ → ℕ → ℕ
-secondBit pieces g i dealt ws q = maskedSecond (piece (pieces .wires) ws q) (piece (pieces .dealt) dealt q) i (gateOf g)
+secondBit pieces g i triples ws q = maskedSecond (piece (pieces .wires) ws q) (piece (pieces .triples) triples q) i (gateOfNumbers g)
 
 abbrev Inv-loop : tie.InvT-loop
-Inv-loop t pieces gate i dealt wires published₀ size first₀ second₀ p₀ published first second p =
+Inv-loop t pieces gate i triples wires published₀ size first₀ second₀ p₀ published first second p =
     (p ≤ t) × (length published ≡ length published₀)
     × (published ≡ eachPuts p (pieces .published) (2 * i)
-    (λ q. firstBit pieces gate i dealt wires q ∷ secondBit pieces gate i dealt wires q ∷ []) published₀)
-    × (first ≡ opened p (firstBit pieces gate i dealt wires)) × (second ≡ opened p (secondBit pieces gate i dealt wires))
+    (λ q. firstBit pieces gate i triples wires q ∷ secondBit pieces gate i triples wires q ∷ []) published₀)
+    × (first ≡ opened p (firstBit pieces gate i triples wires)) × (second ≡ opened p (secondBit pieces gate i triples wires))
 
 abbrev μ-loop : tie.MeasureT-loop
-μ-loop t pieces gate i dealt wires published₀ size first₀ second₀ p₀ published first second p = t - p
+μ-loop t pieces gate i triples wires published₀ size first₀ second₀ p₀ published first second p = t - p
 
 loop-holds : tie.Need-loop-holds Inv-loop μ-loop
 unfolding eachPuts
@@ -51,7 +51,7 @@ start-from-masked-second c = c .before .before .before .before .before .before .
 
 -- what both factors ask of the tables
 asked : (c : tie.In-loop Inv-loop μ-loop) → let a = (start-from-round c) .args in let l = c .before .loop in
-    FactorReady (a .pieces) (a .gate) (a .i) (l .p) (a .dealt .now) (a .wires .now)
+    FactorReady (a .pieces) (a .gate) (a .i) (l .p) (a .triples .now) (a .wires .now)
 asked c =
     let s = (start-from-round c) in
     let a = s .args in
@@ -67,8 +67,8 @@ asked c =
       };
       triple = record {
         triple-in = r .triple-in;
-        dealt-reach =
-            reaches (a .t) (a .pieces .dealt) (a .dealt .now) (l .p) (r .dealt-length) (omega arith);
+        triples-reach =
+            reaches (a .t) (a .pieces .triples) (a .triples .now) (l .p) (r .triples-length) (omega arith);
       };
     }
 
@@ -134,8 +134,8 @@ loop-again c =
     let s2 = c .before .before in
     let l = s2 .before .before .before .loop in
     let a = (start-from-masked-second s2) .args in
-    let f : ℕ → ℕ = firstBit (a .pieces) (a .gate) (a .i) (a .dealt .now) (a .wires .now) in
-    let g : ℕ → ℕ = secondBit (a .pieces) (a .gate) (a .i) (a .dealt .now) (a .wires .now) in
+    let f : ℕ → ℕ = firstBit (a .pieces) (a .gate) (a .i) (a .triples .now) (a .wires .now) in
+    let g : ℕ → ℕ = secondBit (a .pieces) (a .gate) (a .i) (a .triples .now) (a .wires .now) in
     let at = l .p * a .pieces .published + 2 * a .i in
     let x = s2 .before .masked-first .result in
     let y = s2 .masked-second .result in (
@@ -157,8 +157,8 @@ unfolding openedFirst openedSecond
 returns c =
     let l = c .before .loop in
     let a = (start-from-loop-done c) .args in
-    let f : ℕ → ℕ = firstBit (a .pieces) (a .gate) (a .i) (a .dealt .now) (a .wires .now) in
-    let g : ℕ → ℕ = secondBit (a .pieces) (a .gate) (a .i) (a .dealt .now) (a .wires .now) in
+    let f : ℕ → ℕ = firstBit (a .pieces) (a .gate) (a .i) (a .triples .now) (a .wires .now) in
+    let g : ℕ → ℕ = secondBit (a .pieces) (a .gate) (a .i) (a .triples .now) (a .wires .now) in
     let e : l .p ≡ a .t = omega arith in
     record {
       first = l .inv .3 ∙ ap (λ (n : ℕ). opened n f) e;

@@ -11,8 +11,8 @@ use Rattle.gates.specs.Kind.{conditionalOf}
 use Rattle.trustee_shares.specs.Shares.{maskedFirst, maskedSecond}
 use Rattle.trustee_shares.specs.Views.{piece}
 use Rattle.trustee_shares.proofs.Accuracy.{mark-one}
-use Rattle.trustee_gates.specs.Tables.{eachPuts}
-use Rattle.trustee_gates.specs.Gate.{gateOf}
+use Rattle.trustee_gates.specs.inner.Tables.{eachPuts}
+use Rattle.trustee_gates.specs.inner.Gate.{gateOfNumbers}
 use Rattle.trustee_gates.proofs.Entering.{products-entered, free-entered}
 use Rattle.trustee_gates.proofs.gate.run_gate.Statement.{statement}
 use Rattle.trustee_gates.proofs.gate.run_gate.Tie as tie
@@ -49,7 +49,7 @@ publish-requires c κs =
       triple-in = r .triple-in (taken then);
       factors-in = r .factors-in (taken then);
       wires-length = r .free .wires-length;
-      dealt-length = r .dealt-length;
+      triples-length = r .triples-length;
       published-length = r .published-length;
     }
 
@@ -58,7 +58,7 @@ enter-products-requires c κs =
     let then = (then1-from-enter-products-arg c) in
     let s = (start-from-then1 then) in
     let r = s .pre .gate in
-    record { free = r .free; triple-in = r .triple-in (taken then); dealt-length = r .dealt-length }
+    record { free = r .free; triple-in = r .triple-in (taken then); triples-length = r .triples-length }
 
 add-result : tie.Need-add-result
 add-result c = search needs
@@ -79,14 +79,14 @@ returns c =
     let is = taken then in
     let X : Bool → List ℕ = λ b. cond b
     (eachPuts (a .t) (a .pieces .published) (2 * a .i)
-    (λ p. maskedFirst (piece (a .pieces .wires) (a .wires .now) p) (piece (a .pieces .dealt) (a .dealt .now) p)
-    (a .i) (gateOf (a .gate)) ∷ maskedSecond (piece (a .pieces .wires) (a .wires .now) p)
-    (piece (a .pieces .dealt) (a .dealt .now) p) (a .i) (gateOf (a .gate)) ∷ []) (a .published .now))
+    (λ p. maskedFirst (piece (a .pieces .wires) (a .wires .now) p) (piece (a .pieces .triples) (a .triples .now) p)
+    (a .i) (gateOfNumbers (a .gate)) ∷ maskedSecond (piece (a .pieces .wires) (a .wires .now) p)
+    (piece (a .pieces .triples) (a .triples .now) p) (a .i) (gateOfNumbers (a .gate)) ∷ []) (a .published .now))
     (a .published .now) in
     record {
-      next = sym (ap (λ (n : ℕ). a .i + n) (mark-one (gateOf (a .gate)) is));
-      parts = products-entered (a .t) (a .pieces .wires) (a .own) (a .i) (gateOf (a .gate))
-          (piece (a .pieces .dealt) (a .dealt .now)) (a .wires .now) _ _ _ (shown .publish .ensures .first)
+      next = sym (ap (λ (n : ℕ). a .i + n) (mark-one (gateOfNumbers (a .gate)) is));
+      parts = products-entered (a .t) (a .pieces .wires) (a .own) (a .i) (gateOfNumbers (a .gate))
+          (piece (a .pieces .triples) (a .triples .now)) (a .wires .now) _ _ _ (shown .publish .ensures .first)
           (shown .publish .ensures .second) (entered .enter-products .ensures);
       shown = shown .publish .ensures .shown ∙ sym (ap X is);
     }
@@ -106,14 +106,14 @@ returns-2 c =
     let is = left else in
     let X : Bool → List ℕ = λ b. cond b
     (eachPuts (a .t) (a .pieces .published) (2 * a .i)
-    (λ p. maskedFirst (piece (a .pieces .wires) (a .wires .now) p) (piece (a .pieces .dealt) (a .dealt .now) p)
-    (a .i) (gateOf (a .gate)) ∷ maskedSecond (piece (a .pieces .wires) (a .wires .now) p)
-    (piece (a .pieces .dealt) (a .dealt .now) p) (a .i) (gateOf (a .gate)) ∷ []) (a .published .now))
+    (λ p. maskedFirst (piece (a .pieces .wires) (a .wires .now) p) (piece (a .pieces .triples) (a .triples .now) p)
+    (a .i) (gateOfNumbers (a .gate)) ∷ maskedSecond (piece (a .pieces .wires) (a .wires .now) p)
+    (piece (a .pieces .triples) (a .triples .now) p) (a .i) (gateOfNumbers (a .gate)) ∷ []) (a .published .now))
     (a .published .now) in
     record {
-      next = omega (arith, mark-none (gateOf (a .gate)) is);
-      parts = free-entered (a .t) (a .pieces .wires) (a .own) (a .i) (gateOf (a .gate))
-          (piece (a .pieces .dealt) (a .dealt .now)) (a .wires .now) _ (s .pre .gate .known) is
+      next = omega (arith, mark-none (gateOfNumbers (a .gate)) is);
+      parts = free-entered (a .t) (a .pieces .wires) (a .own) (a .i) (gateOfNumbers (a .gate))
+          (piece (a .pieces .triples) (a .triples .now)) (a .wires .now) _ (s .pre .gate .known) is
           (entered .enter-free .ensures);
       shown = sym (ap X is);
     }

@@ -6,7 +6,7 @@ use native.Mathlib.Omega.{arith}
 use lib.ListN.{length, take, drop}
 use lib.Seq.{length-sets}
 use Rattle.trustee_shares.specs.Views.{piece}
-use Rattle.trustee_gates.specs.Tables.{eachPuts}
+use Rattle.trustee_gates.specs.inner.Tables.{eachPuts}
 use Rattle.trustee_gates.proofs.Puts.{reaches, puts-many, piece-part}
 use Rattle.trustee_gates.proofs.table.copy_pieces.Statement.{statement}
 use Rattle.trustee_gates.proofs.table.copy_pieces.Tie as tie

@@ -16,7 +16,7 @@ returns c =
     sym (ap (λ (b : Bool). cond b (set (a .wires .now) (a .own)
     (partOfKind (a .p) (a .gate .kind) (part (a .wires .now) (a .gate .a)) (part (a .wires .now) (a .gate .b))
     (part (a .wires .now) (a .gate .c))
-    (productPart (a .p) (a .dealt .now) (a .i) (part (a .heard .now) (2 * a .i))
+    (productPart (a .p) (a .triples .now) (a .i) (part (a .heard .now) (2 * a .i))
     (part (a .heard .now) (2 * a .i + 1))))) (a .wires .now)) (ne-eqb (a .level) (a .round) (c .if1 .taken)))
 
 gate-part-requires : tie.Need-gate-part-requires
@@ -39,7 +39,7 @@ returns-2 c =
     ∙ sym (ap (λ (b : Bool). cond b
     (set (a .wires .now) (a .own) (partOfKind (a .p) (a .gate .kind) (part (a .wires .now) (a .gate .a))
     (part (a .wires .now) (a .gate .b)) (part (a .wires .now) (a .gate .c))
-    (productPart (a .p) (a .dealt .now) (a .i) (part (a .heard .now) (2 * a .i))
+    (productPart (a .p) (a .triples .now) (a .i) (part (a .heard .now) (2 * a .i))
     (part (a .heard .now) (2 * a .i + 1))))) (a .wires .now))
     (eq-eqb (a .level) (a .round) (c .before .before .if1 .left)))
 

@@ -14,7 +14,7 @@ use borrow.Author.Tests.{eq-eqb, ne-eqb, not-true, not-false}
 use Rattle.gates.specs.Kind.{conditionalOf}
 use Rattle.trustee_shares.specs.Shares.{maskedFirst, maskedSecond}
 use Rattle.trustee_shares.specs.Views.{piece}
-use Rattle.trustee_gates.specs.Gate.{gateOf}
+use Rattle.trustee_gates.specs.inner.Gate.{gateOfNumbers}
 use Rattle.trustee_rounds.proofs.Passing.{own-piece}
 use Rattle.trustee_rounds.proofs.part.publish_gate.Statement.{statement}
 use Rattle.trustee_rounds.proofs.part.publish_gate.Tie as tie
@@ -47,8 +47,8 @@ returns c =
     let is = sym (c .before .conditional .ensures) ∙ not-true (c .before .conditional .result) (c .if1 .taken) in
     sym (ap (λ (b : Bool). cond (b && eqb (a .level) (a .next))
     (sets (a .published .now) (2 * a .i)
-    (maskedFirst (a .wires .now) (a .dealt .now) (a .i) (gateOf (a .numbers)) ∷ maskedSecond (a .wires .now)
-    (a .dealt .now) (a .i) (gateOf (a .numbers)) ∷ [])) (a .published .now)) is)
+    (maskedFirst (a .wires .now) (a .triples .now) (a .i) (gateOfNumbers (a .numbers)) ∷ maskedSecond (a .wires .now)
+    (a .triples .now) (a .i) (gateOfNumbers (a .numbers)) ∷ [])) (a .published .now)) is)
 
 -- after the first test
 conditional-here : (c : tie.Else1) → conditionalOf ((start-from-else1 c) .args .numbers .kind) ≡ true
@@ -59,12 +59,12 @@ returns-2 c =
     let a = (start-from-then2 c) .args in
     sym (ap (λ (b : Bool). cond (b && eqb (a .level) (a .next))
     (sets (a .published .now) (2 * a .i)
-    (maskedFirst (a .wires .now) (a .dealt .now) (a .i) (gateOf (a .numbers)) ∷ maskedSecond (a .wires .now)
-    (a .dealt .now) (a .i) (gateOf (a .numbers)) ∷ [])) (a .published .now)) (conditional-here (c .before))
+    (maskedFirst (a .wires .now) (a .triples .now) (a .i) (gateOfNumbers (a .numbers)) ∷ maskedSecond (a .wires .now)
+    (a .triples .now) (a .i) (gateOfNumbers (a .numbers)) ∷ [])) (a .published .now)) (conditional-here (c .before))
     ∙ ap (λ (b : Bool). cond (true && b)
     (sets (a .published .now) (2 * a .i)
-    (maskedFirst (a .wires .now) (a .dealt .now) (a .i) (gateOf (a .numbers)) ∷ maskedSecond (a .wires .now)
-    (a .dealt .now) (a .i) (gateOf (a .numbers)) ∷ [])) (a .published .now))
+    (maskedFirst (a .wires .now) (a .triples .now) (a .i) (gateOfNumbers (a .numbers)) ∷ maskedSecond (a .wires .now)
+    (a .triples .now) (a .i) (gateOfNumbers (a .numbers)) ∷ [])) (a .published .now))
     (ne-eqb (a .level) (a .next) (c .if2 .taken)))
 
 mul-at : tie.Need-mul-at
@@ -78,7 +78,7 @@ masked-first-requires c κs =
     let o = s .pre .gate .operands in
     record {
       operands = record { a-in = o .a-in; b-in = o .b-in; c-in = o .c-in; wires-reach = omega arith };
-      triple = record { triple-in = s .pre .gate .triple-in (conditional-here (c .before)); dealt-reach = omega arith };
+      triple = record { triple-in = s .pre .gate .triple-in (conditional-here (c .before)); triples-reach = omega arith };
     }
 
 slice-write-published : tie.Need-slice-write-published
@@ -92,7 +92,7 @@ masked-second-requires c κs =
     let o = s .pre .gate .operands in
     record {
       operands = record { a-in = o .a-in; b-in = o .b-in; c-in = o .c-in; wires-reach = omega arith };
-      triple = record { triple-in = s .pre .gate .triple-in (conditional-here (c .before .before)); dealt-reach = omega arith };
+      triple = record { triple-in = s .pre .gate .triple-in (conditional-here (c .before .before)); triples-reach = omega arith };
     }
 
 add-published : tie.Need-add-published
@@ -117,29 +117,29 @@ returns-3 c =
     let s = (start-from-masked-second c) in
     let a = s .args in
     let two = c .before .before in
-    let first : c .before .masked-first .result ≡ maskedFirst (a .wires .now) (a .dealt .now) (a .i) (gateOf (a .numbers)) =
+    let first : c .before .masked-first .result ≡ maskedFirst (a .wires .now) (a .triples .now) (a .i) (gateOfNumbers (a .numbers)) =
     c .before .masked-first .ensures
-    ∙ ap (λ (l : List ℕ). maskedFirst l (piece (length (a .dealt .now)) (a .dealt .now) 0) (a .i)
-    (gateOf (a .numbers))) (own-piece (a .wires .now))
-    ∙ ap (λ (l : List ℕ). maskedFirst (a .wires .now) l (a .i) (gateOf (a .numbers))) (own-piece (a .dealt .now)) in
-    let second : c .masked-second .result ≡ maskedSecond (a .wires .now) (a .dealt .now) (a .i) (gateOf (a .numbers)) =
+    ∙ ap (λ (l : List ℕ). maskedFirst l (piece (length (a .triples .now)) (a .triples .now) 0) (a .i)
+    (gateOfNumbers (a .numbers))) (own-piece (a .wires .now))
+    ∙ ap (λ (l : List ℕ). maskedFirst (a .wires .now) l (a .i) (gateOfNumbers (a .numbers))) (own-piece (a .triples .now)) in
+    let second : c .masked-second .result ≡ maskedSecond (a .wires .now) (a .triples .now) (a .i) (gateOfNumbers (a .numbers)) =
     c .masked-second .ensures ∙ ap (λ (l : List ℕ). maskedSecond l
-    (piece (length (a .dealt .now)) (a .dealt .now) 0) (a .i) (gateOf (a .numbers))) (own-piece (a .wires .now))
-    ∙ ap (λ (l : List ℕ). maskedSecond (a .wires .now) l (a .i) (gateOf (a .numbers)))
-    (own-piece (a .dealt .now)) in
+    (piece (length (a .triples .now)) (a .triples .now) 0) (a .i) (gateOfNumbers (a .numbers))) (own-piece (a .wires .now))
+    ∙ ap (λ (l : List ℕ). maskedSecond (a .wires .now) l (a .i) (gateOfNumbers (a .numbers)))
+    (own-piece (a .triples .now)) in
     ap (λ (n : ℕ). set (set (a .published .now) (2 * a .i) (c .before .masked-first .result)) n
     (c .masked-second .result)) (add-one (2 * a .i))
     ∙ ap (λ (v : ℕ). set (set (a .published .now) (2 * a .i) v) (suc (2 * a .i)) (c .masked-second .result)) first
     ∙ ap (λ (v : ℕ). set (set (a .published .now) (2 * a .i)
-    (maskedFirst (a .wires .now) (a .dealt .now) (a .i) (gateOf (a .numbers)))) (suc (2 * a .i)) v) second
+    (maskedFirst (a .wires .now) (a .triples .now) (a .i) (gateOfNumbers (a .numbers)))) (suc (2 * a .i)) v) second
     ∙ sym (ap (λ (b : Bool). cond (b && eqb (a .level) (a .next))
     (sets (a .published .now) (2 * a .i)
-    (maskedFirst (a .wires .now) (a .dealt .now) (a .i) (gateOf (a .numbers)) ∷ maskedSecond (a .wires .now)
-    (a .dealt .now) (a .i) (gateOf (a .numbers)) ∷ [])) (a .published .now)) (conditional-here (two .before))
+    (maskedFirst (a .wires .now) (a .triples .now) (a .i) (gateOfNumbers (a .numbers)) ∷ maskedSecond (a .wires .now)
+    (a .triples .now) (a .i) (gateOfNumbers (a .numbers)) ∷ [])) (a .published .now)) (conditional-here (two .before))
     ∙ ap (λ (b : Bool). cond (true && b)
     (sets (a .published .now) (2 * a .i)
-    (maskedFirst (a .wires .now) (a .dealt .now) (a .i) (gateOf (a .numbers)) ∷ maskedSecond (a .wires .now)
-    (a .dealt .now) (a .i) (gateOf (a .numbers)) ∷ [])) (a .published .now))
+    (maskedFirst (a .wires .now) (a .triples .now) (a .i) (gateOfNumbers (a .numbers)) ∷ maskedSecond (a .wires .now)
+    (a .triples .now) (a .i) (gateOfNumbers (a .numbers)) ∷ [])) (a .published .now))
     (eq-eqb (a .level) (a .next) (two .if2 .left)))
 
 pub publish-gate-spec : {M : Type 1} → statement M

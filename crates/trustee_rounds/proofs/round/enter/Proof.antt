@@ -14,19 +14,19 @@ use Rattle.trustee_rounds.proofs.round.enter.Statement.{statement}
 use Rattle.trustee_rounds.proofs.round.enter.Tie as tie
 
 abbrev Inv-loop : tie.InvT-loop
-Inv-loop table levels dealt heard wires₀ marks p round inputs i₀ g₀ wires i g =
+Inv-loop table levels triples heard wires₀ marks p round inputs i₀ g₀ wires i g =
     EnterLeft (record {
       trustee = p;
       round = round;
       inputs = inputs;
       levels = levels;
-      dealt = dealt;
+      triples = triples;
       heard =
           heard;
     }) table wires₀ wires g i
 
 abbrev μ-loop : tie.MeasureT-loop
-μ-loop table levels dealt heard wires₀ marks p round inputs i₀ g₀ wires i g = length levels - g
+μ-loop table levels triples heard wires₀ marks p round inputs i₀ g₀ wires i g = length levels - g
 
 -- The stages of the function, seen from later ones.
 abbrev start-from-slice-known : tie.After-slice-known Inv-loop μ-loop → tie.Start Inv-loop μ-loop
@@ -66,7 +66,7 @@ loop-holds c =
       inputs = a .seat .inputs;
       levels =
           a .levels .now;
-      dealt = a .dealt .now;
+      triples = a .triples .now;
       heard = a .heard .now;
     }) (a .table .now) (a .wires .now)
     (s .pre .pass .good) (s .pre .pass .wires-length)
@@ -112,8 +112,8 @@ enter-gate-requires c κs =
       marked = refl;
       gate = record {
         ready = part-ready (a .seat .inputs) (a .table .now) (l .g) (l .i) (l .inv .ahead)
-            (r .some-input) inside (n .result) (n .ensures) (a .dealt .now) (a .heard .now) (l .wires) (l .inv .long)
-            (r .dealt-length) (s .pre .heard-length);
+            (r .some-input) inside (n .result) (n .ensures) (a .triples .now) (a .heard .now) (l .wires) (l .inv .long)
+            (r .triples-length) (s .pre .heard-length);
         own-in = omega (arith, l .inv .long);
       };
     }
@@ -161,7 +161,7 @@ loop-again c =
       inputs = a .seat .inputs;
       levels =
           a .levels .now;
-      dealt = a .dealt .now;
+      triples = a .triples .now;
       heard = a .heard .now;
     }) (a .table .now) (a .wires .now) (l .wires)
     (l .g) (l .i) (l .inv) (r .some-input) inside (n .result) (n .ensures)
@@ -190,7 +190,7 @@ returns c =
       inputs = a .seat .inputs;
       levels =
           a .levels .now;
-      dealt = a .dealt .now;
+      triples = a .triples .now;
       heard = a .heard .now;
     }) (a .table .now) (a .wires .now) (l .wires)
     (l .g) (l .i) (l .inv) (omega (arith, r .levels-length, c .loop-test .left))

@@ -15,13 +15,13 @@ use Rattle.trustee_rounds.proofs.round.publish.Statement.{statement}
 use Rattle.trustee_rounds.proofs.round.publish.Tie as tie
 
 abbrev Inv-loop : tie.InvT-loop
-Inv-loop inputs round table levels dealt wires published₀ marks next i₀ g₀ published i g =
+Inv-loop inputs round table levels triples wires published₀ marks next i₀ g₀ published i g =
     (q : ℕ) (hs : List ℕ) → PublishLeft
-    (record { trustee = q; round = round; inputs = inputs; levels = levels; dealt = dealt; heard = hs }) table
+    (record { trustee = q; round = round; inputs = inputs; levels = levels; triples = triples; heard = hs }) table
     wires published₀ published g i
 
 abbrev μ-loop : tie.MeasureT-loop
-μ-loop inputs round table levels dealt wires published₀ marks next i₀ g₀ published i g = length levels - g
+μ-loop inputs round table levels triples wires published₀ marks next i₀ g₀ published i g = length levels - g
 
 -- The stages of the function, seen from later ones.
 abbrev start-from-slice-known : tie.After-slice-known Inv-loop μ-loop → tie.Start Inv-loop μ-loop
@@ -63,7 +63,7 @@ loop-holds c =
       round = a .round;
       inputs = a .inputs;
       levels = a .levels .now;
-      dealt = a .dealt .now;
+      triples = a .triples .now;
       heard = hs;
     }) (a .table .now) (a .wires .now) (a .published .now) (s .pre .pass .good)
 
@@ -99,7 +99,7 @@ publish-gate-requires c κs =
     record {
       marked = refl;
       gate = publish-ready (a .inputs) (a .table .now) (l .g) (l .i) (inv .ahead) (r .some-input) inside (n .result)
-          (n .ensures) (a .dealt .now) (a .wires .now) (l .published) (r .wires-length) (r .dealt-length)
+          (n .ensures) (a .triples .now) (a .wires .now) (l .published) (r .wires-length) (r .triples-length)
           (omega (arith, inv .long, s .pre .published-length));
     }
 
@@ -146,8 +146,8 @@ loop-again c =
       round = a .round;
       inputs = a .inputs;
       levels = a .levels .now;
-      dealt =
-          a .dealt .now;
+      triples =
+          a .triples .now;
       heard = hs;
     }) (a .table .now) (a .wires .now) (a .published .now) (l .published) (l .g)
     (l .i) (l .inv q hs) (r .some-input) inside (n .result) (n .ensures) ((rounds-from-mark c) .rounds .result)
@@ -175,7 +175,7 @@ returns c =
       round = a .round;
       inputs = a .inputs;
       levels = a .levels .now;
-      dealt = a .dealt .now;
+      triples = a .triples .now;
       heard = hs;
     }) (a .table .now) (a .wires .now) (a .published .now) (l .published)
     (l .g) (l .i) (l .inv q hs) (omega (arith, r .levels-length, c .loop-test .left))

@@ -58,7 +58,7 @@ publish-requires c κs =
       inputs = a .seat .inputs;
       levels =
           a .levels .now;
-      dealt = a .dealt .now;
+      triples = a .triples .now;
       heard = a .heard .now;
     }) in
     let gs = gatesOf (a .table .now) in
@@ -71,7 +71,7 @@ publish-requires c κs =
         few = r .few;
         good = r .good;
         levels-length = r .levels-length;
-        dealt-length = r .dealt-length;
+        triples-length = r .triples-length;
         wires-length = ap length entered ∙ length-enters u gs 0 0 (a .wires .now) ∙ r .wires-length;
       };
       early = s .pre .early;
@@ -95,7 +95,7 @@ returns c =
       inputs = a .seat .inputs;
       levels =
           a .levels .now;
-      dealt = a .dealt .now;
+      triples = a .triples .now;
       heard = a .heard .now;
     }) in
     let gs = gatesOf (a .table .now) in
@@ -131,7 +131,7 @@ returns-2 c =
       inputs = a .seat .inputs;
       levels =
           a .levels .now;
-      dealt = a .dealt .now;
+      triples = a .triples .now;
       heard = a .heard .now;
     }) in
     let gs = gatesOf (a .table .now) in

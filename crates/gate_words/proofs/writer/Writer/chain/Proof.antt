@@ -4,7 +4,7 @@ use mathlib.Core.Path.{sym, ap}
 use Prim.Native.Nat.{ℕ, _+_, _-_}
 use native.Mathlib.Omega.{arith}
 use Rattle.gate_words.specs.Word.{Below}
-use Rattle.gate_words.specs.Choice.{chain}
+use Rattle.gate_words.specs.Choice.{chainOf}
 use Rattle.gate_words.proofs.Emitting.{two-wrote}
 use Rattle.gate_words.proofs.Going.{Goes, goes-start, goes-as, goes-on, goes-room, goes-end}
 use Rattle.gate_words.proofs.Places.{below-first, below-rest}
@@ -14,7 +14,7 @@ use Rattle.gate_words.proofs.writer.Writer.chain.Tie as tie
 
 abbrev Inv-loop : tie.InvT-loop
 Inv-loop table₀ kind s first stride count w₀ last₀ at₀ left₀ table w last at left =
-    Goes w₀ table₀ (chain kind (w₀ .wire) s first stride count) w table (chain kind (w .wire) last at stride left)
+    Goes w₀ table₀ (chainOf kind (w₀ .wire) s first stride count) w table (chainOf kind (w .wire) last at stride left)
     × Below (w₀ .wire) at stride left
 
 abbrev μ-loop : tie.MeasureT-loop
@@ -23,7 +23,7 @@ abbrev μ-loop : tie.MeasureT-loop
 loop-holds : tie.Need-loop-holds Inv-loop μ-loop
 loop-holds c =
     let a = c .before .args in (
-      goes-start (a .self) (a .table .now) (chain (a .kind) (a .self .wire) (a .s) (a .first) (a .stride) (a .count))
+      goes-start (a .self) (a .table .now) (chainOf (a .kind) (a .self .wire) (a .s) (a .first) (a .stride) (a .count))
           (a .count) (c .before .pre .room),
       c .before .pre .below,
     )
@@ -33,8 +33,8 @@ emit-requires c κs =
     let s = c .before .before .before .before in
     let a = s .args in
     let l = c .before .before .loop in
-    goes-room (a .self) (a .table .now) (chain (a .kind) (a .self .wire) (a .s) (a .first) (a .stride) (a .count))
-    (l .w) (l .table) (chain (a .kind) (l .w .wire) (l .last) (l .at) (a .stride) (l .left)) 1 (a .count) (l .inv .0)
+    goes-room (a .self) (a .table .now) (chainOf (a .kind) (a .self .wire) (a .s) (a .first) (a .stride) (a .count))
+    (l .w) (l .table) (chainOf (a .kind) (l .w .wire) (l .last) (l .at) (a .stride) (l .left)) 1 (a .count) (l .inv .0)
     (omega (arith, length-chain (a .kind) (l .w .wire) (l .last) (l .at) (a .stride) (l .left)))
     (omega (arith, length-chain (a .kind) (a .self .wire) (a .s) (a .first) (a .stride) (a .count))) (s .pre .room)
 
@@ -71,14 +71,14 @@ loop-again c =
     let e = c .before .before .emit in
     let t = c .before .before .before .before .loop-test .taken in
     let wrote = two-wrote (l .w) (l .table) (e .last .1 .0) (e .result) (l .last) (l .at) 0 (a .kind) (s .pre .two) (e .ensures) in (
-      goes-as (a .self) (a .table .now) (chain (a .kind) (a .self .wire) (a .s) (a .first) (a .stride) (a .count))
+      goes-as (a .self) (a .table .now) (chainOf (a .kind) (a .self .wire) (a .s) (a .first) (a .stride) (a .count))
           (e .result) (e .last .1 .0) _ _
-          (ap (λ (n : ℕ). chain (a .kind) n (l .w .wire) (l .at + a .stride) (a .stride) (l .left - 1)) (sym (wrote .wires)))
+          (ap (λ (n : ℕ). chainOf (a .kind) n (l .w .wire) (l .at + a .stride) (a .stride) (l .left - 1)) (sym (wrote .wires)))
           (goes-on (a .self) (a .table .now)
-          (chain (a .kind) (a .self .wire) (a .s) (a .first) (a .stride) (a .count)) (l .w) (l .table) _ _
+          (chainOf (a .kind) (a .self .wire) (a .s) (a .first) (a .stride) (a .count)) (l .w) (l .table) _ _
           (e .last .1 .0) (e .result)
           (goes-as (a .self) (a .table .now)
-          (chain (a .kind) (a .self .wire) (a .s) (a .first) (a .stride) (a .count)) (l .w) (l .table) _ _
+          (chainOf (a .kind) (a .self .wire) (a .s) (a .first) (a .stride) (a .count)) (l .w) (l .table) _ _
           (chain-step (a .kind) (l .w .wire) (l .last) (l .at) (a .stride) (l .left) t) (l .inv .0))
           wrote),
       below-rest (a .self .wire) (l .at) (a .stride) (l .left) t (l .inv .1),
@@ -91,7 +91,7 @@ returns : tie.Need-returns Inv-loop μ-loop
 returns c =
     let a = c .before .before .before .args in
     let l = c .before .loop in
-    goes-end (a .self) (a .table .now) (chain (a .kind) (a .self .wire) (a .s) (a .first) (a .stride) (a .count))
+    goes-end (a .self) (a .table .now) (chainOf (a .kind) (a .self .wire) (a .s) (a .first) (a .stride) (a .count))
     (l .w) (l .table) _ (chain-none (a .kind) (l .w .wire) (l .last) (l .at) (a .stride) (l .left)
     (c .loop-test .left)) (l .inv .0)
 

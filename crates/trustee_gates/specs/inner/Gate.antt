@@ -11,11 +11,11 @@ use Rattle.trustee_shares.specs.Views.{piece}
 use Rattle.trustee_gates.specs.declared.gate.Numbers.{Numbers}
 use Rattle.trustee_gates.specs.declared.gate.Pieces.{Pieces}
 use Rattle.trustee_gates.specs.declared.gate.Opened.{Opened}
-use Rattle.trustee_gates.specs.Tables.{eachPuts}
+use Rattle.trustee_gates.specs.inner.Tables.{eachPuts}
 
 -- The gate of these numbers.
-abbrev pub gateOf : Numbers → Gate
-gateOf g = record { kind = g .kind; a = g .a; b = g .b; c = g .c }
+abbrev pub gateOfNumbers : Numbers → Gate
+gateOfNumbers g = record { kind = g .kind; a = g .a; b = g .b; c = g .c }
 
 -- Trustee p's parts of the operands are in the table.
 pub record InWires (size : ℕ) (g : Numbers) (p : ℕ) (wires : List ℕ) : Type 0 where
@@ -25,14 +25,14 @@ pub record InWires (size : ℕ) (g : Numbers) (p : ℕ) (wires : List ℕ) : Typ
   pub wires-reach : p * size + size ≤ length wires
 
 -- So are its bits of the i-th triple.
-pub record InDealt (size i p : ℕ) (dealt : List ℕ) : Type 0 where
+pub record InTriples (size i p : ℕ) (triples : List ℕ) : Type 0 where
   pub triple-in : 3 * i + 2 < size
-  pub dealt-reach : p * size + size ≤ length dealt
+  pub triples-reach : p * size + size ≤ length triples
 
 -- Operands and triple are both in the tables.
-pub record FactorReady (pieces : Pieces) (g : Numbers) (i p : ℕ) (dealt wires : List ℕ) : Type 0 where
+pub record FactorReady (pieces : Pieces) (g : Numbers) (i p : ℕ) (triples wires : List ℕ) : Type 0 where
   pub operands : InWires (pieces .wires) g p wires
-  pub triple : InDealt (pieces .dealt) i p dealt
+  pub triple : InTriples (pieces .triples) i p triples
 
 -- The operands and the own wire of a gate, in tables for t trustees.
 pub record FreeReady (t size : ℕ) (g : Numbers) (own : ℕ) (wires : List ℕ) : Type 0 where
@@ -42,50 +42,54 @@ pub record FreeReady (t size : ℕ) (g : Numbers) (own : ℕ) (wires : List ℕ)
   pub own-in : own < size
   pub wires-length : length wires ≡ t * size
 
-pub record PublishReady (t : ℕ) (pieces : Pieces) (g : Numbers) (i : ℕ) (dealt wires published : List ℕ) : Type 0 where
+pub record PublishReady (t : ℕ) (pieces : Pieces) (g : Numbers) (i : ℕ) (triples wires published : List ℕ)
+    : Type 0 where
   pub a-in : g .a < pieces .wires
   pub b-in : g .b < pieces .wires
   pub c-in : g .c < pieces .wires
-  pub triple-in : 3 * i + 2 < pieces .dealt
+  pub triple-in : 3 * i + 2 < pieces .triples
   pub factors-in : 2 * i + 1 < pieces .published
   pub wires-length : length wires ≡ t * pieces .wires
-  pub dealt-length : length dealt ≡ t * pieces .dealt
+  pub triples-length : length triples ≡ t * pieces .triples
   pub published-length : length published ≡ t * pieces .published
 
-pub record ProductReady (t : ℕ) (pieces : Pieces) (g : Numbers) (own i : ℕ) (dealt wires : List ℕ) : Type 0 where
+pub record ProductReady (t : ℕ) (pieces : Pieces) (g : Numbers) (own i : ℕ) (triples wires : List ℕ) : Type 0 where
   pub free : FreeReady t (pieces .wires) g own wires
-  pub triple-in : 3 * i + 2 < pieces .dealt
-  pub dealt-length : length dealt ≡ t * pieces .dealt
+  pub triple-in : 3 * i + 2 < pieces .triples
+  pub triples-length : length triples ≡ t * pieces .triples
 
 -- A gate, conditional or free: if it is conditional, the tables have places for its triple and its factors.
-pub record GateReady (t : ℕ) (pieces : Pieces) (g : Numbers) (own i : ℕ) (dealt wires published : List ℕ) : Type 0 where
+pub record GateReady (t : ℕ) (pieces : Pieces) (g : Numbers) (own i : ℕ) (triples wires published : List ℕ)
+    : Type 0 where
   pub free : FreeReady t (pieces .wires) g own wires
   pub known : g .kind < 8
   pub few : i + 1 < 2147483648
-  pub triple-in : conditionalOf (g .kind) ≡ true → 3 * i + 2 < pieces .dealt
+  pub triple-in : conditionalOf (g .kind) ≡ true → 3 * i + 2 < pieces .triples
   pub factors-in : conditionalOf (g .kind) ≡ true → 2 * i + 1 < pieces .published
-  pub dealt-length : length dealt ≡ t * pieces .dealt
+  pub triples-length : length triples ≡ t * pieces .triples
   pub published-length : length published ≡ t * pieces .published
 
 -- What trustee p publishes for a gate: both factors, masked.
 abbrev pub bothMasked : Pieces → Numbers → ℕ → List ℕ → List ℕ → ℕ → List ℕ
-bothMasked pieces g i dealt wires p =
-    maskedFirst (piece (pieces .wires) wires p) (piece (pieces .dealt) dealt p) i (gateOf g)
-    ∷ maskedSecond (piece (pieces .wires) wires p) (piece (pieces .dealt) dealt p) i (gateOf g)
+bothMasked pieces g i triples wires p =
+    maskedFirst (piece (pieces .wires) wires p) (piece (pieces .triples) triples p) i (gateOfNumbers g)
+    ∷ maskedSecond (piece (pieces .wires) wires p) (piece (pieces .triples) triples p) i (gateOfNumbers g)
     ∷ []
 
 -- After all have published: the opened factors, and the table with what they published.
-pub record Published (t : ℕ) (pieces : Pieces) (g : Numbers) (i : ℕ) (dealt wires old : List ℕ) (r : Opened)
+pub record Published (t : ℕ) (pieces : Pieces) (g : Numbers) (i : ℕ) (triples wires old : List ℕ) (r : Opened)
     (new : List ℕ) : Type 0 where
-  pub first : r .first ≡ openedFirst t (piece (pieces .dealt) dealt) (piece (pieces .wires) wires) i (gateOf g)
-  pub second : r .second ≡ openedSecond t (piece (pieces .dealt) dealt) (piece (pieces .wires) wires) i (gateOf g)
-  pub shown : new ≡ eachPuts t (pieces .published) (2 * i) (λ p. bothMasked pieces g i dealt wires p) old
+  pub first : r .first
+      ≡ openedFirst t (piece (pieces .triples) triples) (piece (pieces .wires) wires) i (gateOfNumbers g)
+  pub second : r .second
+      ≡ openedSecond t (piece (pieces .triples) triples) (piece (pieces .wires) wires) i (gateOfNumbers g)
+  pub shown : new ≡ eachPuts t (pieces .published) (2 * i) (λ p. bothMasked pieces g i triples wires p) old
 
 -- After one gate: how many conditional ones there are, each trustee's part of its wire, and what was published.
-pub record GateRan (t : ℕ) (pieces : Pieces) (g : Numbers) (own i : ℕ) (dealt wires old : List ℕ) (r : ℕ)
+pub record GateRan (t : ℕ) (pieces : Pieces) (g : Numbers) (own i : ℕ) (triples wires old : List ℕ) (r : ℕ)
     (wires′ new : List ℕ) : Type 0 where
-  pub next : r ≡ i + markOf (gateOf g)
+  pub next : r ≡ i + markOf (gateOfNumbers g)
   pub parts : wires′ ≡ eachPuts t (pieces .wires) own
-      (λ p. newPart t (piece (pieces .dealt) dealt) (piece (pieces .wires) wires) i (gateOf g) p ∷ []) wires
+      (λ p. newPart t (piece (pieces .triples) triples) (piece (pieces .wires) wires) i (gateOfNumbers g) p ∷ []) wires
   pub shown : new ≡ cond (conditionalOf (g .kind))
-      (eachPuts t (pieces .published) (2 * i) (λ p. bothMasked pieces g i dealt wires p) old) old
+      (eachPuts t (pieces .published) (2 * i) (λ p. bothMasked pieces g i triples wires p) old) old

@@ -28,3 +28,8 @@ pub record EntryReady (size p index : ℕ) (table : List ℕ) : Type 0 where
 pub record OpenReady (size t index : ℕ) (table : List ℕ) : Type 0 where
   pub inside : index < size
   pub long : length table ≡ t * size
+
+-- What testing the products of the triples asks for.
+pub record ProductsReady (t conditional : ℕ) (triples : List ℕ) : Type 0 where
+  pub few : conditional < 1073741824
+  pub long : length triples ≡ t * (3 * conditional)

@@ -13,38 +13,38 @@ use Rattle.trustee_shares.specs.Views.{Dealing, piece, joined, maskedFactors, w
 use Rattle.trustee_gates.specs.declared.gate.Pieces.{Pieces}
 
 -- A list of good gates over at least one input, and room for all parts, triples and factors of t trustees.
-pub record RunReady (t : ℕ) (pieces : Pieces) (inputs : ℕ) (table dealt wires published : List ℕ) : Type 0 where
+pub record RunReady (t : ℕ) (pieces : Pieces) (inputs : ℕ) (table triples wires published : List ℕ) : Type 0 where
   pub some-input : 1 ≤ inputs
   pub few : inputs + length (gatesOf table) < 1073741824
   pub good : firstBad inputs 0 (gatesOf table) ≡ Nowhere
   pub wires-size : pieces .wires ≡ inputs + length (gatesOf table)
-  pub dealt-size : 3 * conditionalCount (gatesOf table) ≤ pieces .dealt
+  pub triples-size : 3 * conditionalCount (gatesOf table) ≤ pieces .triples
   pub published-size : 2 * conditionalCount (gatesOf table) ≤ pieces .published
   pub wires-length : length wires ≡ t * pieces .wires
-  pub dealt-length : length dealt ≡ t * pieces .dealt
+  pub triples-length : length triples ≡ t * pieces .triples
   pub published-length : length published ≡ t * pieces .published
 
 -- Also: tables of exactly the lengths of request 2.7, and at least k gates.
 pub record EvaluateReady (t inputs : ℕ) (table : List ℕ) (conditional k : ℕ)
-    (ballotParts dealt wires published : List ℕ) : Type 0 where
+    (ballotParts triples wires published : List ℕ) : Type 0 where
   pub some-input : 1 ≤ inputs
   pub few : inputs + length (gatesOf table) < 1073741824
   pub good : firstBad inputs 0 (gatesOf table) ≡ Nowhere
   pub enough : k ≤ length (gatesOf table)
   pub conditional-is : conditional ≡ conditionalCount (gatesOf table)
   pub ballot-length : length ballotParts ≡ t * inputs
-  pub dealt-length : length dealt ≡ t * (3 * conditional)
+  pub triples-length : length triples ≡ t * (3 * conditional)
   pub wires-length : length wires ≡ t * (inputs + length (gatesOf table))
   pub published-length : length published ≡ t * (2 * conditional + k)
 
 -- After all gates, over the inputs at the front of each trustee's wire parts.
-pub record GatesRan (t : ℕ) (pieces : Pieces) (inputs : ℕ) (table dealt wires published wires′ published′ : List ℕ) :
+pub record GatesRan (t : ℕ) (pieces : Pieces) (inputs : ℕ) (table triples wires published wires′ published′ : List ℕ) :
     Type 0 where
-  pub parts : wires′ ≡ joined t (partsOf t (piece (pieces .dealt) dealt)
+  pub parts : wires′ ≡ joined t (partsOf t (piece (pieces .triples) triples)
       (λ p. take inputs (piece (pieces .wires) wires p)) 0 (gatesOf table))
   pub shown : published′ ≡ joined t (λ p. sets (piece (pieces .published) published p) 0
-      (maskedFactors (partsOf t (piece (pieces .dealt) dealt) (λ q. take inputs (piece (pieces .wires) wires q)) 0
-      (gatesOf table) p) (piece (pieces .dealt) dealt p) 0 (gatesOf table)))
+      (maskedFactors (partsOf t (piece (pieces .triples) triples) (λ q. take inputs (piece (pieces .wires) wires q)) 0
+      (gatesOf table) p) (piece (pieces .triples) triples p) 0 (gatesOf table)))
 
 -- After the whole evaluation.
 pub record Evaluated (t inputs : ℕ) (table : List ℕ) (k : ℕ) (d : Dealing) (wires′ published′ : List ℕ) : Type 0 where
