@@ -2,12 +2,15 @@
 -- Assumes nothing.
 use mathlib.Core.List.{List, [], _∷_}
 use Prim.Native.Nat.{ℕ}
+use Rattle.jury.specs.Shape.{withinLimits}
 use Rattle.jury.specs.Reason.{reasonAt}
-use Rattle.rule_judgment.proofs.Theorems.{bytes-say, somebody, gauge-alone}
+use Rattle.basics.proofs.Flags.{T-true}
+use Rattle.rule_judgment.proofs.Theorems.{bytes-say, somebody, equal-exactly, gauge-alone}
 use Rattle.rule_schulze.proofs.Theorems.{schulze-holds}
 use Rattle.tally.specs.Answer.{hasNumberIn}
 use Rattle.tally.specs.Memory.{Each}
 use Rattle.tally.proofs.Numbering.{All, first-fine, unless-fine, found-fine, outcome-fine, refused-fine}
+use Rattle.tally.proofs.OwnList.{own-list-holds}
 use Rattle.tally.proofs.Demands.{three-demands}
 use Rattle.season.specs.Season.{sheetReasons, totalsOf, runsIn}
 use Rattle.tally.proofs.Monotone.{monotone-on-gates}
@@ -16,9 +19,9 @@ use Rattle.season.proofs.Reasons.{sheet-sums}
 use Rattle.urn.proofs.UrnMemory.{urn-memory}
 use Rattle.urn.proofs.UrnTheorems.{urn-holds, previews-tell}
 use Rattle.urn_run.proofs.Theorems.{urn-run-holds}
-use Rattle.trustees.proofs.Demands as trustees
-use Rattle.levels.proofs.Demands as levels
-use Rattle.trustee_alone.proofs.Demands as alone
+use Rattle.trustees.proofs.Demands.{trustees-hold}
+use Rattle.levels.proofs.Demands.{levels-hold}
+use Rattle.trustee_alone.proofs.Demands.{alone-holds}
 use Rattle.dispatch.proofs.Theorems.{dispatching}
 use Rattle.batch.proofs.Theorems.{each-as-alone, accepted-as-all, batch-memory, batch-accuracy, batch-hiding}
 use Rattle.batch.proofs.Refusals.{refused-as-alone, fault-as-alone}
@@ -48,11 +51,16 @@ all-demands =
         urn = urn-memory;
         lanes = batch-memory;
       };
-      accuracy = record { own-list = three-demands .accuracy; plain-count = three-demands .counting };
+      accuracy = record {
+        own-list-holds = λ s t. own-list-holds s (T-true (withinLimits s) t);
+        own-list = three-demands .accuracy;
+        plain-count = three-demands .counting;
+      };
       hiding = three-demands .hiding;
       rules = record {
         judgment-bytes = bytes-say;
         judgment-somebody = somebody;
+        judgment-shared = equal-exactly;
         gauge-kept = gauge-alone;
         schulze = schulze-holds;
       };
@@ -62,7 +70,7 @@ all-demands =
       urn = urn-holds;
       previews = previews-tell;
       urn-run = urn-run-holds;
-      by-trustees = trustees.demands;
+      by-trustees = trustees-hold;
       dispatcher = dispatching;
       lanes-alone = each-as-alone;
       lanes-accepted = accepted-as-all;
@@ -70,6 +78,6 @@ all-demands =
       lanes-fault = fault-as-alone;
       lanes-accuracy = batch-accuracy;
       lanes-hiding = batch-hiding;
-      levels = levels.demands;
-      trustees-apart = alone.demands;
+      levels = levels-hold;
+      trustees-apart = alone-holds;
     }

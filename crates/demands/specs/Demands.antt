@@ -5,14 +5,14 @@ use mathlib.Core.Path.{_≡_}
 use mathlib.Core.List.{List, [], _∷_}
 use Prim.Native.Nat.{ℕ}
 use Rattle.jury.specs.declared.shape.Shape.{Shape}
-use Rattle.rule_judgment.specs.Theorems.{BytesSay, GaugeKept, SomebodyWins}
+use Rattle.rule_judgment.specs.Theorems.{BytesSay, EqualSequences, GaugeKept, SomebodyWins}
 use Rattle.rule_schulze.specs.Theorems.{SchulzeHolds}
 use Rattle.jury.specs.Reason.{firstOf}
 use Rattle.tally.specs.Answer.{accepted, outcome, Size}
 use Rattle.tally.specs.Memory.{KeepsMemory}
-use Rattle.tally.specs.Write.{writeOutcome}
+use Rattle.tally.specs.Write.{writeOutcome, HoldsWithin}
 use Rattle.tally.specs.Hiding.{RunTellsNoMore}
-use Rattle.tally.specs.Demands as run
+use Rattle.tally.specs.Demands.{TallyMemory, RunAccuracy, CountAccuracy}
 use Rattle.tally.specs.Monotone.{MonotoneOnGates}
 use Rattle.text.specs.RoundTrip.{RoundTrip}
 use Rattle.text.specs.Demands.{TextMemory}
@@ -21,11 +21,11 @@ use Rattle.season.specs.Theorems.{SheetSums}
 use Rattle.urn.specs.Memory.{UrnMemory}
 use Rattle.urn.specs.Theorems.{UrnHolds, PreviewsTell}
 use Rattle.urn_run.specs.Theorems.{UrnRunHolds}
-use Rattle.trustees.specs.Demands as trustees
-use Rattle.levels.specs.Demands as levels
-use Rattle.trustee_alone.specs.Demands as alone
+use Rattle.trustees.specs.Demands.{TrusteesHold}
+use Rattle.levels.specs.Demands.{LevelsHold}
+use Rattle.trustee_alone.specs.Demands.{AloneHolds}
 use Rattle.dispatch.specs.Theorems.{Dispatching}
-use Rattle.batch.specs.Theorems.{EachAsAlone, AcceptedAsAll, RefusedAsAlone, FaultAsAlone}
+use Rattle.batch.specs.Theorems.{EachAsAlone, AcceptedIfAll, RefusedAsAlone, FaultAsAlone}
 use Rattle.batch.specs.Theorems.{BatchMemory, BatchAccuracy, BatchHiding}
 
 -- The crate of the season sheet knows no answers of the core, so its instance is here: it is lent nothing to write to,
@@ -38,23 +38,28 @@ SheetMemory =
 -- The demand [memory] for the five entry points, the calls on text, the season sheet, the urn, and 64 juries. For the
 -- other calls it is in the records below.
 pub record Memory : Type 0 where
-  pub base : run.Memory
+  pub base : TallyMemory
   pub text : TextMemory
   pub sheet : SheetMemory
   pub urn : UrnMemory
   pub lanes : BatchMemory
 
 -- The demand [accuracy] for the five entry points: with the own list of a shape, and for the plain count by itself.
-pub record Accuracy : Type 0 where
+pub record TallyAccuracy : Type 0 where
+  -- within the limits the own list passes its test, keeps its bound, and its closing bytes are the rule's
+  pub own-list-holds : (s : Shape) → HoldsWithin s
+  -- a run of the list that was written
   pub own-list : (s : Shape) (table : List ℕ) (size : Size) → writeOutcome s table ≡ accepted size
-      → run.RunAccuracy s table size
-  pub plain-count : run.CountAccuracy
+      → RunAccuracy s table size
+  pub plain-count : CountAccuracy
 
 -- The rules: their winners are the ones that the rules describe in words.
 pub record Rules : Type 0 where
-  -- majority judgment: a byte says who wins, somebody wins, and the gauge's winner wins alone [judgment-gauge]
+  -- majority judgment: a byte says who wins; somebody wins; only candidates with equal counts share a win; the
+  -- gauge's winner wins alone [judgment-gauge]
   pub judgment-bytes : BytesSay
   pub judgment-somebody : SomebodyWins
+  pub judgment-shared : EqualSequences
   pub gauge-kept : GaugeKept
   -- Schulze's rule: strongest paths, somebody wins, a Condorcet winner wins alone
   pub schulze : SchulzeHolds
@@ -62,7 +67,7 @@ pub record Rules : Type 0 where
 -- All of it: the three demands on a run, and what each request adds.
 pub record AllDemands : Type 0 where
   pub memory : Memory
-  pub accuracy : Accuracy
+  pub accuracy : TallyAccuracy
   pub hiding : RunTellsNoMore
   pub rules : Rules
   -- [text]: what is written is read back, and what is read was written
@@ -77,18 +82,18 @@ pub record AllDemands : Type 0 where
   -- [urn-run]: memory, accuracy, hiding
   pub urn-run : UrnRunHolds
   -- [trustees]: memory, accuracy, and that views reveal no more than the closing bytes
-  pub by-trustees : trustees.Demands
+  pub by-trustees : TrusteesHold
   -- [dispatcher]: rounds, memory, refusals, each jury as if alone, accuracy, hiding
   pub dispatcher : Dispatching
   -- [lanes]: each jury of an accepted call as if alone, which calls are accepted, what a refusal says about the
   -- juries; accuracy, hiding
   pub lanes-alone : EachAsAlone
-  pub lanes-accepted : AcceptedAsAll
+  pub lanes-accepted : AcceptedIfAll
   pub lanes-refused : RefusedAsAlone
   pub lanes-fault : FaultAsAlone
   pub lanes-accuracy : BatchAccuracy
   pub lanes-hiding : BatchHiding
   -- ours, beyond the requests: the levels of a list; a trustee on its own machine, and that all of them end as the
   -- single call does
-  pub levels : levels.Demands
-  pub trustees-apart : alone.Demands
+  pub levels : LevelsHold
+  pub trustees-apart : AloneHolds
