@@ -10,7 +10,7 @@ from typing import NamedTuple, Union
 from .library import Buffer, call, wipe
 from .shape import Shape, winners_of
 
-# The longest line of a list as text: a kind, three operands of ten digits, three spaces and a line feed.
+# Enough for any line of a list as text: four numbers of up to ten digits, three spaces and a line feed.
 LONGEST_LINE = 44
 
 

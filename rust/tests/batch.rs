@@ -1,4 +1,4 @@
-//! Runs for 64 juries: each jury as in its single run, and refusals that name the jury.
+//! Runs for 64 juries: each jury gets what its single run gives, and refusals name the jury.
 mod common;
 
 use common::{ballots, numbers, refusal};
