@@ -23,11 +23,11 @@ ANSWERS = {"start": 4, "round": 5, "finish": 4}
 def lent_to(name, call):
     """The arguments of a call; what it writes comes last."""
     written = [output(call["wires"]), output(call["published"])]
-    shape, dealt = [*call["shape"], numbers(call["table"])], bytes_of(call["dealt"])
+    shape, triples = [*call["shape"], numbers(call["table"])], bytes_of(call["triples"])
     if name == "start":
-        return [*shape, call["t"], call["p"], bytes_of(call["parts"]), dealt, *written]
+        return [*shape, call["t"], call["p"], bytes_of(call["shares"]), triples, *written]
     if name == "round":
-        read = [numbers(call["levels"]), dealt, bytes_of(call["heard"])]
+        read = [numbers(call["levels"]), triples, bytes_of(call["heard"])]
         return [*shape, call["t"], call["p"], call["r"], *read, *written]
     return [*shape, written[0]]
 
@@ -43,11 +43,11 @@ def fault_of(name, call):
         return (17, 0) if len(call["wires"]) != inputs + len(gates) else None
     if not 2 <= call["t"] <= 5 or call["p"] >= call["t"]:
         return 16, 0
-    lengths = [(call["dealt"], 3 * count), (call["wires"], inputs + len(gates)), (call["published"], 2 * count + k)]
-    bits = list(call["dealt"])
+    lengths = [(call["triples"], 3 * count), (call["wires"], inputs + len(gates)), (call["published"], 2 * count + k)]
+    bits = list(call["triples"])
     if name == "start":
-        lengths.append((call["parts"], inputs))
-        bits += call["parts"]
+        lengths.append((call["shares"], inputs))
+        bits += call["shares"]
     if any(len(lent) != length for lent, length in lengths):
         return 17, 0
     if any(bit > 1 for bit in bits):
@@ -65,7 +65,7 @@ def fault_of(name, call):
 def one_round(call):
     """The tables after a round, wire by wire: from any bits."""
     gates, inputs, k = doc.gates_of(call["table"]), doc.ballot_bytes(*call["shape"]), call["shape"][0]
-    own, trustee = depths(inputs, gates), Trustee(call["p"], [], call["dealt"])
+    own, trustee = depths(inputs, gates), Trustee(call["p"], [], call["triples"])
     wires, published = list(call["wires"]), list(call["published"])
     place = {g: i for i, g in enumerate(g for g, gate in enumerate(gates) if gate[0] in CONDITIONAL)}
     for g, gate in enumerate(gates):
@@ -95,7 +95,7 @@ def check(core, name, call):
     rounds = [max(depths(doc.ballot_bytes(*call["shape"]), gates))] if name == "round" else []
     assert said == ["accepted", len(gates), doc.conditional_count(gates), *rounds], (name, said)
     expected = {
-        "start": lambda: [call["parts"] + [0] * len(gates), [0] * len(call["published"])],
+        "start": lambda: [call["shares"] + [0] * len(gates), [0] * len(call["published"])],
         "round": lambda: list(one_round(call)),
         "finish": lambda: [[0] * len(call["wires"])],
     }[name]()
@@ -108,12 +108,12 @@ def together(rng, core, shape, gates, t):
     """All trustees from start to finish, compared with the single call."""
     k, inputs, count = shape[0], doc.ballot_bytes(*shape), doc.conditional_count(gates)
     ballots = [rng.randrange(2) for _ in range(inputs)]
-    parts, dealt = dealings(rng, ballots, count, t)
-    trustees, own = protocol(gates, inputs, k, t, parts, dealt), depths(inputs, gates)
+    shares, triples = dealings(rng, ballots, count, t)
+    trustees, own = protocol(gates, inputs, k, t, shares, triples), depths(inputs, gates)
     calls = [
         dict(
             shape=shape, table=flat(gates), t=t, p=p, levels=own, heard=[0] * (2 * count),
-            parts=parts[inputs * p : inputs * (p + 1)], dealt=dealt[3 * count * p : 3 * count * (p + 1)],
+            shares=shares[inputs * p : inputs * (p + 1)], triples=triples[3 * count * p : 3 * count * (p + 1)],
             wires=[9] * (inputs + len(gates)), published=[9] * (2 * count + k),
         )
         for p in range(t)
@@ -155,14 +155,14 @@ def faults_of(call, name):
         "six": {"t": 6},
         "none such": {"p": call["t"]},
         "far": {"p": 2 ** 60},
-        "fewer triples": {"dealt": call["dealt"][1:]},
-        "more triples": {"dealt": call["dealt"] + [0]},
-        "two": {"dealt": call["dealt"][:-1] + [2]},
+        "fewer triples": {"triples": call["triples"][1:]},
+        "more triples": {"triples": call["triples"] + [0]},
+        "two": {"triples": call["triples"][:-1] + [2]},
         "no published": {"published": []},
         "more published": {"published": call["published"] + [0]},
     }
     if name == "start":
-        more = {"fewer parts": {"parts": call["parts"][1:]}, "a part of 2": {"parts": [2] + call["parts"][1:]}}
+        more = {"fewer shares": {"shares": call["shares"][1:]}, "a share of 2": {"shares": [2] + call["shares"][1:]}}
         return changes | more
     own = call["levels"]
     return changes | {
@@ -191,7 +191,7 @@ def elections(rng, core):
 def any_tables(rng, core, call):
     """A round is tested on whatever bits the tables hold."""
     for _ in range(100):
-        any_bits = {name: [rng.randrange(2) for _ in call[name]] for name in ("dealt", "heard", "wires", "published")}
+        any_bits = {name: [rng.randrange(2) for _ in call[name]] for name in ("triples", "heard", "wires", "published")}
         check(core, "round", call | any_bits | {"r": rng.randrange(max(call["levels"]) + 1), "p": rng.randrange(3)})
 
 
