@@ -1,5 +1,5 @@
-/* The tally by trustees: the library compared with the same work in C, timed as timing.h says.
- *     trustees    prints TRUSTEES K D N GATES CORE_NS C_NS RATIO, a line for each
+/* The tally by trustees: the library compared with the same work in C.
+ *     trustees    prints TRUSTEES K D N GATES CORE_NS C_NS RATIO, a line for each, timed as timing.h says
  * First it compares what both publish. It includes all of core.c, for the tests of list, ballots and bits. */
 #include "core.c"
 #include "../tests/library_c/dealing.h"
