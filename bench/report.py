@@ -260,7 +260,8 @@ SECTIONS = [
     (
         "A trustee on its own machine",
         "All rounds of one of three trustees, compared with the single call for all three. Each round goes through the "
-        "whole list, so a trustee computes longer; in return it sends one message a round, not one a gate.",
+        "whole list, so a trustee computes longer; in return it sends one message a round, not one a gate. These times "
+        "are the least over 21 rounds, at one address.",
         "apart",
     ),
     (

@@ -33,7 +33,7 @@ def lent_to(name, call):
 
 
 def fault_of(name, call):
-    """Reason and place by the model, or none."""
+    """Reason and place according to the model, or None."""
     fault = doc.test_fault(*call["shape"], call["table"])
     if fault:
         return fault
@@ -63,7 +63,7 @@ def fault_of(name, call):
 
 
 def one_round(call):
-    """The tables after a round, wire by wire: from any bits."""
+    """The tables after one round, gate by gate. They may hold any bits before it."""
     gates, inputs, k = doc.gates_of(call["table"]), doc.ballot_bytes(*call["shape"]), call["shape"][0]
     own, trustee = depths(inputs, gates), Trustee(call["p"], [], call["triples"])
     wires, published = list(call["wires"]), list(call["published"])
@@ -85,7 +85,7 @@ def one_round(call):
 
 
 def check(core, name, call):
-    """One call compared with the model; the tables after it if it is accepted."""
+    """Compares one call with the model; returns the tables after it, or None if it is refused."""
     lent, fault = lent_to(name, call), fault_of(name, call)
     said = core.call(f"jugy_trustee_{name}", *lent, answers=ANSWERS[name])
     if fault:
@@ -179,7 +179,7 @@ def faults_of(call, name):
 
 
 def elections(rng, core):
-    """Own lists and strangers', by all numbers of trustees."""
+    """Own lists with every number of trustees, and random lists."""
     for shape, t in itertools.product(((1, 2, 1), (2, 3, 2), (3, 2, 3), (2, 0, 2), (3, 0, 3)), range(2, 6)):
         together(rng, core, shape, doc.gates_of(core.own_list(shape)), t)
     for _ in range(60):
@@ -189,7 +189,7 @@ def elections(rng, core):
 
 
 def any_tables(rng, core, call):
-    """A round is tested on whatever bits the tables hold."""
+    """Rounds on tables of random bits."""
     for _ in range(100):
         any_bits = {name: [rng.randrange(2) for _ in call[name]] for name in ("triples", "heard", "wires", "published")}
         check(core, "round", call | any_bits | {"r": rng.randrange(max(call["levels"]) + 1), "p": rng.randrange(3)})

@@ -2,8 +2,8 @@
 
     python3 tests/trustees.py    prints how many calls there were, by reason
 
-Small lists with every dealing counted: for whichever trustee is left out, each dealing of one election has exactly
-one counterpart in another with the same closing bytes. Random elections, graded and ranked, on own and on random
+Tiny lists with all their dealings: whichever trustee is left out, each dealing of one election has exactly one
+counterpart in another election with the same closing bytes. Random elections, graded and ranked, on own and on random
 lists, every reason at its edges, all pairs of faults, and old contents of both tables that are written.
 """
 
@@ -22,7 +22,7 @@ CONDITIONAL = (AND, OR, CHOICE)
 
 
 class Trustee:
-    """One trustee: it knows its number, its own bits, and what was opened."""
+    """One trustee of the model: it knows its number, its own bits, and what was opened."""
 
     def __init__(self, number, ballot_bits, triples):
         self.first = number == 0
@@ -90,7 +90,7 @@ def protocol(gates, inputs, k, t, shares, triples):
 
 
 class Call:
-    """A call with all that it lends. Tables that are written are given by their lengths."""
+    """A call with everything lent to it. Tables that are written are given by their lengths."""
 
     def __init__(self, shape, gates, ballots, t, shares, triples, old=9):
         count = doc.conditional_count(gates)
@@ -111,7 +111,7 @@ class Call:
         return doc.gates_of(self.table)
 
     def fault(self):
-        """Reason and place by the model, or none."""
+        """Reason and place according to the model, or None."""
         k, d, n = self.shape
         fault = doc.test_fault(k, d, n, self.table) or doc.ballots_fault(k, d, n, self.ballots)
         if fault:
@@ -143,7 +143,7 @@ def lent_to(call):
 
 class Trustees(Core):
     def check(self, call):
-        """One call against the model. Of an accepted one, the trustees as the model has them."""
+        """Compares one call with the model; returns the model's trustees, or None if it is refused."""
         lent = lent_to(call)
         said = self.call("jugy_trustees", *lent, answers=ANSWER)
         fault = call.fault()
@@ -199,7 +199,7 @@ def view(call, trustees, published, q):
 
 
 def count_counterparts(core, shape, gates, t):
-    """All dealings of all elections of a shape: those of two elections with equal closing bytes have the same views."""
+    """Tries all dealings of all elections of a shape: two elections with equal closing bytes have the same views."""
     k, d, n = shape
     rows = [[int(i == j) for j in range(d)] for i in range(d)]
     count = doc.conditional_count(gates)
@@ -213,7 +213,7 @@ def count_counterparts(core, shape, gates, t):
             for q in range(t):
                 seen[q][view(call, trustees, [b for each in trustees for b in each.said], q)] += 1
         for q in range(t):
-            # exactly one dealing for a view, so that counterparts are unique
+            # each view has exactly one dealing, so a counterpart is unique
             assert set(seen[q].values()) == {1}
         closing = tuple(doc.run_gates(ballots, gates, [0] * count)[0][-k:])
         views[closing].append([frozenset(s) for s in seen])
@@ -240,7 +240,7 @@ def changed(items, place, value):
 
 
 def bad_ballots(call):
-    """Bits that are no ballots: a row without a grade (6), or rankings with the faults 11 and 12."""
+    """Bits that are not ballots: a row without a grade (6), or rankings with the faults 11 and 12."""
     if call.shape[1]:
         return {"row": {"ballots": changed(call.ballots, call.ballots.index(1), 0)}}
     rest = call.ballots[9:]
@@ -329,7 +329,7 @@ def every_share(rng, core, call):
 
 
 def old_contents(rng, core, call):
-    """Whatever both tables held, with conditional gates and without."""
+    """The old contents of both tables do not matter, with conditional gates and without."""
     free = valid_call(rng, core, (2, 2, 1), 5, [(XOR, 0, 1, 0), (ONE, 0, 0, 0), (3, 4, 0, 0)])
     assert not free.triples
     for old in (0, 1, 255):
