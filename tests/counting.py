@@ -152,7 +152,7 @@ def random_juries(rng):
         for width in (2, 3, 4, 5, 6):
             n = rng.randrange(1 << (width - 1), 1 << width)
             yield jury(d, next(styles)(rng, k, d, n))
-    for style in [tied, level, level] * 100:                 # small juries, where wins are shared most often
+    for style in [tied, level, level] * 100:                 # in small juries wins are shared most often
         yield jury(3, style(rng, rng.choice([2, 2, 3, 4]), 3, rng.randrange(3, 12)))
 
 

@@ -256,7 +256,7 @@ def runs(tests, rng):
 
 
 def pairs_of_faults(tests):
-    """Every fault alone and every two at once, run and counted."""
+    """Every fault by itself and every two at once, run and counted."""
     gates = tests.own_list(3, 2)
     for first, second in itertools.combinations_with_replacement(FAULTS, 2):
         case = {"k": 3, "d": 0, "n": 2, "table": [x for gate in gates for x in gate],

@@ -278,7 +278,7 @@ FAULTS = [
 
 
 def pairs_of_faults():
-    """Every fault alone and every two at once: the answer is the first in checking order."""
+    """Every fault by itself and every two at once: the answer is the first in checking order."""
     good = Case(2, 3, 2, [(5, 0, 3, 0), (4, 12, 1, 0), (2, 13, 0, 0), (7, 12, 13, 14)])
     assert good.expected()[0] == ["accepted", 4, 3]
     for (first, spoil), (second, spoil_too) in itertools.combinations_with_replacement(FAULTS, 2):

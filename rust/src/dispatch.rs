@@ -98,8 +98,8 @@ impl Tables {
 
     /// Calls the core, and returns each jury's number of rounds. The place of a refusal is the jury.
     fn run(&mut self, juries: usize, gates_per_round: usize) -> Result<[usize; 8], Refusal> {
-        // SAFETY: every pointer comes from a vector and is handed over with its length; what is written is
-        // borrowed mutably.
+        // SAFETY: every pointer comes from a vector and is passed with its length; whatever is written is borrowed
+        // mutably.
         let [_, _, rounds @ ..]: [usize; 10] = answered(|answer, length| unsafe {
             c::jugy_dispatch(
                 juries,

@@ -87,7 +87,7 @@ impl Seat<'_> {
         published: &mut [u8],
     ) -> Result<Size, Refusal> {
         let [k, d, n] = self.shape.numbers();
-        // SAFETY: every pointer comes from a slice and is handed over with its length; what is written is a `&mut`.
+        // SAFETY: every pointer comes from a slice and is passed with its length; whatever is written is a `&mut`.
         sized(|answer, length| unsafe {
             c::jugy_trustee_start(
                 k,
@@ -123,7 +123,7 @@ impl Seat<'_> {
         published: &mut [u8],
     ) -> Result<Depths, Refusal> {
         let [k, d, n] = self.shape.numbers();
-        // SAFETY: every pointer comes from a slice and is handed over with its length; what is written is a `&mut`.
+        // SAFETY: every pointer comes from a slice and is passed with its length; whatever is written is a `&mut`.
         answered(|answer, length| unsafe {
             c::jugy_trustee_round(
                 k,
@@ -154,7 +154,7 @@ impl Seat<'_> {
     /// Empties its shares of the wires. Call it after the closing bits have been sent.
     pub fn finish(&self, wires: &mut [u8]) -> Result<Size, Refusal> {
         let [k, d, n] = self.shape.numbers();
-        // SAFETY: every pointer comes from a slice and is handed over with its length; what is written is a `&mut`.
+        // SAFETY: every pointer comes from a slice and is passed with its length; whatever is written is a `&mut`.
         sized(|answer, length| unsafe {
             c::jugy_trustee_finish(
                 k,

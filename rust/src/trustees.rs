@@ -127,7 +127,7 @@ pub fn tally(
     published: &mut [u8],
 ) -> Result<Tallied, Refusal> {
     let [k, d, n] = shape.numbers();
-    // SAFETY: every pointer comes from a slice and is handed over with its length; what is written is borrowed mutably.
+    // SAFETY: every pointer comes from a slice and is passed with its length; whatever is written is borrowed mutably.
     let [_, _, gates, conditional, closing @ ..]: [usize; 12] = answered(|answer, length| unsafe {
         c::jugy_trustees(
             k,

@@ -66,7 +66,7 @@ fn ballots(call: impl FnOnce(*mut usize, usize) -> usize) -> Result<usize, Refus
 
 /// Makes a table into an empty urn, whatever its bytes are. All its slots are free, in order.
 pub fn empty(k: usize, d: usize, urn: &mut [u8]) -> Result<usize, Refusal> {
-    // SAFETY: every pointer comes from a slice and is handed over with its length; what is written is borrowed mutably.
+    // SAFETY: every pointer comes from a slice and is passed with its length; whatever is written is borrowed mutably.
     ballots(|answer, length| unsafe { c::jugy_empty_urn(k, d, urn.as_mut_ptr(), urn.len(), answer, length) })
 }
 
