@@ -1,5 +1,5 @@
 //! A tally by trustees. Each holds a share of every wire: one bit. The sum of all shares modulo 2 is the wire.
-//! `c/jugyvaros.h` draws the four tables.
+//! `c/jugyvaros.h` describes the four tables.
 //!
 //! Use a dealing for one tally only: its bits have to be random, secret and fresh, or the trustees learn more than the
 //! closing bytes. Whoever deals, and whoever calls the tally, sees the plain ballots.

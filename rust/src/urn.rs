@@ -1,5 +1,5 @@
 //! An urn for graded ballots: admission, withdrawal, previews of both, and a run on the ballots in it.
-//! `c/jugyvaros.h` draws the bytes of an urn and says when it is sound.
+//! `c/jugyvaros.h` describes the bytes of an urn, and says when it is sound.
 //!
 //! Each call returns the number of ballots in the urn afterwards. If it returns a refusal, the urn is unchanged.
 
