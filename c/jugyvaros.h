@@ -24,10 +24,10 @@
  *   0     none      0                    no
  *   1     none      1                    no
  *   2     a         a                    no
- *   3     a         not a                no
- *   4     a b       a and b              yes
- *   5     a b       a or b               yes
- *   6     a b       a xor b              no
+ *   3     a         NOT a                no
+ *   4     a b       a AND b              yes
+ *   5     a b       a OR b               yes
+ *   6     a b       a XOR b              no
  *   7     a b c     b if a is 1, else c  yes
  *
  * Answer: each function writes its answer into the array `answer` and also returns answer[0].
