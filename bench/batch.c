@@ -1,8 +1,8 @@
-/* Times a run for 64 juries against 64 calls of jugy_run, one for each jury, in one process. Every call makes all its
- * tests and empties its wire table. Packing the juries into numbers is not counted: it is done before.
- *   batch    K D N GATES BATCH_NS SINGLES_NS RATIO a line, as timing.h says; the ratio says how many times faster the
- *            batch is
- * The boards are compared first. */
+/* Compares a run for 64 juries with 64 calls of jugy_run, one for each jury. Every call makes all its tests and empties
+ * its wire table. The juries are packed into numbers beforehand, which is not timed.
+ *   batch    prints K D N GATES BATCH_NS SINGLES_NS RATIO, a line for each, timed as timing.h says; the ratio says how
+ *            many times faster the batch is
+ * First it compares the boards. */
 #include "jury.h"
 #include "timing.h"
 
@@ -12,7 +12,7 @@ static const size_t shapes[][3] = {{2, 3, 3},   {3, 4, 10}, {5, 5, 31}, {5, 6, 1
 enum { JURIES = 64 };
 enum { BATCH, SINGLES, WAYS };
 
-static struct jury juries[JURIES]; /* of one list and one wire table */
+static struct jury juries[JURIES]; /* all with the same list and wire table */
 static uint64_t *words, *tape, *wires, *board;
 
 static size_t call(int way) {
@@ -26,7 +26,7 @@ static size_t call(int way) {
     return reason;
 }
 
-/* Makes the bytes of jury i bit i of the words. */
+/* Puts the bytes of jury i into bit i of the words. */
 static void pack(uint64_t *to, const uint8_t *bytes, size_t length, int i) {
     for (size_t x = 0; x < length; x++)
         to[x] |= (uint64_t)bytes[x] << i;

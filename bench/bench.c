@@ -1,8 +1,8 @@
-/* Times write, test, run and count of the core against the same work in C (core.c), in one run.
+/* Compares write, test, run and count of the core with the same work in C (core.c).
  *   bench same    compares the results of both for every graded shape
- *   bench times   OP K D N GATES CORE_NS C_NS RATIO a line, as timing.h says
- *   bench counts  one call each between callgrind's dumps, labelled OP-K-D-N-WHO
- * Each pair's results are compared first. */
+ *   bench times   prints OP K D N GATES CORE_NS C_NS RATIO, a line for each, timed as timing.h says
+ *   bench counts  makes one call of each, with a callgrind dump labelled OP-K-D-N-WHO
+ * Before it times or counts, it compares the results. */
 #include "core.h"
 #include "jury.h"
 #include "timing.h"
@@ -25,13 +25,14 @@ static size_t call(int way) {
     case WRITE: return (in_c ? core_write : jugy_write)(j.k, j.d, j.n, j.table, 4 * j.gates, answer, JUGY_WRITE_ANSWER);
     case TEST: return (in_c ? core_test : jugy_test)(j.k, j.d, j.n, j.table, 4 * j.gates, answer, JUGY_TEST_ANSWER);
     case RUN:
-        return (in_c ? core_run : jugy_run)(j.k, j.d, j.n, j.table, 4 * j.gates, j.ballots, j.inputs, j.tape, j.marks, j.wires,
-                                            j.inputs + j.gates, j.board, j.marks + j.k, answer, JUGY_RUN_ANSWER);
+        return (in_c ? core_run : jugy_run)(j.k, j.d, j.n, j.table, 4 * j.gates, j.ballots, j.inputs, j.tape, j.marks,
+                                            j.wires, j.inputs + j.gates, j.board, j.marks + j.k, answer,
+                                            JUGY_RUN_ANSWER);
     default: return (in_c ? core_count : jugy_count)(j.k, j.d, j.n, j.ballots, j.inputs, answer, JUGY_COUNT_ANSWER);
     }
 }
 
-/* The call on an emptied answer array, an emptied board and used wires; a list that it writes is emptied too. */
+/* Makes the call with a zeroed answer array and board, and used wires; if it writes the list, that is zeroed too. */
 static void call_afresh(int way) {
     if (op == WRITE)
         memset(j.table, 0, 16 * j.gates);
@@ -40,7 +41,7 @@ static void call_afresh(int way) {
         fail_at(&j, way == IN_C ? "C refuses" : "the core refuses");
 }
 
-/* Both must leave the same: list, answer, wires, board. */
+/* Both must leave the same list, answer, wires and board. */
 static void set_up(const size_t *shape) {
     j = jury_of(shape);
     for (op = 0; op < OPS; op++) {
@@ -49,8 +50,8 @@ static void set_up(const size_t *shape) {
         uint32_t *table = copy_of(j.table, 16 * j.gates);
         uint8_t *wires = copy_of(j.wires, j.inputs + j.gates), *board = copy_of(j.board, j.marks + j.k);
         call_afresh(CORE);
-        if (memcmp(outcome, answer, sizeof answer) || memcmp(table, j.table, 16 * j.gates) || memcmp(wires, j.wires, j.inputs + j.gates)
-            || memcmp(board, j.board, j.marks + j.k))
+        if (memcmp(outcome, answer, sizeof answer) || memcmp(table, j.table, 16 * j.gates)
+            || memcmp(wires, j.wires, j.inputs + j.gates) || memcmp(board, j.board, j.marks + j.k))
             fail_at(&j, "the two differ");
         free(outcome), free(table), free(wires), free(board);
     }

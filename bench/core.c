@@ -24,19 +24,19 @@ enum { ZERO, ONE, COPY, NOT, AND, OR, XOR, CHOICE };
 
 enum { MOST_CANDIDATES = 8, MOST_GRADES = 7, MOST_DIGITS = 8 };
 
-/* Wires are counted in another type than the table's numbers: a store into the table cannot alter the writer then, and
- * the compiler keeps it in registers. */
+/* The counters have another type than the table's numbers. So the compiler knows that a store into the table does not
+ * change them, and keeps them in registers. */
 struct writer {
     uint32_t *next;
     size_t wire, conditional;
 };
 
-/* Sums have `digits` low digits and a top one, the number of a median grade `places` low digits and a top one. */
+/* A sum has `digits` low digits and a top digit; a median grade's number has `places` low digits and a top digit. */
 struct plan {
     uint32_t k, d, n, inputs, digits, places, offset, worst;
 };
 
-/* Each part returns the wire of its result, or of its first digit. */
+/* Each function that emits gates returns the wire of its result, or of the result's first digit. */
 static inline uint32_t emit(struct writer *w, uint32_t kind, uint32_t a, uint32_t b, uint32_t c) {
     w->next[0] = kind;
     w->next[1] = a;
@@ -81,7 +81,7 @@ static uint32_t choose(struct writer *w, uint32_t f, uint32_t x, uint32_t y, uin
     return n;
 }
 
-/* Counting bits by levels of adders: a level's carries are the next one's bits. */
+/* Bits are counted by levels of adders: the carries of one level are the bits of the next. */
 static uint32_t level(struct writer *w, uint32_t s, uint32_t at, uint32_t stride, uint32_t e, uint32_t left) {
     for (; left > 1; left -= 2, at += 2 * stride)
         s = full_adder(w, s, at, at + stride);
@@ -92,7 +92,7 @@ static uint32_t level(struct writer *w, uint32_t s, uint32_t at, uint32_t stride
 
 static uint32_t adders_of(uint32_t count, uint32_t e) { return (count + e + 1) / 2; }
 
-/* `sums` are the wires of the digits. */
+/* Puts the wire of each digit into `sums`, the lowest first. */
 static void count_levels(struct writer *w, uint32_t at, uint32_t stride, uint32_t count, uint32_t extra,
                          uint32_t levels, uint32_t *sums) {
     for (uint32_t i = 0; i < levels; i++, extra /= 2) {
@@ -105,19 +105,20 @@ static void count_levels(struct writer *w, uint32_t at, uint32_t stride, uint32_
     sums[levels] = at;
 }
 
-/* A word of the key: low digits of one kind, a top digit of the other. */
+/* A word of the key: gates of kind `low` for the low digits, and a gate of kind `top` for the top digit. */
 static void key_word(struct writer *w, const uint32_t *sums, uint32_t digits, uint32_t low, uint32_t top) {
     for (uint32_t i = 0; i < digits; i++)
         emit(w, low, sums[i], 0, 0);
     emit(w, top, sums[digits], 0, 0);
 }
 
-/* What a running sum counts: wires a stride apart. */
+/* The wires that a running sum counts: where they begin, and how far apart they are. */
 struct row {
     uint32_t at, stride;
 };
 
-/* A row of sums modulo 2: whether a ballot gives one of these grades, since it gives one grade. */
+/* For each ballot, whether it gives one of the grades so far or the next one. It gives only one grade, so this is a sum
+ * modulo 2. */
 static struct row next_row(struct writer *w, struct row before, uint32_t bits, uint32_t stride, uint32_t n) {
     struct row next = {(uint32_t)w->wire, 1};
     for (uint32_t i = 0; i < n; i++)
@@ -125,8 +126,8 @@ static struct row next_row(struct writer *w, struct row before, uint32_t bits, u
     return next;
 }
 
-/* A candidate's running sums, and its key: of each sum the low digits, and whether the median grade is worse. The last
- * sum is told by the worst grade's count. */
+/* A candidate's running sums, and its key: for each sum, the low digits and whether the median grade is worse. The last
+ * sum follows from the count of the worst grade. */
 static uint32_t candidate(struct writer *w, const struct plan *p, uint32_t c) {
     const uint32_t bits = c * p->d, stride = p->k * p->d, digits = p->digits, last = p->d - 2;
     uint32_t sums[MOST_GRADES][MOST_DIGITS];
@@ -143,7 +144,7 @@ static uint32_t candidate(struct writer *w, const struct plan *p, uint32_t c) {
     return key;
 }
 
-/* For each digit whether x and y differ in it. */
+/* For each digit, whether x and y differ in it. */
 static uint32_t differences(struct writer *w, uint32_t x, uint32_t y, uint32_t digits) {
     uint32_t n = (uint32_t)w->wire;
     for (uint32_t i = 0; i < digits; i++)
@@ -151,8 +152,8 @@ static uint32_t differences(struct writer *w, uint32_t x, uint32_t y, uint32_t d
     return n;
 }
 
-/* Whether x and y differ, whether they do in their high halves, and where the wires for single digits stand. The high
- * half is the `high` highest digits, which are gone through by themselves; 0 of them, and there is one half. */
+/* Whether x and y differ, whether their high halves differ, and where the wires for single digits begin. The high half
+ * is the `high` highest digits, which are compared separately; if `high` is 0, there is only one half. */
 struct difference {
     uint32_t any, in_high, digits;
 };
@@ -165,12 +166,12 @@ static struct difference unequal(struct writer *w, uint32_t x, uint32_t y, uint3
     return (struct difference){emit(w, OR, in_high, in_low, 0), in_high, n};
 }
 
-/* Whether x and y differ, and, where they do, whether x is larger or comes first. */
+/* Whether x and y differ, and if they do, whether x is larger or comes first. */
 struct order {
     uint32_t differ, first;
 };
 
-/* x's digit in the highest of the digits that differ, else its lowest one. */
+/* x's digit at the highest place at which x and y differ, or its lowest digit if they are equal. */
 static uint32_t above(struct writer *w, uint32_t differ, uint32_t x, uint32_t digits) {
     uint32_t last = x;
     for (uint32_t i = 1; i < digits; i++)
@@ -188,8 +189,8 @@ static struct order versus(struct writer *w, uint32_t x, uint32_t y, uint32_t di
     return (struct order){differ.any, first};
 }
 
-/* Which of two numbers of ones is larger, among wires of which the first ones are 1: digit after digit from the lowest,
- * which is the sum modulo 2 of all the wires; the next one that of every second wire. */
+/* Which of two rows of wires has more ones, if in each row all ones come first. The number of ones is compared digit by
+ * digit: the lowest is the sum modulo 2 of all wires, the next one that of every second wire, and so on. */
 static struct order compare_ones(struct writer *w, uint32_t x, uint32_t y, uint32_t stride, uint32_t count,
                                  uint32_t digits) {
     struct order so_far = {0, 0};
@@ -209,7 +210,7 @@ static struct order compare_ones(struct writer *w, uint32_t x, uint32_t y, uint3
     return so_far;
 }
 
-/* A word of either key. */
+/* One word of each of two keys. */
 struct words {
     uint32_t x, y;
 };
@@ -224,7 +225,7 @@ static struct words either(struct writer *w, uint32_t f, struct words one, struc
     return (struct words){x, y};
 }
 
-/* The words of the grades nearest to the median at which the keys differ, below it and from it on. */
+/* The words of the two grades nearest to the median at which the keys differ: one below it, one from it on. */
 static void nearest(struct writer *w, const struct plan *p, struct words keys, uint32_t high, struct words *down,
                     struct words *up) {
     const uint32_t last = p->d - 2, digits = p->digits;
@@ -243,8 +244,8 @@ static void nearest(struct writer *w, const struct plan *p, struct words keys, u
         *up = either(w, from[g], words_of(p, keys, g), *up, digits);
 }
 
-/* The carry out of the high half of a sum: that of the low half where all digits differ, else the highest digit in
- * which they do not. */
+/* The carry out of the high half of a sum: that of the low half if all digits of x and y differ, else the digit at the
+ * highest place at which they are equal. */
 static uint32_t high_reach(struct writer *w, uint32_t x, uint32_t y, uint32_t carry, uint32_t digits) {
     uint32_t n = differences(w, x, y, digits), own = x;
     for (uint32_t i = 1; i < digits; i++)
@@ -253,7 +254,7 @@ static uint32_t high_reach(struct writer *w, uint32_t x, uint32_t y, uint32_t ca
     return emit(w, CHOICE, passes, carry, own);
 }
 
-/* Whether the sum of x, y and the bit e has a digit more than they. */
+/* Whether the sum of x, y and the bit e has one digit more than x and y. */
 static uint32_t reach(struct writer *w, uint32_t x, uint32_t y, uint32_t e, uint32_t digits) {
     uint32_t low = digits / 2, carry = emit(w, e ? OR : AND, x, y, 0);
     if (digits == 1)
@@ -265,8 +266,8 @@ static uint32_t reach(struct writer *w, uint32_t x, uint32_t y, uint32_t e, uint
     return high_reach(w, x + low, y + low, carry, digits - low);
 }
 
-/* The upper one of the two nearest differences decides, where there is one; not if both are there, say the opposite,
- * and the lower one is struck first. What the medians say stands above both. */
+/* If the medians differ, they decide. Otherwise the upper of the two nearest differences decides, or the lower if there
+ * is no upper one. If there are both, and they point in opposite directions, the one that is struck first decides. */
 static struct order resolve(struct writer *w, struct order medians, struct order lower, struct order upper,
                             uint32_t lower_first) {
     uint32_t both_differ = emit(w, AND, lower.differ, upper.differ, 0);
@@ -283,7 +284,8 @@ static struct order resolve(struct writer *w, struct order medians, struct order
     return (struct order){differ, emit(w, XOR, first, by_lower, 0)};
 }
 
-/* Below equal medians the two nearest differences decide. Words that were chosen are compared in halves. */
+/* If the medians are equal, the two nearest differences decide. A chosen word is compared in halves, because all its
+ * digits are known at once. */
 static struct order tie_break(struct writer *w, const struct plan *p, struct words keys, struct order medians,
                             uint32_t high) {
     const uint32_t digits = p->digits, best = keys.x + digits, last = words_of(p, keys, p->d - 2).x + digits;
@@ -300,7 +302,7 @@ static struct order tie_break(struct writer *w, const struct plan *p, struct wor
     return resolve(w, medians, lower, upper, lower_first);
 }
 
-/* The last two wires are the answer, whichever way. */
+/* In every case the last two wires are the answer. */
 static struct order below_medians(struct writer *w, const struct plan *p, struct words keys, struct order medians,
                                   uint32_t high) {
     if (p->d > 2 && p->digits > 0)
@@ -324,7 +326,8 @@ static struct order contest(struct writer *w, const struct plan *p, struct words
     return below_medians(w, p, keys, medians, high);
 }
 
-/* Candidates side by side: the key of the best, and, for more than one, a wire each that says who is as good. */
+/* A group of candidates: the key of the best, and, if there are several, a wire for each that says whether it is as
+ * good. */
 struct group {
     uint32_t size, key, won;
 };
@@ -337,8 +340,8 @@ static void keep_winners(struct writer *w, struct group g, uint32_t stays) {
             emit(w, AND, g.won + i, stays, 0);
 }
 
-/* Words that were chosen before, so of more than two candidates, are compared in halves. The key is left out: the last
- * merge keeps none. */
+/* With more than two candidates a key was chosen by an earlier merge, and is compared in halves. The key of the result
+ * is not chosen here, because the last merge needs none. */
 static struct order merge(struct writer *w, const struct plan *p, struct group x, struct group y, struct group *both) {
     uint32_t high = x.size + y.size > 2 ? p->digits / 2 : 0;
     struct order keys = contest(w, p, (struct words){x.key, y.key}, high);
@@ -371,7 +374,7 @@ static void circuit(struct writer *w, const struct plan *p) {
     best_of(w, p, keys, p->k);
 }
 
-/* G alone, for the test of the table's length. */
+/* G only, for the test of the table's length: each function counts the gates of the part that it is named after. */
 static size_t levels_gates(uint32_t count, uint32_t extra, uint32_t levels) {
     size_t gates = 0;
     for (uint32_t i = 0; i < levels; i++, extra /= 2) {
@@ -485,7 +488,7 @@ static size_t first_above_one(const uint8_t *bytes, size_t length) {
     return length;
 }
 
-/* Reasons 4 to 6; reason 0 where there is none. */
+/* Reasons 4 to 6, or reason 0 if the ballots are accepted. */
 static struct outcome test_ballots(size_t k, size_t d, size_t n, const uint8_t *ballots, size_t length) {
     if (length != n * k * d)
         return refused(4, 0);
@@ -515,7 +518,7 @@ static uint8_t value(uint32_t kind, uint8_t a, uint8_t b, uint8_t c) {
     }
 }
 
-/* Reasons 7 to 10 of a run whose list has been tested; what was answered of the list where there is none. */
+/* Reasons 7 to 10 of a run whose list has been tested; if none applies, the outcome of that test. */
 static struct outcome test_buffers(struct outcome s, size_t k, size_t inputs, const uint8_t *tape, size_t tape_length,
                              size_t wires_length, size_t board_length) {
     if (tape_length != s.conditional)
@@ -528,9 +531,9 @@ static struct outcome test_buffers(struct outcome s, size_t k, size_t inputs, co
     return board_length == s.conditional + k ? s : refused(10, 0);
 }
 
-/* Evaluates the gates behind the ballots' wires, fills the board and empties the wires. */
-static void evaluate(struct outcome s, size_t k, size_t inputs, const uint32_t *table, const uint8_t *tape, uint8_t *wires,
-                     uint8_t *board) {
+/* Evaluates the gates on the ballots, which are the first wires; fills the board and empties the wires. */
+static void evaluate(struct outcome s, size_t k, size_t inputs, const uint32_t *table, const uint8_t *tape,
+                     uint8_t *wires, uint8_t *board) {
     size_t shown = 0;
     for (size_t g = 0; g < s.gates; g++) {
         const uint32_t *gate = table + 4 * g;
@@ -566,8 +569,8 @@ size_t core_run(size_t k, size_t d, size_t n, const uint32_t *table, size_t tabl
 
 /* ---- counting */
 
-/* Whether the first of two rows of running sums belongs to the sequence that comes first: of the differences nearest to
- * the middle, one below half of n and one from half on, the one that is struck first decides. */
+/* Whether a candidate with the counts a comes before one with the counts b. Of the two differences of running sums that
+ * are nearest to half of n, one below it and one from it on, the one that is struck first decides. */
 static int comes_before(const uint16_t *a, const uint16_t *b, size_t d, size_t n) {
     size_t x = 0, y = 0, lower_x = 0, lower_y = 0;
     for (size_t g = 0; g < d; g++) {

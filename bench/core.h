@@ -1,5 +1,5 @@
-/* The same work as the core's entry points, in C, with the same tests and the same answers: what the benchmark compares
- * with. The answer array is as c/jugyvaros.h says. */
+/* The same work as the core's entry points, in C, with the same tests and the same answers: the benchmark compares the
+ * core with it. The answer array is that of c/jugyvaros.h. */
 #ifndef CORE_H
 #define CORE_H
 

@@ -1,6 +1,6 @@
-/* Eight juries through the dispatcher against eight undivided runs, at 1, 64 and 4,096 gates a round.
- *     dispatch    GATES_PER_ROUND GATES DISPATCH_NS UNDIVIDED_NS RATIO a line, as timing.h says
- * The boards of both are compared first. */
+/* Compares eight juries in rounds of 1, 64 and 4,096 gates with eight undivided runs.
+ *     dispatch    prints GATES_PER_ROUND GATES DISPATCH_NS UNDIVIDED_NS RATIO, a line for each, timed as timing.h says
+ * First it compares the boards. */
 #include "jury.h"
 #include "timing.h"
 
@@ -44,7 +44,7 @@ static void set_up(void) {
     }
 }
 
-/* Every way's boards are those of the undivided runs. */
+/* The boards of every way must be those of the undivided runs. */
 static void compare(void) {
     for (int way = 0; way < WAYS; way++) {
         const uint8_t *board = boards;

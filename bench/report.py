@@ -23,7 +23,7 @@ BATCH_GOAL, BATCH_ASKED = 32, 8
 def read_times(folder, words):
     """By the first words of a line: gates, the least times, the median ratio, and the median of whatever follows.
 
-    Each line is there once for each place of the code.
+    The file has each line several times, once for each address of the library.
     """
     lines = {}
     for line in (folder / "times").read_text().splitlines():
@@ -39,7 +39,7 @@ def read_times(folder, words):
 
 
 def read_counts(folder):
-    """Instructions of one call, by callgrind's dumps: (operation, shape, who)."""
+    """The instructions of one call, from callgrind's dumps, by operation, shape and who did it."""
     counts = {}
     for path in folder.glob("callgrind.*"):
         text = path.read_text()
@@ -52,7 +52,7 @@ def read_counts(folder):
 
 
 def table_of(columns, rows, found=None, what="Time ratios above their goal"):
-    """A table whose first columns are words and the others numbers, and a sentence that names what misses its goal."""
+    """A table with columns of words, then of numbers, and a sentence that names the rows that miss their goal."""
     words, numbers = columns
     head, *body = ["| " + " | ".join(map(str, line)) + " |" for line in [[*words, *numbers], *rows]]
     text = "\n".join([head, "|" + "---|" * len(words) + "--:|" * len(numbers), *body])
@@ -83,7 +83,7 @@ def calls_table(times, counts):
 
 
 def urn_table(folder):
-    """The calls on an urn, by slots and ballots in it."""
+    """The calls on an urn compared with C, for several numbers of slots and ballots."""
     times, counts = read_times(folder, 4), read_counts(folder)
     rows, above = [], []
     for (op, *numbers), (ballots, core, c, ratio) in times.items():
@@ -109,7 +109,7 @@ def urn_run_table(folder):
 
 
 def text_table(folder):
-    """Lists as text: per line, and as a stream of characters."""
+    """Lists as text compared with C: the time for a line, and the characters a second."""
     rows, above = [], []
     times = sorted(read_times(folder, 4).items(), key=lambda row: row[0][0])
     for (op, *numbers), (gates, core, _, ratio, characters) in times:
@@ -158,7 +158,7 @@ def batch_table(folder):
 
 
 def plot(times, counts):
-    """Bars of the time ratios, with a mark for the ratio of instructions, by call and shape."""
+    """A bar for the time ratio, and a mark for the ratio of instructions, by call and shape."""
     times = {(op, tuple(shape)): row for (op, *shape), row in times.items()}
     shapes = sorted({shape for _, shape in times}, key=lambda s: s[0] * s[1] * s[2])
     left, top, height, bar, gap = 60, 40, 260, 22, 30
@@ -217,7 +217,7 @@ def machine():
 
 
 def commit():
-    """The commit that was measured, since lists may have changed after it."""
+    """The commit that was measured: later ones may write other lists."""
     described = subprocess.run(
         ["git", "describe", "--always", "--dirty"], cwd=HERE, capture_output=True, text=True, check=False
     )
@@ -231,13 +231,13 @@ Made by `bench/run` on {machine}, at commit {commit}. C is `bench/core.c`,
 compiled by `gcc -O2`; it makes the same tests.
 
 - A time is the processor time of one call, the least over 201 short rounds of many calls each.
-- The time ratio is the median of the rounds' ratios. Core and C take turns round by round, so that a slow stretch of
-  the machine slows both. The ratio may differ a little from the quotient of the two least times.
+- The time ratio is the median over the rounds. Core and C take turns in each round, so that a slow phase of the machine
+  slows both. The ratio may differ a little from the quotient of the two least times.
 - A loop's time depends on its address. So each program is linked with the library at four addresses, 16 bytes apart:
   times are the least of the four, ratios the median. This holds for all tables below.
-- The goal is the largest time ratio that we accept. Writing may take twice the time of C, because the core first works
-  out how long the list will be, so that a refusal changes nothing: for a graded list it adds up the sizes of its
-  parts; a ranked one it writes into an empty table.
+- The goal is the largest time ratio that we accept. Writing may take twice as long as in C, because a refusal must
+  change nothing: the core first works out how long the list will be. For a graded list it adds up the sizes of the
+  parts; for a ranked list it makes a dry run with an empty table.
 - Instructions are those of one call, counted by callgrind. They are the same in every run.
 """
 
@@ -245,22 +245,23 @@ compiled by `gcc -O2`; it makes the same tests.
 SECTIONS = [
     (
         "The urn",
-        "C is `tests/library_c/urn_reference.c`. Half of the slots hold ballots; the juror withdrawn is the last of "
+        "C is `tests/library_c/urn_reference.c`. Half of the slots hold ballots; the withdrawn juror is the last in "
         "the chain.",
         "urn",
     ),
     (
         "The run on an urn",
-        "C is `bench/urn_run.c`. The urn has one free slot. The last column is the ratio of `run` on the same ballots "
-        "to the same C.",
+        "C is `bench/urn_run.c`. The urn has one free slot. The last column compares `run` on the same ballots with "
+        "the same C.",
         "urn_run",
     ),
     ("Lists as text", "C is `bench/text.c`. Shapes with 0 grades are rankings.", "text"),
-    ("Trustees", "C is `bench/trustees.c`. The dealing is made beforehand, and tested in every call.", "trustees"),
+    ("Trustees", "C is `bench/trustees.c`. The dealing is made beforehand; every call tests it.", "trustees"),
     (
         "A trustee on its own machine",
-        "All rounds of one of three trustees, compared with the single call for all three. A round goes through the "
-        "whole list, so this takes longer to compute; what it saves is a message for each gate.",
+        "All rounds of one of three trustees, compared with the single call for all three. Each round goes through the "
+        "whole list, so a trustee computes longer; in return it sends one message a round, not one a gate. These times "
+        "are the least over 21 rounds, at one address.",
         "apart",
     ),
     (
@@ -278,7 +279,7 @@ SECTIONS = [
 
 
 def wrapped(text, width=118):
-    """A paragraph in lines."""
+    """A paragraph, broken into lines."""
     return textwrap.fill(text, width, break_long_words=False, break_on_hyphens=False)
 
 

@@ -1,6 +1,6 @@
-/* Lists as text: the library against the same passes in C, in one run, as timing.h says.
- *     text    write or read K D N GATES CORE_NS C_NS RATIO CHARACTERS a line
- * Texts and lists of both are compared first. */
+/* Lists as text: the library compared with the same passes in C.
+ *     text    prints OP K D N GATES CORE_NS C_NS RATIO CHARACTERS, a line for each, timed as timing.h says
+ * First it compares the texts and lists of both. */
 #include "../tests/library_c/kinds.h"
 #include "jury.h"
 #include "timing.h"

@@ -1,6 +1,6 @@
-/* Times and instruction counts for the benchmark's programs. There are several ways to do one piece of work; the
- * others are compared with way 0. A time is processor time, the least of many short rounds. The ways take turns round
- * by round, and a ratio is the median of the rounds' ratios, so that a slow stretch of the machine slows all. */
+/* Times and instruction counts for the benchmark's programs. Several ways do the same work, and each is compared with
+ * way 0. A time is processor time, the least over many short rounds. In each round every way takes its turn, and a
+ * ratio is the median over the rounds, so that a slow phase of the machine slows all ways alike. */
 #ifndef TIMING_H
 #define TIMING_H
 
@@ -11,7 +11,7 @@
 
 enum { MOST_WAYS = 4, MOST_ROUNDS = 201 };
 
-/* Does the work once, one way; what it returns is 0, or the call was refused. */
+/* Does the work once, in one of the ways; returns 0, or another number if the call is refused. */
 typedef size_t work(int way);
 
 /* One way's least time of a call, in seconds, and its ratio to way 0. */
@@ -40,7 +40,7 @@ static inline int by_size(const void *a, const void *b) {
     return (x > y) - (x < y);
 }
 
-/* Each round has as many calls of each way as way 0 makes in this many seconds, and at least one. */
+/* In each round, every way makes as many calls as way 0 makes in `length` seconds, and at least one. */
 static inline void take_turns(work *call, int ways, int rounds, double length, struct timing *timings) {
     double took[MOST_WAYS][MOST_ROUNDS], ratios[MOST_WAYS][MOST_ROUNDS];
     size_t calls = (size_t)(length / (timed(call, 0, 3) + 1e-8)) + 1;
@@ -56,12 +56,12 @@ static inline void take_turns(work *call, int ways, int rounds, double length, s
     }
 }
 
-/* Prints, after the words that say what was done, the gates, the least times in nanoseconds, and the ratio. */
+/* Prints the rest of a line, after what was timed: the gates, the least times in nanoseconds, and the ratio. */
 static inline void print_times(size_t gates, double time, double other, double ratio) {
     printf(" %zu %.1f %.1f %.4f", gates, 1e9 * time, 1e9 * other, ratio);
 }
 
-/* One call between callgrind's dumps. */
+/* One call, whose instructions go into a callgrind dump with this label. */
 static inline void counted(work *call, int way, const char *label) {
     CALLGRIND_ZERO_STATS;
     CALLGRIND_TOGGLE_COLLECT;

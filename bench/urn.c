@@ -1,8 +1,8 @@
-/* Times the calls on an urn against the tests' reference in C, in one run.
- *   urn times    OP K D SLOTS BALLOTS CORE_NS C_NS RATIO a line, as timing.h says
- *   urn counts   one call each between callgrind's dumps, labelled OP-K-D-SLOTS-WHO
- * Answers and urns of both are compared first. Half of the slots hold ballots; the juror withdrawn is the last of the
- * chain. After each call the three slots that it may have changed are restored, for both alike. */
+/* Compares the calls on an urn with the tests' reference in C.
+ *   urn times    prints OP K D SLOTS BALLOTS CORE_NS C_NS RATIO, a line for each, timed as timing.h says
+ *   urn counts   makes one call of each, with a callgrind dump labelled OP-K-D-SLOTS-WHO
+ * First it compares the answers and urns of both. Half of the slots hold ballots; the withdrawn juror is the last in
+ * the chain. After each timed call, the slots that it may have changed are restored, for both alike. */
 #include "../c/jugyvaros.h"
 #include "../tests/library_c/urn_reference.h"
 #include "timing.h"
@@ -26,15 +26,20 @@ static size_t call(int way) {
     int in_c = way == IN_C;
     switch (op) {
     case EMPTY: return (in_c ? urn_empty : jugy_empty_urn)(K, D, urn, length, answer, JUGY_URN_ANSWER);
-    case ADMIT: return (in_c ? urn_admit : jugy_admit)(K, D, urn, length, NEW_JUROR, ballot, K * D, answer, JUGY_URN_ANSWER);
+    case ADMIT:
+        return (in_c ? urn_admit : jugy_admit)(K, D, urn, length, NEW_JUROR, ballot, K * D, answer, JUGY_URN_ANSWER);
     case WITHDRAW: return (in_c ? urn_withdraw : jugy_withdraw)(K, D, urn, length, LAST_JUROR, answer, JUGY_URN_ANSWER);
     case PREVIEW_ADMIT:
-        return (in_c ? urn_preview_admit : jugy_preview_admit)(K, D, urn, length, NEW_JUROR, ballot, K * D, answer, JUGY_URN_ANSWER);
-    default: return (in_c ? urn_preview_withdraw : jugy_preview_withdraw)(K, D, urn, length, LAST_JUROR, answer, JUGY_URN_ANSWER);
+        return (in_c ? urn_preview_admit : jugy_preview_admit)(K, D, urn, length, NEW_JUROR, ballot, K * D, answer,
+                                                               JUGY_URN_ANSWER);
+    default:
+        return (in_c ? urn_preview_withdraw : jugy_preview_withdraw)(K, D, urn, length, LAST_JUROR, answer,
+                                                                     JUGY_URN_ANSWER);
     }
 }
 
-/* Slot 0, the one that the next admission takes, and the last juror's with the one before it in the chain. */
+/* Restores slot 0 and, after an admission, the slot that it took; after a withdrawal, slot 1, which held the last
+ * juror's ballot, and slot 2, which is before it in the chain. */
 static void put_back(void) {
     size_t touched[3] = {0, op == ADMIT ? before[1] : 1, 2};
     if (op == ADMIT || op == WITHDRAW)
@@ -97,7 +102,9 @@ static void counts(size_t count) {
 }
 
 int main(int argc, char **argv) {
-    void (*each)(size_t) = argc == 2 && !strcmp(argv[1], "times") ? times : argc == 2 && !strcmp(argv[1], "counts") ? counts : NULL;
+    void (*each)(size_t) = argc == 2 && !strcmp(argv[1], "times")    ? times
+                           : argc == 2 && !strcmp(argv[1], "counts") ? counts
+                                                                     : NULL;
     if (!each)
         return 2;
     for (op = 0; op < OPS; op++)

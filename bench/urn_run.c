@@ -1,8 +1,8 @@
-/* Times a run on an urn against the same work in C, in one run.
- *     urn_run    K D N GATES CORE_NS C_NS RATIO RUN_RATIO a line, as timing.h says; the last is the ratio of jugy_run
- *                on the same ballots to the same C
- * Wire tables and boards of all are compared first. The urn has one free slot, and its chain goes through the slots
- * backwards. The file core.c is included whole, for its tests and its gates. */
+/* Compares a run on an urn with the same work in C.
+ *     urn_run    prints K D N GATES CORE_NS C_NS RATIO RUN_RATIO, a line for each, timed as timing.h says; RUN_RATIO
+ *                compares jugy_run on the same ballots with the same C
+ * First it compares the wire tables and boards of all. The urn has one free slot, and its chain goes through the slots
+ * backwards. It includes all of core.c, for the tests and the gates. */
 #include "core.c"
 #include "jury.h"
 #include "timing.h"

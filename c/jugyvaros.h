@@ -18,17 +18,17 @@
  *
  * Gates: four numbers each, kind, a, b, c; gate g is table[4 g] to table[4 g + 3]. The ballot bytes are wires 0 to
  * I - 1, and gate g makes wire I + g. Operands that a kind uses name earlier wires; the others are 0. G is the number
- * of gates of a list, C how many of them are conditional: such a gate costs the sealing layer one opening.
+ * of gates in a list, and C is the number of conditional (non-linear) ones: each of these costs one opening.
  *
- *   kind  operands  value                     conditional
- *   0     none      0                         no
- *   1     none      1                         no
- *   2     a         a                         no
- *   3     a         the other bit             no
- *   4     a b       1 if both are             yes
- *   5     a b       1 if any is               yes
- *   6     a b       1 if they differ          no
- *   7     a b c     b if a is 1, c if a is 0  yes
+ *   kind  operands  value                conditional
+ *   0     none      0                    no
+ *   1     none      1                    no
+ *   2     a         a                    no
+ *   3     a         NOT a                no
+ *   4     a b       a AND b              yes
+ *   5     a b       a OR b               yes
+ *   6     a b       a XOR b              no
+ *   7     a b c     b if a is 1, else c  yes
  *
  * Answer: each function writes its answer into the array `answer` and also returns answer[0].
  *   answer[0]  the reason: JUGY_ACCEPTED, or the first reason that applies, in checking order
@@ -54,15 +54,15 @@
 extern "C" {
 #endif
 
-/* The reasons, and what their place counts. A call makes the tests that concern it, in the order 19, 20, 1, 13, 14, 2,
+/* The reasons, and what their place counts. A call makes the tests that apply to it, in the order 19, 20, 1, 13, 14, 2,
  * 23, 3, 24, 4, 5, 6 for grades or 11 and 12 for rankings, 15, 16 to 18, 7 to 10. */
 #define JUGY_ACCEPTED 0
 #define JUGY_SHAPE 1            /* k, d or n is outside its limits */
-#define JUGY_TABLE 2            /* writing: no room in the gate table; otherwise: not k to 1,048,576 whole gates */
+#define JUGY_TABLE 2            /* writing: the table is too short; otherwise: not k to 1,048,576 whole gates */
 #define JUGY_GATE 3             /* a bad kind or operand; place: the gate */
-#define JUGY_BALLOTS_LENGTH 4   /* there are not I ballot bytes */
+#define JUGY_BALLOTS_LENGTH 4   /* the number of ballot bytes is not I */
 #define JUGY_BALLOT_BYTE 5      /* a byte of a ballot is neither 0 nor 1; place: the byte */
-#define JUGY_BALLOT_ROW 6       /* graded: a row with no 1 or several; place: the row, b k + c */
+#define JUGY_BALLOT_ROW 6       /* graded: a row has no 1, or more than one; place: the row, b k + c */
 #define JUGY_TAPE_LENGTH 7      /* the tape's length is not C */
 #define JUGY_TAPE_BYTE 8        /* a byte of the tape is neither 0 nor 1; place: the byte */
 #define JUGY_WIRES_LENGTH 9     /* the wire table's length is not I + G */
@@ -70,11 +70,11 @@ extern "C" {
 #define JUGY_NOT_ASYMMETRIC 11  /* ranked: two before each other, or one before itself; place: the first such byte */
 #define JUGY_NOT_WEAK_ORDER 12  /* ranked: i is before j, a third is not after i and not before j; place: the ballot */
 #define JUGY_URN 13             /* the urn is not sound */
-#define JUGY_JUROR 14           /* the juror is not 1 to 255, or is in already (admission), or not in (withdrawal) */
+#define JUGY_JUROR 14           /* the juror is not 1 to 255, or is already in (admission), or not in (withdrawal) */
 #define JUGY_FULL_URN 15        /* the urn has no free slot */
 #define JUGY_TRUSTEES 16        /* there are fewer than 2 or more than 5 trustees */
 #define JUGY_PART_TABLES 17     /* one of the trustees' four tables has the wrong length */
-#define JUGY_DEALING 18         /* a part is neither 0 nor 1, or parts do not add up to their ballot byte or product */
+#define JUGY_DEALING 18         /* a share is neither 0 nor 1, or shares do not add up to a ballot byte or product */
 #define JUGY_JURIES 19          /* there are no juries, or more than 8 */
 #define JUGY_GATES_PER_ROUND 20 /* gates_per_round is 0 or above 65,536 */
 #define JUGY_LINE 23            /* a malformed line, an unknown kind, or a number of 2^32 or more; place: the line */
@@ -107,21 +107,21 @@ size_t jugy_measure(size_t candidates, size_t grades, size_t ballot_count, size_
 size_t jugy_write(size_t candidates, size_t grades, size_t ballot_count, uint32_t *table, size_t table_length,
                   size_t *answer, size_t answer_length);
 
-/* Tests a list for a shape, whoever wrote it: answer[2] is G, answer[3] is C. table_length is the list's own, 4 G:
- * in a longer table whatever follows the list is tested as gates too. Reasons 1 to 3. */
+/* Tests a list for a shape, whoever wrote it: answer[2] is G, answer[3] is C. table_length is exactly 4 G; if the table
+ * is longer, the numbers after the list are tested as gates too. Reasons 1 to 3. */
 size_t jugy_test(size_t candidates, size_t grades, size_t ballot_count, const uint32_t *table, size_t table_length,
                  size_t *answer, size_t answer_length);
 
 /* Runs a list on the ballots: answer[2] is G, answer[3] is C. Reasons 1 to 10, with 11 and 12 in place of 6 for
  * rankings.
- *   table    4 G numbers, the list's own length. A longer table padded with zeros is a different list: it ends in
- *            constants 0, so its closing bytes do not say who wins.
+ *   table    exactly 4 G numbers. A longer table padded with zeros is a different list: its last gates are constants
+ *            0, so its closing bytes do not say who wins.
  *   ballots  I bytes
  *   tape     C bytes of 0 or 1, one for each conditional gate in order: random, secret, and never used again. If a
  *            tape is used twice, or is known, the board reveals what the wires hold.
  *   wires    I + G bytes, with any contents. While the function runs they hold the ballots and every wire in clear;
- *            afterwards they are all zero. Wipe ballots and tape yourself: whoever has tape and board can work out
- *            the shown wires.
+ *            afterwards they are all zero. Wipe ballots and tape yourself: whoever has the tape and the board can
+ *            work out the opened wires.
  *   board    C + k bytes, with any contents. Afterwards board[i], for i below C, is wire a of conditional gate i,
  *            masked by tape[i]; board[C + i], for i below k, is candidate i's closing byte. With the shape's own list
  *            it is 1 if the candidate wins, by full majority judgment or, for rankings, by Schulze's rule, else 0;
@@ -131,9 +131,9 @@ size_t jugy_run(size_t candidates, size_t grades, size_t ballot_count, const uin
                 size_t wires_length, uint8_t *board, size_t board_length, size_t *answer, size_t answer_length);
 
 /* Runs a list for 64 juries of one shape at once (bit-slicing). Bit j of each 64-bit number, where bit 0 is the
- * lowest, belongs to jury j, and jury j gets what jugy_run would give it alone: answer[2] is G, answer[3] is C.
+ * lowest, belongs to jury j, and each jury gets what its own jugy_run would give: answer[2] is G, answer[3] is C.
  * Lengths count numbers, not bytes.
- *   table    4 G numbers, the list's own length, as for jugy_run
+ *   table    exactly 4 G numbers, as for jugy_run
  *   ballots  I numbers: bit j of ballots[i] is ballot byte i of jury j
  *   tape     C numbers: bit j of tape[i] masks conditional gate i of jury j. Each bit is random, secret, and never
  *            used again
@@ -148,9 +148,9 @@ size_t jugy_run_batch(size_t candidates, size_t grades, size_t ballot_count, con
                       uint64_t *wires, size_t wires_length, uint64_t *board, size_t board_length, size_t *answer,
                       size_t answer_length);
 
-/* Counts the ballots plainly, without a list: answer[2 + i], for i below 8, is 1 if candidate i wins, by full majority
- * judgment or, for rankings, by Schulze's rule, else 0, and 0 from place k on; several may win. Reasons 1, 4, 5, then
- * 6 or 11 and 12. */
+/* Counts the ballots plainly, without a list, by full majority judgment or, for rankings, by Schulze's rule:
+ * answer[2 + i], for i below 8, is 1 if candidate i wins, else 0, also if there is no candidate i. Several may win.
+ * Reasons 1, 4, 5, then 6 or 11 and 12. */
 size_t jugy_count(size_t candidates, size_t grades, size_t ballot_count, const uint8_t *ballots, size_t ballots_length,
                   size_t *answer, size_t answer_length);
 
@@ -158,8 +158,8 @@ size_t jugy_count(size_t candidates, size_t grades, size_t ballot_count, const u
  * zeros, with single spaces between them and a line feed at the end. When a text is read, each line counts as a gate
  * for reasons 2 and 3; characters after the last line feed are a line too, and it is malformed. */
 
-/* Writes the text of a list, whoever wrote it; table_length is the list's own, 4 G: answer[2] is the number of
- * characters written, at most 44 G. The rest of the output is not touched. Reasons 1, 2, 3, 24. */
+/* Writes the text of a list, whoever wrote it; table_length is exactly 4 G. answer[2] is the number of characters
+ * written, at most 44 G. The rest of the output is not touched. Reasons 1, 2, 3, 24. */
 size_t jugy_write_text(size_t candidates, size_t grades, size_t ballot_count, const uint32_t *table,
                        size_t table_length, uint8_t *output, size_t output_length, size_t *answer,
                        size_t answer_length);
@@ -214,7 +214,7 @@ size_t jugy_preview_withdraw(size_t candidates, size_t grades, const uint8_t *ur
  * and leaves what jugy_run does on these ballots. Reasons 1 (also for a ranking), 13 (unsound), 2, 3, 4 (ballot_count
  * is not the number of ballots in the urn), 7, 8, 9, 10, in this order. 5 and 6 never apply, because the ballots of a
  * sound urn are good.
- *   table  4 G numbers, the list's own length
+ *   table  exactly 4 G numbers
  *   urn    s (2 + k d) bytes for s slots; not changed
  *   tape   C bytes of 0 or 1, as for jugy_run
  *   wires  I + G bytes, where I = n k d, with any contents; all zero afterwards
@@ -225,7 +225,7 @@ size_t jugy_run_urn(size_t candidates, size_t grades, size_t ballot_count, const
 
 /* Trustees (secret sharing). Each of t trustees holds one bit of every wire, its share; the sum of all shares modulo 2
  * is the wire. For each conditional gate a dealer shares a Beaver triple: random secret bits u and v, and their
- * product. The four tables go trustee after trustee, in t pieces of one size:
+ * product. Each of the four tables has t pieces of one size, one for each trustee in order:
  *   ballot_shares  t I bytes: a trustee's share of each ballot byte
  *   triples        t 3 C bytes: for each conditional gate in order, its shares of u, of v and of u v
  *   wires          t (I + G) bytes, with any contents: while the function runs, each trustee's shares of all wires,
@@ -238,22 +238,22 @@ size_t jugy_run_urn(size_t candidates, size_t grades, size_t ballot_count, const
  * call only.
  *
  * This function takes the plain ballots and the pieces of all trustees, and does every trustee's work in one place.
- * So its caller knows the ballots, and so does the dealer: run it where the jurors trust the unit, and hand it to no
- * single trustee. For trustees who keep their shares to themselves, see jugy_trustee_start below. */
+ * So its caller knows the ballots, and so does the dealer: run it only where the jurors trust the unit, and let no
+ * trustee call it. For trustees who keep their shares to themselves, see jugy_trustee_start below. */
 
 /* Runs a list on ballots that trustees hold in shares: answer[2] is G, answer[3] is C, answer[4 + i], for i below 8, is
- * the sum modulo 2 of candidate i's closing bits, which is the closing byte of a plain run, and 0 from place k on.
- * Reasons 1 to 5, then 6 for grades or 11 and 12 for rankings, 16, 17, 18. */
+ * the sum modulo 2 of candidate i's closing bits, which is its closing byte in a plain run, or 0 if there is no
+ * candidate i. Reasons 1 to 5, then 6 for grades or 11 and 12 for rankings, 16, 17, 18. */
 size_t jugy_trustees(size_t candidates, size_t grades, size_t ballot_count, const uint32_t *table, size_t table_length,
                      const uint8_t *ballots, size_t ballots_length, size_t trustees, const uint8_t *ballot_shares,
                      size_t ballot_shares_length, const uint8_t *triples, size_t triples_length, uint8_t *wires,
                      size_t wires_length, uint8_t *published, size_t published_length, size_t *answer,
                      size_t answer_length);
 
-/* Runs up to eight juries in rounds, so that a long one does not hold up the others: in each round every unfinished
+/* Runs up to eight juries in rounds, so that a long one does not delay the others: in each round every unfinished
  * jury, in order, does up to gates_per_round of its gates.
- *   headers  4 numbers for each jury: candidates k, grades d (0 for a ranking), ballots n and gates G. Numbers that
- *            the array lacks count as 0; those after the headers of `juries` juries are not read
+ *   headers  4 numbers for each jury: candidates k, grades d (0 for a ranking), ballots n and gates G. If the array is
+ *            too short, missing numbers count as 0; if it is longer, the rest is not read
  * In each of the five tables the juries' pieces follow each other, in jury order and without gaps. I is n k d, or n k k
  * for a ranking, and C is the number of conditional gates in the jury's list. For m juries, 0 to m - 1:
  *
@@ -268,10 +268,10 @@ size_t jugy_trustees(size_t candidates, size_t grades, size_t ballot_count, cons
  * piece begins where the one before it ends, as the headers say: a tape that is not C bytes long shifts the next
  * jury's tape, and no test can tell. Whatever follows the last pieces is not touched.
  *
- * answer[2 + j], for j below 8, is jury j's number of rounds, G_j / gates_per_round rounded up, 0 past the last jury.
- * Each jury's board is that of jugy_run on its pieces, and its wires are all zero. Reasons 19 and 20, then those of a
- * run: all of one jury before the next, and the place is the jury. A piece that its table is too short for counts as
- * empty, which gives 2, 4, 7, 9 or 10. */
+ * answer[2 + j], for j below 8, is jury j's number of rounds, G_j / gates_per_round rounded up, or 0 if there is no
+ * jury j. Each jury's board is that of jugy_run on its pieces, and its wires are all zero. Reasons 19 and 20, then
+ * those of a run, one jury after another; the place is the jury. If a table is too short for a piece, the piece counts
+ * as empty, which gives 2, 4, 7, 9 or 10. */
 size_t jugy_dispatch(size_t juries, size_t gates_per_round, const size_t *headers, size_t headers_length,
                      const uint32_t *lists, size_t lists_length, const uint8_t *ballots, size_t ballots_length,
                      const uint8_t *tapes, size_t tapes_length, uint8_t *wires, size_t wires_length, uint8_t *boards,
@@ -280,30 +280,31 @@ size_t jugy_dispatch(size_t juries, size_t gates_per_round, const size_t *header
 /* Levels (beyond the customers' requests, as are reasons from 200 on). A wire's level is its multiplicative depth: 0
  * for a ballot byte; for a gate the largest level of its operands, plus one if it is conditional. R, the rounds of a
  * list, is its largest level: all conditional gates of one level can be opened together, so R rounds are enough. */
-#define JUGY_LEVELS 200       /* the level table is not G numbers long, or holds other levels than the list's */
+#define JUGY_LEVELS 200       /* the level table is not G numbers long, or its levels are not the list's */
 
 /* How long an answer array has to be for reason, place, G, C and R. */
 #define JUGY_LEVELS_ANSWER 5
 
 /* Writes the level of each gate of a list, whoever wrote it: answer[2] is G, answer[3] is C, answer[4] is R, at most C.
  * Reasons 1, 2, 3, 200.
- *   table   4 G numbers, the list's own length
+ *   table   exactly 4 G numbers
  *   levels  G numbers, with any contents; afterwards levels[g] is the level of gate g */
 size_t jugy_levels(size_t candidates, size_t grades, size_t ballot_count, const uint32_t *table, size_t table_length,
                    uint32_t *levels, size_t levels_length, size_t *answer, size_t answer_length);
 
-/* A trustee on its own machine (beyond the customers' requests). jugy_trustees holds the tables of all trustees; these
- * three calls hold those of one, who hears nothing of the others but opened sums. The t trustees, 2 to 5, are numbered
- * from 0. Each starts; then all do the rounds 0, 1, .. R together. Before each round they are told the sums, modulo 2,
- * of what all have published so far. After round R the sums of the k closing bits are the closing bytes. All of them
- * together publish what jugy_trustees does, in R + 1 exchanges. The caller keeps one trustee's tables between calls:
+/* A trustee on its own machine (beyond the customers' requests). jugy_trustees takes the tables of all trustees; these
+ * three calls take those of one, who learns nothing from the others but opened sums. The t trustees, 2 to 5, are
+ * numbered from 0. Each starts; then all do the rounds 0, 1, .. R together. Before each round they are told the sums,
+ * modulo 2, of what all have published so far. After round R the sums of the k closing bits are the closing bytes.
+ * Together they publish what jugy_trustees does, in R + 1 exchanges. The caller keeps one trustee's tables between
+ * calls:
  *   ballot_shares  I bytes, its share of each ballot byte
  *   triples        3 C bytes, its shares of u, v and u v for each conditional gate in order
- *   levels         G numbers, the list's own levels, which jugy_levels writes
+ *   levels         G numbers, the list's levels, which jugy_levels writes
  *   heard          2 C bytes, the two opened sums of each conditional gate in order, 0 if not known yet
  *   wires          I + G bytes, its shares of all wires. They are secret; jugy_trustee_finish empties them
- *   published      2 C + k bytes: both masked factors of each conditional gate in order, 0 until its level comes; then
- *                  the k closing bits, 0 until round R. This is what a trustee may send
+ *   published      2 C + k bytes: both masked factors of each conditional gate in order, 0 until the round before its
+ *                  level; then the k closing bits, 0 until round R. This is what a trustee may send
  * Each byte of ballot_shares, triples and heard is 0 or 1. No single trustee can tell whether shares add up. Use a
  * dealing for one tally only. */
 #define JUGY_ROUND 201        /* the round is above R */
@@ -320,7 +321,7 @@ size_t jugy_trustee_start(size_t candidates, size_t grades, size_t ballot_count,
 
 /* Does round `round`: each gate of this level gets the trustee's share of its wire, each conditional gate of the next
  * level publishes, and round R publishes the closing bits. answer[2] is G, answer[3] is C, answer[4] is R;
- * JUGY_LEVELS_ANSWER numbers. Reasons 1, 2, 3, 16, 17, 18 (of triples), 200 (not the list's own levels), 201, 202. */
+ * JUGY_LEVELS_ANSWER numbers. Reasons 1, 2, 3, 16, 17, 18 (of triples), 200 (not the list's levels), 201, 202. */
 size_t jugy_trustee_round(size_t candidates, size_t grades, size_t ballot_count, const uint32_t *table,
                           size_t table_length, size_t trustees, size_t trustee, size_t round, const uint32_t *levels,
                           size_t levels_length, const uint8_t *triples, size_t triples_length, const uint8_t *heard,

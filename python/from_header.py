@@ -76,7 +76,7 @@ def main():
     if sys.argv[1:] == ["--check"]:
         if MADE.read_text() != text:
             sys.exit("python/jugyvaros/_header.py is not what c/jugyvaros.h says; "
-                     "make it anew: python3 python/from_header.py")
+                     "make it again: python3 python/from_header.py")
     else:
         MADE.write_text(text)
 

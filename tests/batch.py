@@ -20,7 +20,7 @@ OLD = 0x0123_4567_89AB_CDEF                                  # what wire table a
 
 
 def words_of(lists):
-    """Words whose bit j is list j's byte at that place."""
+    """Words of which bit j of word i is byte i of list j."""
     return [sum(bit << j for j, bit in enumerate(bits)) for bits in zip(*lists)]
 
 
@@ -94,14 +94,14 @@ class Tester:
             self.check((1, 2, 1), flat(gates), words_of(self.juries((1, 2, 1))), [])
 
     def all_ones(self):
-        """All juries have one ballot, and the tape is all ones: full words, which reasons 5 and 8 do not refuse."""
+        """All juries have the same ballot and the same tape: words of all ones, which reasons 5 and 8 do not refuse."""
         shape, table = (1, 2, 1), flat([(1, 0, 0, 0), (4, 0, 2, 0), (5, 1, 3, 0), (7, 0, 3, 4)])
         for ballot in ([ALL, 0], [0, ALL]):
             self.check(shape, table, ballot, [ALL] * 3)
             self.check(shape, table, ballot, [0] * 3)
 
     def bad_rows(self):
-        """An empty row, and rows with two and three ones, in each single jury, first row and last; then in two."""
+        """A row without a 1, with two or with three, first or last, in each jury; then bad rows in two juries."""
         shape, table = (2, 3, 2), flat([(4, 0, 1, 0)] * 2)
         good, tape = self.juries(shape), self.tape(table)
         for j in range(JURIES):
@@ -117,7 +117,7 @@ class Tester:
         self.check(shape, table, [ALL] * 12, tape, single=False)
 
     def bad_rankings(self):
-        """Faults 11 (on the diagonal and off it) and 12, in each single jury, first ballot and last; then in two."""
+        """Faults 11 (on the diagonal and off it) and 12, first ballot or last, in each jury; then in two juries."""
         shape, table = (3, 0, 2), flat([(4, 0, 1, 0)] * 3)
         good, tape = self.juries(shape), self.tape(table)
         clashes, gap = ([1] + [0] * 8, [0, 1, 0, 1, 0, 0, 0, 0, 0]), [0, 1, 0] + [0] * 6

@@ -1,7 +1,7 @@
-"""The exported functions, for tests in Python, through the package that everybody else uses (python/jugyvaros).
+"""The exported functions, for tests in Python.
 
-The package finds, builds and declares them. Here its buffers are replaced by ones with guards on both sides, and every
-call is tested to leave the guards, and what is lent for reading, as they were.
+The package python/jugyvaros finds, builds and declares them. Here they get buffers with guards on both sides, and after
+every call the guards, and whatever was lent for reading, must be unchanged.
 """
 
 import array
@@ -20,7 +20,7 @@ OLD = 9                                                      # what an answer ar
 
 
 class Lent:
-    """Numbers or bytes lent to a call, for reading or to be written."""
+    """Numbers or bytes lent to a call, for reading or for writing."""
 
     GUARD = b"\xa5" * 16
 
@@ -40,7 +40,7 @@ class Lent:
         return self.data.tobytes() == self.before
 
     def is_kept(self):
-        """Tests that the guards are unchanged, and the items too if they are lent for reading."""
+        """Whether the guards are unchanged, and the items too if they are lent for reading."""
         if not self.written:
             return self.is_as_before()
         ends = self.data[:len(self.GUARD)].tobytes(), self.data[-len(self.GUARD):].tobytes()
@@ -73,7 +73,7 @@ class Core:
         self.answers = collections.defaultdict(collections.Counter)
 
     def raw(self, name, *arguments, answers):
-        """The status with the whole answer array, of any length. Guards and what is only read must not change."""
+        """The status and the answer array, which may have any length. Guards and what is only read must not change."""
         self.calls += 1
         answer = output([OLD] * answers, "L")
         prepared = []
@@ -95,7 +95,7 @@ class Core:
         return ["accepted", *values]
 
     def saw(self, **reasons):
-        """How often each function gave each answer, in words. It must have given just these reasons, and accepted."""
+        """How often each function gave each answer, as text. It must have accepted and given exactly these reasons."""
         for name, wanted in reasons.items():
             found = set(self.answers[f"jugy_{name}"])
             assert found == {0, *wanted}, (name, sorted(found), sorted(wanted))

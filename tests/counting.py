@@ -62,7 +62,7 @@ def set_row(case, place, bad):
 
 
 def shapes():
-    """Limits from both sides. Shapes outside them have ballots that would fit, so that no other reason applies."""
+    """Shapes on both sides of each limit. Those outside have ballots that would fit, so no other reason applies."""
     for k, d, n in itertools.product((1, 8), (2, 7), (1, 255)):
         yield with_any_grades(k, d, n)
     for k, d, n in [(9, 2, 1), (9, 7, 3), (1, 1, 1), (8, 1, 2), (1, 8, 1), (3, 8, 2), (1, 2, 256), (2, 3, 256),
@@ -72,7 +72,7 @@ def shapes():
         yield Case(k, d, n, ballots=[])
     for k, d, n in itertools.product((2, HUGE), (3, HUGE), (1, HUGE)):
         yield Case(k, d, n, ballots=[0, 1, 0, 1, 0, 0])
-    # Shapes that are within limits modulo 2 ^ 8, 2 ^ 16 or 2 ^ 32, with the ballots of those.
+    # Shapes that would be within limits modulo 2 ^ 8, 2 ^ 16 or 2 ^ 32, with ballots that would then fit.
     for k, d, n in [(257, 2, 1), (1, 258, 1), (1, 2, 257), (65_537, 3, 1), (2, 65_539, 1), (2, 3, 65_537),
                     (2 ** 32 + 1, 2, 1), (1, 2 ** 32 + 2, 1), (1, 2, 2 ** 32 + 1)]:
         yield Case(k, d, n, ballots=with_any_grades(k % 256, d % 256, n % 256).ballots)
@@ -138,13 +138,13 @@ def pairs_of_faults():
     for first, second in itertools.combinations_with_replacement(FAULTS, 2):
         case = with_any_grades(2, 3, 2)
         first(case)
-        if second is not first:                              # else that fault alone
+        if second is not first:                              # else only that fault
             second(case)
         yield case
 
 
 def random_juries(rng):
-    # 21 sizes a shape and four styles, so each size comes with every style.
+    # Each shape has 21 sizes, and there are four styles: over all shapes, each size occurs with every style.
     styles = itertools.cycle([uniform, tied, peaked, level])
     for k, d in itertools.product(range(1, 9), range(2, 8)):
         for n in EDGE_SIZES:
@@ -152,7 +152,7 @@ def random_juries(rng):
         for width in (2, 3, 4, 5, 6):
             n = rng.randrange(1 << (width - 1), 1 << width)
             yield jury(d, next(styles)(rng, k, d, n))
-    for style in [tied, level, level] * 100:                 # small juries, where wins are shared most often
+    for style in [tied, level, level] * 100:                 # in small juries wins are shared most often
         yield jury(3, style(rng, rng.choice([2, 2, 3, 4]), 3, rng.randrange(3, 12)))
 
 

@@ -5,8 +5,8 @@
 
 Rounds of 1 gate, of a divisor of G, of G and of more; one long jury with seven short ones; tables longer by 0, 1 and
 many; pieces that are one too short in the first, a middle and the last jury; a stated G of 2 ^ 62; each fault in two
-juries at once; numbers of juries and of gates a round outside their limits; headers that are missing. Every table has
-guards on both sides.
+juries at once; numbers of juries and of gates per round outside their limits; missing headers. Every table has guards
+on both sides.
 """
 
 import itertools
@@ -42,7 +42,7 @@ class Jury:
 
 
 class Call:
-    """All arguments of a call, as lists; `extra` is how much each table has after the last piece."""
+    """All arguments of a call, as lists; each table has `extra` items after the last piece."""
 
     def __init__(self, juries, gates_per_round, extra=0, count=None, missing=0):
         self.count = len(juries) if count is None else count
@@ -107,7 +107,7 @@ def lent_to(call):
 
 
 def dispatch(core, call):
-    """The same of the library."""
+    """What the library answers and leaves, in the same form."""
     arguments = lent_to(call)
     said, *values = core.call("jugy_dispatch", *arguments, answers=10)
     reason, place, rounds = (*values, [0] * 8) if said == "refused" else (0, 0, values)
@@ -115,7 +115,7 @@ def dispatch(core, call):
 
 
 def bad_juries(jury):
-    """The jury with one fault each: a name, and the jury."""
+    """The fault's name, and the jury with this one fault, for each fault."""
     def but(**changes):
         other = object.__new__(Jury)
         other.__dict__.update(jury.__dict__)
@@ -163,7 +163,7 @@ class Tests:
         self.check(Call([self.jury(9) for _ in range(7)] + [self.jury(3000)], 1000))
 
     def limits(self):
-        """Numbers of juries, of gates a round and of a list's gates outside their limits; headers that are missing."""
+        """Numbers of juries, of gates per round and of a list's gates outside their limits; missing headers."""
         for count in (0, 9, 2 ** 32, MOST_SIZE):
             self.check(self.good.but(count=count))
             self.check(self.good.but(count=count, gates_per_round=0))
@@ -179,9 +179,9 @@ class Tests:
 
     def short_tables(self):
         for name in TABLES:
-            for short in (1, 2, 4, len(getattr(self.good, name))):   # the last jury's piece, or all
+            for short in (1, 2, 4, len(getattr(self.good, name))):   # a part of the last jury's piece, or all
                 self.check(self.good.but(**{name: getattr(self.good, name)[:-short]}))
-            for j in (1, 2):                                 # the first or the middle jury is the last
+            for j in (1, 2):                                 # the tables end in the first or in the middle jury's piece
                 part = Call(self.juries[:j], 8)
                 self.check(part.but(count=3, **{name: getattr(part, name)[:-1]}))
 
@@ -194,7 +194,7 @@ class Tests:
             self.check(Call([first, second], 8))
 
     def alone(self):
-        """Whatever the other juries and the rounds are, a jury's board and number of rounds are its own."""
+        """A jury's board and number of rounds do not depend on the other juries, and its board is that of a run."""
         for _ in range(200):
             one, others = self.jury(), [self.jury() for _ in range(self.rng.randint(0, 7))]
             place, gates = self.rng.randint(0, len(others)), self.rng.choice((1, 3, 16, 65536))

@@ -1,13 +1,13 @@
-"""Juries that the tests share. A jury is the grades of each candidate, one a juror, 0 for the best.
+"""Juries that the tests share. A jury has for each candidate a list of grades, one from each juror, 0 for the best.
 
-Most random ones have candidates that are nearly equal: these tell a wrong rule, or a wrong gate, soonest.
+Most random juries have nearly equal candidates: these find a wrong rule, or a wrong gate, soonest.
 """
 
 import reference as doc
 import sorted_judgment
 
-# The panels P1 to P11, as request 2.1 has them: counts, best grade first, and the closing bytes. P1 has too many
-# ballots for a shape.
+# The panels P1 to P11, with the results of request 2.1: counts, best grade first, and the closing bytes. P1 has more
+# ballots than a shape can have.
 PANELS = [
     ([[31, 151, 529, 254, 35], [21, 48, 442, 301, 188], [101, 7, 2, 86, 804]], [1, 0, 0]),
     ([[1, 0, 0], [0, 1, 0]], [1, 0]),
@@ -32,13 +32,13 @@ def uniform(rng, k, d, n):
 
 
 def peaked(rng, k, d, n):
-    """Each candidate round a middle of its own."""
+    """The grades of each candidate are spread around a middle of its own."""
     middles = [rng.randrange(d) for _ in range(k)]
     return [[clipped(d, m + rng.choice([-2, -1, -1, 0, 0, 0, 0, 1, 1, 2])) for _ in range(n)] for m in middles]
 
 
 def balanced(rng, d, n):
-    """Grades in pairs round one middle, so that p and q are equal or nearly so."""
+    """Grades in pairs around one middle, so that about as many are better than it as are worse."""
     middle = rng.randrange(d)
     offsets = [rng.randrange(d) for _ in range(n // 2)]
     pairs = [clipped(d, middle + x) for x in offsets] + [clipped(d, middle - x) for x in offsets]
@@ -46,7 +46,7 @@ def balanced(rng, d, n):
 
 
 def tied(rng, k, d, n):
-    """Each candidate a copy of one, with at most two grades moved by one."""
+    """Each candidate has the same grades in another order, with at most two of them moved by one."""
     base = rng.choice([balanced(rng, d, n), peaked(rng, 1, d, n)[0]])
     candidates = []
     for _ in range(k):
@@ -60,7 +60,7 @@ def tied(rng, k, d, n):
 
 
 def level(rng, k, d, n):
-    """Equal medians, and p and q of each candidate nearly equal, however large."""
+    """Equal medians; each candidate has nearly as many grades better than the median as worse ones, few or many."""
     median = rng.randrange(1, d - 1) if d > 2 else rng.randrange(d)
     candidates = []
     for _ in range(k):
@@ -74,14 +74,14 @@ def level(rng, k, d, n):
 
 
 def closing_bytes(d, jury):
-    """The closing bytes that the rule gives a jury, read plainly and by sorting."""
+    """The closing bytes of a jury, by two implementations of the rule that must agree."""
     plain = doc.closing_bytes([[grades.count(grade) for grade in range(d)] for grades in jury])
     assert plain == sorted_judgment.winners(jury), jury
     return plain
 
 
 def row(d, grade):
-    """A row of a ballot: a grade of d makes a row of zeros."""
+    """A row of a ballot; the grade d makes a row of zeros."""
     return [1 if g == grade else 0 for g in range(d)]
 
 
@@ -91,7 +91,7 @@ def ballots_of(d, jury):
 
 
 def panels():
-    """The panels that a shape has room for, as grades d and a jury."""
+    """The panels that fit a shape: the number of grades d, and a jury."""
     for counts, closing in PANELS:
         d = len(counts[0])
         jury = [[g for g, many in enumerate(grades) for _ in range(many)] for grades in counts]

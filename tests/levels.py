@@ -2,8 +2,8 @@
 
     python3 tests/levels.py    prints how many calls there were, by answer
 
-Own lists of graded and ranked shapes, strangers' lists, every reason at its edges with all pairs of faults, old
-contents of the table, and answer arrays that are too short.
+Own lists of graded and ranked shapes, random lists, every reason at its edges with all pairs of faults, old contents
+of the table, and answer arrays that are too short.
 """
 
 import itertools
@@ -17,7 +17,7 @@ ANSWER = 5
 
 
 def depths(inputs, gates):
-    """Each gate's level, by walking back from the gate; the core goes forward over a table."""
+    """The level of each gate, from the levels of its operands."""
     known = {}
     for g, (kind, *operands) in enumerate(gates):
         used = [x - inputs for x in operands[:doc.OPERANDS[kind]] if x >= inputs]
@@ -27,7 +27,7 @@ def depths(inputs, gates):
 
 class Levels(Core):
     def check(self, shape, table, old=9, more=0):
-        """A call whose level table has more numbers than the list has gates, or fewer: the levels, or none."""
+        """One call, with a level table of G + `more` numbers: returns the levels, or None if it is refused."""
         length = max(0, len(table) // 4 + more)
         written = output([old] * length, "I")
         said = self.call("jugy_levels", *shape, numbers(table), written, answers=ANSWER)
@@ -50,7 +50,7 @@ def main():
     for _ in range(400):
         shape = rng.randrange(1, 5), rng.choice((0, 2, 3, 4)), rng.randrange(1, 4)
         core.check(shape, flat(random_gates(rng, doc.ballot_bytes(*shape), rng.randrange(shape[0], 60))))
-    # a chain of conditional gates: R is C; none: R is 0
+    # in a chain of conditional gates, R is C; without conditional gates, R is 0
     chain = [(4, 0, 1, 0)] + [(5, 4 + g, 0, 0) for g in range(99)]
     assert core.check((2, 2, 1), flat(chain)) == list(range(1, 101))
     assert core.check((2, 2, 1), flat([(6, 0, 1, 0), (3, 4, 0, 0)])) == [0, 0]

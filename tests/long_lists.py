@@ -13,7 +13,7 @@ MOST = doc.MOST_GATES
 
 
 def tables(rng, inputs):
-    """Names and tables at the edge of the length."""
+    """Tables whose length is at the limit or near it, with a name for each."""
     random_list = flat(random_gates(rng, inputs, MOST))
     yield "the most gates", random_list
     yield "the most gates, the last one naming the wire before", random_list[:-4] + [2, inputs + MOST - 2, 0, 0]

@@ -2,10 +2,10 @@
 
     python3 tests/own_lists.py    prints how many lists were evaluated, and on how many juries
 
-A list is taken as the library writes it, evaluated here on many juries at once, and its closing bytes are compared
-with the rule, read plainly (reference.py) and in another way (sorted_judgment.py): random juries of all k and d and
-16 sizes of all widths, all ballots of the small shapes, all pairs of grade counts of two candidates for ten shapes,
-and the panels. `library_test shapes` in C tries every shape, on one jury each.
+Each list is taken as the library writes it and evaluated here on many juries at once. Its closing bytes are compared
+with two implementations of the rule, reference.py and sorted_judgment.py. The juries: random ones of all k and d and 16
+sizes of all widths; all ballots of the small shapes; all pairs of grade counts of two candidates for ten shapes; and
+the panels. `library_test shapes` in C tries every shape, on one jury each.
 """
 
 import itertools
@@ -26,11 +26,11 @@ def bound(k, d, n):
     return 2 * k * d * n * w + k * d * (30 * w + 20) + k * k * (20 * w + 6 * d + 20) + 2 + k * d * (400 * w + 400)
 
 
-# A wire's values on many juries are the bits of one integer; bit j is jury j's.
+# The values of a wire on many juries are the bits of one integer; bit j belongs to jury j.
 
 
 def pack(d, juries):
-    """The input wires of juries of one shape, each given by the grades of each of its candidates."""
+    """The input wires of juries of one shape. A jury is given by the grades of its candidates."""
     k, n = len(juries[0]), len(juries[0][0])
     digits = [bytes(ord("1") if byte == grade else ord("0") for byte in range(256)) for grade in range(d)]
     wires = []
@@ -91,7 +91,7 @@ class OwnList:
 
 
 def random_juries(rng, k, d, n, many):
-    """Twelve times this many juries."""
+    """Random juries in twelve groups of `many`; ten of the groups have nearly equal candidates."""
     styles = [juries.uniform, juries.peaked] + 5 * [juries.tied, juries.level]
     return [style(rng, k, d, n) for style in styles for _ in range(many)]
 
@@ -102,13 +102,13 @@ def every_jury(k, d, n):
 
 
 def every_count(d, n):
-    """All pairs of grade counts, for two candidates."""
+    """All pairs of grade counts of two candidates, as juries."""
     rows = itertools.combinations_with_replacement(range(d), n)
     return list(itertools.product(rows, repeat=2))
 
 
 def small_shapes():
-    """The shapes of few juries: at most 10,000 ballots, of one candidate at most 100."""
+    """The shapes with few possible juries: at most 10,000, or 100 if there is one candidate."""
     for k, d, n in itertools.product(range(1, 9), range(2, 8), range(1, 14)):
         if d ** (k * n) <= (100 if k == 1 else 10_000):
             yield k, d, n
@@ -117,7 +117,7 @@ def small_shapes():
 # Shapes that are tried on more random juries than the others.
 DEEP = [(2, 3, 255), (3, 5, 15), (4, 4, 16), (2, 6, 100), (5, 6, 100), (8, 7, 255)]
 
-# Two candidates: grades and sizes whose pairs of counts are few enough.
+# Grades and sizes for which two candidates have few enough pairs of counts.
 PAIRS = [(2, 31), (2, 64), (2, 100), (3, 7), (3, 8), (3, 15), (4, 7), (5, 4), (6, 3), (7, 2)]
 
 
@@ -166,7 +166,7 @@ def write_at_edges(core):
 
 
 def write_outside(core):
-    """Shapes outside the limits, with no room, with much and with too little for any list: the shape comes first."""
+    """Shapes outside the limits, with an empty table, a short one and a long one: the reason is always the shape."""
     shapes = [(0, 2, 1), (9, 2, 1), (1, 1, 1), (1, 8, 1), (1, 2, 0), (1, 2, 256), (9, 8, 256), (0, 0, 0)]
     shapes += [(257, 3, 3), (2, 259, 3), (2, 3, 259), (65_538, 3, 3), (2, 65_539, 3), (2, 3, 65_539)]
     shapes += [(2 ** 32 + 2, 3, 3), (2, 2 ** 32 + 3, 3), (2, 3, 2 ** 32 + 3), (MOST_SIZE, MOST_SIZE, MOST_SIZE)]

@@ -1,4 +1,4 @@
-"""Programs of target/bin run on bytes, and comparisons that are counted: for tests/rehearsal.py and tests/season.py."""
+"""Runs programs of target/bin, and counts comparisons, for tests/rehearsal.py, tests/season.py and tests/tools.py."""
 
 import subprocess
 import sys
@@ -8,7 +8,7 @@ from core import ROOT
 
 
 class Program:
-    """A program that reads standard input to its end and prints what it has to say."""
+    """A program that reads standard input to its end and then prints its answer."""
 
     def __init__(self, name):
         self.path = ROOT / "target" / "bin" / name

@@ -52,7 +52,7 @@ def refused(number, place, function, *arguments, **options):
 
 
 def wrong(function, *arguments, error=ValueError, **options):
-    """The call is wrong in a way that the core never sees."""
+    """The package raises this error, and does not call the core."""
     try:
         function(*arguments, **options)
     except error as found:
@@ -141,11 +141,11 @@ def lists(rng):
         assert hash(own) == hash(GateList.own(shape)) and str(len(own)) in repr(own).replace(",", "")
         boards = {bytes(own.run(ballots)) for _ in range(4)}
         assert own.run(ballots).winners == count(shape, ballots)
-        assert len(boards) == 4 or own.conditional < 24          # fresh tapes differ, but for a chance of 2^-24
+        assert len(boards) == 4 or own.conditional < 24          # fresh tapes differ, except with a chance of 2^-24
 
 
 def depth(gates, inputs):
-    """The longest chain of conditional gates, by asking each gate again how deep its operands are."""
+    """The number of conditional gates in the longest chain, from the depths of each gate's operands."""
     found = {}
     for place, (kind, *operands) in enumerate(gates):
         below = [found.get(wire, 0) for wire in operands[:doc.OPERANDS[kind]]]
@@ -171,14 +171,14 @@ def bad_lists():
     refused(7, 0, good.run, ballots, b"\1")
     refused(8, 1, good.run, ballots, [0, 2])
     wrong(GateList, shape, [2 ** 32, 0, 0, 0] * 2, error=OverflowError)
-    # buffers of another type, and other parameters than the function has, never reach it
+    # a buffer of the wrong type, or a wrong number of arguments, never reaches the function
     words = array.array("I", ballots)
     for given in ((*shape, words), (*shape, 7), (*shape, ballots, ballots), (2, 2, ballots), (2, 2, ballots, 1)):
         wrong(library.call, "jugy_count", *given, answers=10, error=TypeError)
 
 
 def counterparts(rng):
-    """Every tape of one jury has one counterpart in another with the same winners, and none in one with others."""
+    """Every tape of a jury has one counterpart in a jury with the same winners, and none if the winners differ."""
     shape = Shape(2, 2, 1)
     gates = GateList(shape, flat([(7, 0, 1, 2), (4, 4, 3, 0), (1, 0, 0, 0), (0, 0, 0, 0)]))
     first, second = bytes([1, 0, 0, 1]), bytes([0, 1, 1, 0])
@@ -201,7 +201,7 @@ def counterparts(rng):
 
 
 def urns(rng):
-    """An urn compared with a dictionary: previews, then the call; runs on the ballots that are in."""
+    """An urn compared with a dictionary: each preview, then its call; runs on the ballots that are in."""
     for candidates, grades, slots in ((1, 2, 2), (2, 3, 5), (3, 4, 256)):
         urn, inside = Urn(candidates, grades, slots), {}
         for _ in range(120):
@@ -235,7 +235,7 @@ def urns(rng):
 
 def bad_urns():
     urn, ballot = Urn(2, 2, 3), bytes([1, 0, 0, 1])
-    refused(1, 0, urn.run)                                   # an empty urn is a jury of nobody
+    refused(1, 0, urn.run)                                   # an empty urn has no ballots, so its shape has n = 0
     for bad in ((0, 2), (2, 0), (9, 2), (2, 8), (HUGE + 2, 2), (-1, -2)):
         refused(1, 0, Urn, *bad)
         refused(1, 0, Urn.from_bytes, *bad, b"")
@@ -312,7 +312,7 @@ def apart(rng):
 
 
 def dispatched(rng):
-    """Each jury's board is its own. A piece of the wrong length is that jury's fault, whatever the next one has."""
+    """Each jury gets the board of its own run. A piece of the wrong length is refused, even if the sum is right."""
     for many, share in itertools.product(range(1, 9), (1, 7, 4096, 65536)):
         juries = []
         for shape in rng.choices(SHAPES, k=many):
@@ -348,7 +348,7 @@ def dispatched(rng):
 
 
 def batches(rng):
-    """Each jury's board is its own; fewer than 64 are filled up; a fault names its jury."""
+    """Each jury gets the board of its own run; there may be fewer than 64; a refusal names the jury."""
     for shape, many in zip(SHAPES, (1, 2, 5, 63, 64, 3, 64)):
         gates = GateList(shape, flat(random_gates(rng, shape.inputs, 30)))
         juries = [bytes(random_ballots(rng, *shape)) for _ in range(many)]
@@ -370,7 +370,7 @@ def batches(rng):
 
 
 def python(program, folder, **variables):
-    """Runs a program in Python elsewhere, with JUGYVAROS_LIBRARY set only if it is given."""
+    """Runs a program in Python in another folder, with JUGYVAROS_LIBRARY set only if it is given."""
     plain = {name: value for name, value in os.environ.items() if name != "JUGYVAROS_LIBRARY"}
     environment = {**plain, "PYTHONDONTWRITEBYTECODE": "1", **variables}
     return subprocess.run([sys.executable, "-c", program], env=environment, cwd=folder, capture_output=True, text=True)
@@ -472,7 +472,7 @@ def built():
             os.utime(path, (when, when))
         for _ in range(2):
             assert said("print(jugyvaros.repository.program('rehearsal').name)").stdout == "rehearsal\n"
-        assert calls() == 3                                  # once: the program is not older the second time
+        assert calls() == 3                                  # only once more: the second time the program is not older
         (folder / "fail").touch()
         os.utime(folder / "crates/gates/src/lib.rt", (later + 60, later + 60))
         lines = said().stderr.splitlines()

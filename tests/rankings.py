@@ -3,7 +3,8 @@
     python3 tests/rankings.py    prints how many calls and juries there were
 
 A ranking is given by ranks, one for each candidate: a smaller rank is better, equal ranks are ties. The rule is
-implemented twice: over all simple paths (reference.py), and by who reaches whom over links of some strength (below).
+implemented twice: by trying all simple paths (reference.py), and by searching which candidates can be reached over
+links of some strength (below).
 """
 
 import collections
@@ -18,7 +19,7 @@ MOST_BYTES = 16_320
 SIZES = [1, 2, 3, 4, 7, 8, 15, 16, 31, 32, 63, 64, 100, 127, 128, 254, 255]
 
 def ranks_of_order(order):
-    """The ranks of a strict order, the best first, of candidates that have letters."""
+    """The ranks of the candidates A, B, C and so on in a strict order, which is written best first."""
     return [order.index(chr(ord("A") + c)) for c in range(len(order))]
 
 
@@ -46,7 +47,7 @@ def ballots_of(jury):
 
 
 def reaching_bytes(preferred):
-    """Schulze's rule without paths: i has one to j of strength s if j is reached from i over links of s or more."""
+    """Schulze's rule without paths: i has one to j of strength s if links of at least s lead from i to j."""
     strength, among = doc.links(preferred), range(len(preferred))
     levels = sorted({x for row in strength for x in row if x}, reverse=True)
     best = collections.Counter()
@@ -65,7 +66,7 @@ def reaching_bytes(preferred):
 
 
 def outcome(jury):
-    """The closing bytes of a jury. All simple paths of eight candidates take long, so seven is the most for these."""
+    """The closing bytes of a jury. For up to six candidates both implementations must agree; for more, one is slow."""
     k, n = len(jury[0]), len(jury)
     preferred = doc.preferences(k, n, ballots_of(jury))
     found = reaching_bytes(preferred)
@@ -110,7 +111,7 @@ class Rankings:
         assert list(found) == list(expected), (k, d, n, expected[0], found[0])
 
     def own_list(self, k, n):
-        """The list of a shape as the library writes it; tested, measured and within the bound."""
+        """The own list of a shape as the library writes it, tested, measured and compared with the bound."""
         if (k, n) not in self.lists:
             table = self.core.own_list((k, 0, n))
             gates = doc.gates_of(table)
@@ -142,7 +143,7 @@ def panels(tests):
 
 
 def every_matrix(tests):
-    """All matrices of bits for up to three candidates as a jury of one, and all pairs of them for two."""
+    """All matrices of bits as a jury of one, for up to three candidates, and all pairs of matrices for two."""
     for k in (1, 2, 3):
         for ballot in itertools.product((0, 1), repeat=k * k):
             tests.count(k, 1, list(ballot))
@@ -187,7 +188,7 @@ def edges(tests):
 
 
 def random_jury(rng, k, n):
-    """Rankings with ties, of jurors who mostly agree or of any."""
+    """Random rankings with ties: independent, mostly alike, or with cycles."""
     style = rng.randrange(3)
     base = [rng.randrange(k) for _ in range(k)]
     jury = []
@@ -196,7 +197,7 @@ def random_jury(rng, k, n):
             jury.append([rng.randrange(k) for _ in range(k)])
         elif style == 1:
             jury.append([2 * x + rng.randrange(4) for x in base])
-        else:                                                # cycles: a turn of one order
+        else:                                                # cycles: one order, rotated
             turn = rng.randrange(k)
             jury.append([(x + turn) % k // rng.choice((1, 1, 2)) for x in range(k)])
     return jury
@@ -255,7 +256,7 @@ def runs(tests, rng):
 
 
 def pairs_of_faults(tests):
-    """Every fault alone and every two at once, run and counted."""
+    """Every fault by itself and every two at once, run and counted."""
     gates = tests.own_list(3, 2)
     for first, second in itertools.combinations_with_replacement(FAULTS, 2):
         case = {"k": 3, "d": 0, "n": 2, "table": [x for gate in gates for x in gate],

@@ -1,18 +1,18 @@
-"""An independent reference implementation in Python: what the core must answer, by the requirements.
+"""An independent reference implementation in Python: what the core must answer, according to the requirements.
 
 It is written to be simple, not fast. Nothing here is shared with the crates.
 """
 
 MOST_GATES = 1_048_576
 
-# The table of kinds, once for all tests in Python: operands in use, and whether the gate is conditional.
-# tests/library_c/kinds.h has it for C.
+# The table of kinds for all tests in Python: the number of operands, and whether the gate is conditional. The tests in
+# C have theirs in tests/library_c/kinds.h.
 OPERANDS = {0: 0, 1: 0, 2: 1, 3: 1, 4: 2, 5: 2, 6: 2, 7: 3}
 CONDITIONAL = {0: False, 1: False, 2: False, 3: False, 4: True, 5: True, 6: False, 7: True}
 
 
 def gate_value(kind, a, b, c):
-    """The column "value" of the table, for bits."""
+    """The value of a gate on bits."""
     if kind == 0:
         return 0
     if kind == 1:
@@ -82,17 +82,17 @@ def first_above_one(data):
 
 
 def shape_is_within(k, d, n):
-    """Not reason 1. No grades: the jury ranks."""
+    """Whether reason 1 does not apply. If d is 0, the jury ranks."""
     return 1 <= k <= 8 and (d == 0 or 2 <= d <= 7) and 1 <= n <= 255
 
 
 def columns(k, d):
-    """The bytes of a ballot's row: one a grade, or in a ranking one a candidate."""
+    """The number of bytes in a ballot's row: one for each grade, or for each candidate in a ranking."""
     return k if d == 0 else d
 
 
 def ballot_bytes(k, d, n):
-    """I."""
+    """I, the number of ballot bytes."""
     return n * k * columns(k, d)
 
 
@@ -105,7 +105,7 @@ def row_fault(k, d, n, ballots):
 
 
 def ranking_fault(k, n, ballots):
-    """Reasons 11 and 12 of rankings of bits: two candidates before each other, or a third one that is neither side."""
+    """Reasons 11 and 12 of rankings whose bytes are bits: not asymmetric, or not a weak order."""
     def before(b, i, j):
         return ballots[(b * k + i) * k + j] == 1
 
@@ -144,7 +144,7 @@ def grade_counts(k, d, n, ballots):
 
 
 def median_grade(counts):
-    """The best grade that at least half of the jury gives or betters."""
+    """The best grade for which at least half of the jury gives it or a better one."""
     running = 0
     for grade, count in enumerate(counts):
         running += count
@@ -154,7 +154,7 @@ def median_grade(counts):
 
 
 def sequence(counts):
-    """The median of the grades that are left, again and again; each time one grade of that kind is struck."""
+    """All medians in turn: after each, one grade of its kind is struck."""
     left, medians = list(counts), []
     while sum(left):
         medians.append(median_grade(left))
@@ -163,7 +163,7 @@ def sequence(counts):
 
 
 def closing_bytes(counts):
-    """1 for each candidate whose sequence comes first in the dictionary, better grades first, and 0 for any other."""
+    """1 for each candidate whose sequence is the lexicographically smallest, else 0. Better grades are smaller."""
     sequences = [sequence(row) for row in counts]
     return [1 if found == min(sequences) else 0 for found in sequences]
 
@@ -194,7 +194,7 @@ def strongest_path(strength, i, j):
 
 
 def ranked_closing_bytes(preferred):
-    """Schulze's rule: 1 for each candidate to whom nobody has a stronger path than the one back."""
+    """Schulze's rule: 1 for each candidate i if no other has a stronger path to i than i has to it, else 0."""
     strength, among = links(preferred), range(len(preferred))
     best = {(i, j): strongest_path(strength, i, j) for i in among for j in among if i != j}
     return [1 if all(best[i, j] >= best[j, i] for j in among if j != i) else 0 for i in among]
@@ -245,7 +245,7 @@ def run_fault(k, d, n, table, ballots, tape, wires, board):
 
 
 def answer(fault, table):
-    """What write, test and run answer: number and place of the fault, or G and C."""
+    """What write, test and run answer: reason and place of the fault, or G and C."""
     if fault is not None:
         return ["refused", *fault]
     gates = gates_of(table)
@@ -253,12 +253,12 @@ def answer(fault, table):
 
 
 def test_list(k, d, n, table):
-    """Testing a list."""
+    """What testing a list answers."""
     return answer(test_fault(k, d, n, table), table)
 
 
 def run_list(k, d, n, table, ballots, tape, wires, board):
-    """Running a list: its answer, and wire table and board afterwards."""
+    """What running a list answers, and wire table and board afterwards."""
     fault = run_fault(k, d, n, table, ballots, tape, wires, board)
     if fault is not None:
         return answer(fault, table), wires, board

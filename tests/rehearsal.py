@@ -3,9 +3,9 @@
 
     python3 tests/rehearsal.py    needs target/bin/rehearsal (rt check rehearsal builds it) and the library
 
-Inputs: the example in [rehearsal], the examples of the repository with what they claim to show, empty and short inputs,
-inputs that come in pieces, the longest good input, inputs around and above the number of bytes that are kept, faults in
-shape and ballots, lists too large for the table with faulty ballots, and random juries.
+Inputs: the example in [rehearsal], the files in examples/ with their results, empty and short inputs, inputs that come
+in pieces, the longest good input, inputs around and above the number of bytes that are kept, faults in shape and
+ballots, lists that are too large for the table with faulty ballots, and random juries.
 """
 
 import random
@@ -72,13 +72,13 @@ def made_of(text):
 
 
 def fits(k, d, n):
-    """Whether the table holds the list of a shape within its limits."""
+    """Whether the list of a shape fits the table. The shape is within its limits."""
     _, gates, _, _ = CORE.measure((k, d, n))
     return 4 * gates <= TABLE
 
 
 def expected(data):
-    """What [rehearsal] has the program print for this input."""
+    """What the program must print for this input, by [rehearsal]."""
     kept = data[:KEPT]
     k, d, n = [kept[i] if i < len(kept) else 0 for i in range(3)]
     fault = None
@@ -95,7 +95,7 @@ def expected(data):
 
 
 def jury(rng, k, d, n):
-    """A random jury; without grades it ranks."""
+    """The bytes of a random jury; if d is 0, it ranks."""
     return bytes([k, d, n, *random_ballots(rng, k, d, n)])
 
 
@@ -114,7 +114,7 @@ def damaged(rng, data):
 
 
 def longest_shape():
-    """Of the shapes whose list the table holds, the one with the most ballot bytes."""
+    """The shape with the most ballot bytes among those whose list fits the table."""
     shapes = [(k, d, n) for k in range(1, 9) for d in (0, *range(2, 8)) for n in range(1, 256)]
     return max((shape for shape in shapes if fits(*shape)), key=lambda shape: doc.ballot_bytes(*shape))
 
@@ -148,7 +148,7 @@ def inputs(rng):
     # rankings with fault 11, and with fault 12, in the last ballot
     for ballot in ([0, 1, 0, 1, 0, 0, 0, 0, 0], [0, 1, 0, 0, 0, 0, 0, 0, 0], [0] * 8 + [1]):
         yield bytes([3, 0, 2, *[0] * 9, *ballot])
-    # a list just in the table, and one just too large for it
+    # a list that just fits the table, and one that is just too large for it
     for k, d in [(3, 5), (5, 0)]:
         for n in range(1, 256):
             if n < 255 and fits(k, d, n) and not fits(k, d, n + 1):

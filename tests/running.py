@@ -35,7 +35,7 @@ def random_gates(rng, inputs, count):
 
 
 class Case:
-    """A call. Wire table and board are given by their lengths; what is not given is such that a run is accepted."""
+    """A call. Wire table and board are given by their lengths; the defaults are such that a run is accepted."""
 
     def __init__(self, k, d, n, gates, ballots=None, tape=None, call=RUN, old=OLD):
         self.k, self.d, self.n, self.call, self.old = k, d, n, call, old
@@ -77,7 +77,7 @@ class Case:
 
 
 def any_ballots(k, d, n):
-    """Ballots that are accepted if the shape is; none if a shape outside its limits would have very many."""
+    """Ballots that are accepted if the shape is; none if d is 0, or if there would be very many."""
     if d == 0 or k * d * n > 16_384:
         return []
     return [x for i in range(k * n) for x in row(d, i * 5 % d)]
@@ -100,7 +100,7 @@ def jury(k, d, n):
 
 
 def shapes():
-    """Limits from both sides. What lies outside has a list, ballots and lengths that would fit."""
+    """Shapes on both sides of each limit. Those outside have a list, ballots and lengths that would fit."""
     for k, d, n in itertools.product((1, 8), (2, 7), (1, 255)):
         yield from both(jury(k, d, n))
     for k, d, n in [(0, 2, 1), (9, 2, 1), (9, 7, 3), (1, 1, 2), (8, 1, 2), (1, 8, 1), (3, 8, 2), (1, 2, 256),
@@ -128,7 +128,7 @@ def list_lengths():
 
 
 def operands():
-    """Gates with an operand that is too large, or with one that should be 0."""
+    """Gates with an operand that is too large or just small enough, or with one that should be 0."""
     for k, d, n in [(1, 2, 1), (2, 3, 3)]:
         inputs = n * k * d
         rest = [(1, 0, 0, 0)] * (k + 2)
@@ -161,7 +161,7 @@ def kinds():
 
 
 def each_kind():
-    """Each kind on all values of its operands, under both masks. Wires 0, 2 and 4 are free."""
+    """Each kind on all values of its operands, under both masks. The operands are wires 0, 2 and 4."""
     for kind, bits in itertools.product(range(8), itertools.product((0, 1), repeat=3)):
         used = doc.OPERANDS[kind]
         gate = (kind,) + tuple(2 * i if i < used else 0 for i in range(3))
@@ -173,7 +173,7 @@ def each_kind():
 
 
 def every_tape():
-    """One list on two sets of ballots under each tape: closing bytes stay the same, and both have the same boards."""
+    """One list on two sets of ballots with equal closing bytes, under each tape: both give the same set of boards."""
     gates = [(6, 0, 3, 0), (2, 6, 0, 0), (7, 6, 1, 2), (4, 8, 5, 0), (5, 9, 0, 0), (3, 10, 0, 0)]
     boards = []
     for voters in ([1, 0, 0, 0, 0, 1], [0, 0, 1, 0, 0, 1]):
@@ -226,7 +226,7 @@ def lent():
         yield from both(good)
         for changes in ({"tape": [0]}, {"tape": [2]}, {"board": 0}, {"board": k + 1}, {"wires": 4}):
             yield good.but(**changes)
-    for old in (0, 1, 2, 255):                               # whatever stood there
+    for old in (0, 1, 2, 255):                               # any old contents
         yield jury(2, 2, 2).but(old=old)
         yield jury(2, 2, 2).but(old=old, board=0)
 
@@ -278,7 +278,7 @@ FAULTS = [
 
 
 def pairs_of_faults():
-    """Every fault alone and every two at once: the answer is the first in checking order."""
+    """Every fault by itself and every two at once: the answer is the first in checking order."""
     good = Case(2, 3, 2, [(5, 0, 3, 0), (4, 12, 1, 0), (2, 13, 0, 0), (7, 12, 13, 14)])
     assert good.expected()[0] == ["accepted", 4, 3]
     for (first, spoil), (second, spoil_too) in itertools.combinations_with_replacement(FAULTS, 2):
@@ -320,7 +320,7 @@ def damaged(rng, count):
 
 
 def long_lists(rng):
-    """Many gates, many ballots, and one tape byte or gate that is bad far on."""
+    """Many gates, many ballots, and a tape byte or a gate that is bad at the end."""
     for gate, gates in [((4, 0, 3, 0), 40_000), ((3, 1, 0, 0), 40_000), ((7, 0, 1, 2), 20_000)]:
         good = Case(2, 2, 1, [gate] * gates)
         yield from both(good)

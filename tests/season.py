@@ -28,7 +28,7 @@ def run_bytes(k, d, n, mask, gates, conditional):
 
 
 def expected(data):
-    """What request 2.9 has the program print for this input."""
+    """What the program must print for this input, by request 2.9."""
     if len(data) % RUN_BYTES or len(data) > MOST_BYTES:
         return "refused 21 0\n"
     sums = dict.fromkeys(("runs", "gates", "conditional", "ballots", "shared"), 0)
@@ -81,7 +81,7 @@ def shapes_and_masks():
 
 
 def pairs_of_faults(rng):
-    """A wrong length with a bad run, and two bad runs of any two kinds."""
+    """A wrong length together with a bad run, and two bad runs of any two kinds."""
     good = run_bytes(*GOOD)
     bad = [run_bytes(0, 3, 3, 0, 1, 1), run_bytes(9, 3, 3, 1, 1, 1), run_bytes(2, 1, 3, 1, 1, 1),
            run_bytes(2, 8, 3, 1, 1, 1), run_bytes(2, 3, 0, 1, 1, 1),
@@ -115,7 +115,7 @@ def tool(*arguments, **options):
 
 
 def tools_agree(compare):
-    """Rehearsed juries are recorded, and the sheet in words and as a drawing shows them."""
+    """Rehearsed juries are recorded, and both the sheet in words and the drawing show them."""
     with tempfile.TemporaryDirectory() as folder:
         season = pathlib.Path(folder) / "season"
         wanted, most = b"", 0

@@ -1,11 +1,11 @@
-"""Majority judgment a second time, by sorting, to compare reference.py with.
+"""A second implementation of majority judgment, by sorting, to compare reference.py with.
 
-A candidate is the list of its grades, one from each juror; there are no counts and no running sums.
+A candidate is the list of its grades, one from each juror; it uses no counts and no running sums.
 """
 
 
 def outward(grades):
-    """The middle grade, and then the middle of what is left, the better one of two, until none is left."""
+    """Takes out the middle grade, or the better of two middle ones, until none is left; returns them in this order."""
     order, taken = sorted(grades), []
     while order:
         taken.append(order.pop((len(order) - 1) // 2))

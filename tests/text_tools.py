@@ -21,7 +21,7 @@ loader.exec_module(list_tool)
 
 
 def evaluate(circuit, bits):
-    """A circuit in Bristol Fashion on its input bits: the output bits. Nothing here knows our gates."""
+    """The output bits of a circuit in Bristol Fashion on its input bits. Nothing here knows our kinds of gates."""
     head, ins, outs, _, *lines = circuit.splitlines()
     many, total = map(int, head.split())
     assert len(lines) == many and int(ins.split()[1]) == len(bits)
@@ -37,7 +37,7 @@ def evaluate(circuit, bits):
 
 
 def circuits(rng):
-    """The circuits of own lists say who wins, and that of a list with every kind says what a run does."""
+    """The circuits of own lists tell who wins; that of a list with every kind has the closing bytes of a run."""
     for shape in (Shape(1, 2, 1), Shape(2, 3, 3), Shape(3, 5, 15), Shape(5, 6, 20), Shape(3, 0, 4)):
         circuit = list_tool.bristol(GateList.own(shape))
         for _ in range(20):

@@ -1,10 +1,10 @@
-"""Gate lists as text, through the library: written and read, against an independent reading of the format.
+"""Gate lists as text, through the library: written and read, against an independent implementation of the format.
 
     python3 tests/texts.py    prints how many calls there were, by reason
 
-Own lists and random lists, graded and ranked, both ways; every fault alone and with every other one, in both
+Own lists and random lists, graded and ranked, both ways; every fault by itself and with every other one, in both
 directions; numbers around the largest; malformed lines; outputs that are just too short, just long enough and longer.
-`tests/text` has every short text and many edits of good ones, in C.
+`tests/text` also tries every short text and many edits of good ones, in C.
 """
 
 import itertools
@@ -89,7 +89,7 @@ class Texts:
         return found
 
     def both_ways(self, shape, table):
-        """Written and read back, into outputs of many lengths."""
+        """Writes a list and reads it back, with outputs of many lengths."""
         text = text_of(table)
         for room in (0, len(text) - 1, len(text), len(text) + 1, 11 * len(table)):
             self.write(shape, table, room)
@@ -111,7 +111,7 @@ BAD_SHAPES = [(0, 3, 2), (9, 3, 2), (2, 1, 2), (2, 8, 2), (2, 3, 0), (2, 3, 256)
 
 
 def pairs(ways):
-    """Each change alone, and every two of different kinds at once."""
+    """No change, each change by itself, and every two of different kinds at once."""
     alone = ([way] for kind in ways for way in kind)
     return itertools.chain([[]], alone, *(itertools.product(a, b) for a, b in itertools.combinations(ways, 2)))
 

@@ -1,5 +1,5 @@
 #!/usr/bin/env python3
-"""How the tools behave: help, errors in one line, the same words for the same reason, and their status.
+"""Tests how the tools behave: help, errors in one line, the same words for the same reason, and their status.
 
     python3 tests/tools.py    prints how many comparisons there were; needs the library and both programs, no network
 
@@ -103,7 +103,7 @@ REFUSED = [(b"", 1), (bytes([9, 2, 1]), 1), (bytes([8, 7, 255]), 2), (bytes([1, 
 
 
 def rehearsals(compare):
-    """The program's own bytes, its status in the tool's, and names on a terminal."""
+    """The tool prints what the program prints, ends with 1 on a refusal, and names the winners on a terminal."""
     program = Program("rehearsal")
     for path in sorted(EXAMPLES.glob("*.txt")):
         said = program.said(jury_file.read(path).rehearsal_input)
@@ -142,13 +142,13 @@ class Fetched(html.parser.HTMLParser):
 
 
 def stands_alone(compare, what, text):
-    """A page that is one file: nothing is fetched, no script runs."""
+    """Tests that a page is self-contained: it fetches nothing and runs no script. Returns its text."""
     compare(f"{what} fetches", (Fetched(text).found, "@import" in text, "url(" in text), ([], False, False))
     return " ".join(Fetched(text).words)
 
 
 def boards(compare, folder):
-    """Two juries with the same winners: equal boards under two tapes, which are those of the core."""
+    """Two juries with the same winners: the printed boards are equal, and are what the core gives under the tapes."""
     run = tool("board", NAMED, CLOSE)
     lines = run.stdout.decode().replace("tape   ", "tape  ").splitlines()
     said = dict(line.split("  ", 1) for line in lines if "  " in line)
@@ -173,7 +173,7 @@ def boards(compare, folder):
 
 
 def other_winners(compare, folder):
-    """No tape makes these boards equal, and the tool says why; names that would be HTML are text."""
+    """No tape makes these boards equal, and the tool says why; names that look like HTML stay text."""
     one, other, page = folder / "one.txt", folder / "other.txt", folder / "page.html"
     one.write_text("grades 2: <i y&z\n1 2\n")
     other.write_text("grades 2: <i y&z\n2 1\n")
@@ -193,7 +193,7 @@ def other_winners(compare, folder):
 
 
 def seasons(compare, folder):
-    """A season as a page: sheet, drawing, and a row for each run; bad files by their reasons."""
+    """A season as a page: sheet, drawing, and a row for each run; bad files are refused with their reasons."""
     season = folder / "season"
     recorded = [NAMED, EXAMPLES / "ranked-cycle.txt", EXAMPLES / "shared-win.txt"]
     for path in recorded:

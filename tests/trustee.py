@@ -23,17 +23,17 @@ ANSWERS = {"start": 4, "round": 5, "finish": 4}
 def lent_to(name, call):
     """The arguments of a call; what it writes comes last."""
     written = [output(call["wires"]), output(call["published"])]
-    shape, dealt = [*call["shape"], numbers(call["table"])], bytes_of(call["dealt"])
+    shape, triples = [*call["shape"], numbers(call["table"])], bytes_of(call["triples"])
     if name == "start":
-        return [*shape, call["t"], call["p"], bytes_of(call["parts"]), dealt, *written]
+        return [*shape, call["t"], call["p"], bytes_of(call["shares"]), triples, *written]
     if name == "round":
-        read = [numbers(call["levels"]), dealt, bytes_of(call["heard"])]
+        read = [numbers(call["levels"]), triples, bytes_of(call["heard"])]
         return [*shape, call["t"], call["p"], call["r"], *read, *written]
     return [*shape, written[0]]
 
 
 def fault_of(name, call):
-    """Reason and place by the model, or none."""
+    """Reason and place according to the model, or None."""
     fault = doc.test_fault(*call["shape"], call["table"])
     if fault:
         return fault
@@ -43,11 +43,11 @@ def fault_of(name, call):
         return (17, 0) if len(call["wires"]) != inputs + len(gates) else None
     if not 2 <= call["t"] <= 5 or call["p"] >= call["t"]:
         return 16, 0
-    lengths = [(call["dealt"], 3 * count), (call["wires"], inputs + len(gates)), (call["published"], 2 * count + k)]
-    bits = list(call["dealt"])
+    lengths = [(call["triples"], 3 * count), (call["wires"], inputs + len(gates)), (call["published"], 2 * count + k)]
+    bits = list(call["triples"])
     if name == "start":
-        lengths.append((call["parts"], inputs))
-        bits += call["parts"]
+        lengths.append((call["shares"], inputs))
+        bits += call["shares"]
     if any(len(lent) != length for lent, length in lengths):
         return 17, 0
     if any(bit > 1 for bit in bits):
@@ -63,9 +63,9 @@ def fault_of(name, call):
 
 
 def one_round(call):
-    """The tables after a round, wire by wire: from any bits."""
+    """The tables after one round, gate by gate. They may hold any bits before it."""
     gates, inputs, k = doc.gates_of(call["table"]), doc.ballot_bytes(*call["shape"]), call["shape"][0]
-    own, trustee = depths(inputs, gates), Trustee(call["p"], [], call["dealt"])
+    own, trustee = depths(inputs, gates), Trustee(call["p"], [], call["triples"])
     wires, published = list(call["wires"]), list(call["published"])
     place = {g: i for i, g in enumerate(g for g, gate in enumerate(gates) if gate[0] in CONDITIONAL)}
     for g, gate in enumerate(gates):
@@ -85,7 +85,7 @@ def one_round(call):
 
 
 def check(core, name, call):
-    """One call compared with the model; the tables after it if it is accepted."""
+    """Compares one call with the model; returns the tables after it, or None if it is refused."""
     lent, fault = lent_to(name, call), fault_of(name, call)
     said = core.call(f"jugy_trustee_{name}", *lent, answers=ANSWERS[name])
     if fault:
@@ -95,7 +95,7 @@ def check(core, name, call):
     rounds = [max(depths(doc.ballot_bytes(*call["shape"]), gates))] if name == "round" else []
     assert said == ["accepted", len(gates), doc.conditional_count(gates), *rounds], (name, said)
     expected = {
-        "start": lambda: [call["parts"] + [0] * len(gates), [0] * len(call["published"])],
+        "start": lambda: [call["shares"] + [0] * len(gates), [0] * len(call["published"])],
         "round": lambda: list(one_round(call)),
         "finish": lambda: [[0] * len(call["wires"])],
     }[name]()
@@ -108,12 +108,12 @@ def together(rng, core, shape, gates, t):
     """All trustees from start to finish, compared with the single call."""
     k, inputs, count = shape[0], doc.ballot_bytes(*shape), doc.conditional_count(gates)
     ballots = [rng.randrange(2) for _ in range(inputs)]
-    parts, dealt = dealings(rng, ballots, count, t)
-    trustees, own = protocol(gates, inputs, k, t, parts, dealt), depths(inputs, gates)
+    shares, triples = dealings(rng, ballots, count, t)
+    trustees, own = protocol(gates, inputs, k, t, shares, triples), depths(inputs, gates)
     calls = [
         dict(
             shape=shape, table=flat(gates), t=t, p=p, levels=own, heard=[0] * (2 * count),
-            parts=parts[inputs * p : inputs * (p + 1)], dealt=dealt[3 * count * p : 3 * count * (p + 1)],
+            shares=shares[inputs * p : inputs * (p + 1)], triples=triples[3 * count * p : 3 * count * (p + 1)],
             wires=[9] * (inputs + len(gates)), published=[9] * (2 * count + k),
         )
         for p in range(t)
@@ -155,14 +155,14 @@ def faults_of(call, name):
         "six": {"t": 6},
         "none such": {"p": call["t"]},
         "far": {"p": 2 ** 60},
-        "fewer triples": {"dealt": call["dealt"][1:]},
-        "more triples": {"dealt": call["dealt"] + [0]},
-        "two": {"dealt": call["dealt"][:-1] + [2]},
+        "fewer triples": {"triples": call["triples"][1:]},
+        "more triples": {"triples": call["triples"] + [0]},
+        "two": {"triples": call["triples"][:-1] + [2]},
         "no published": {"published": []},
         "more published": {"published": call["published"] + [0]},
     }
     if name == "start":
-        more = {"fewer parts": {"parts": call["parts"][1:]}, "a part of 2": {"parts": [2] + call["parts"][1:]}}
+        more = {"fewer shares": {"shares": call["shares"][1:]}, "a share of 2": {"shares": [2] + call["shares"][1:]}}
         return changes | more
     own = call["levels"]
     return changes | {
@@ -179,7 +179,7 @@ def faults_of(call, name):
 
 
 def elections(rng, core):
-    """Own lists and strangers', by all numbers of trustees."""
+    """Own lists with every number of trustees, and random lists."""
     for shape, t in itertools.product(((1, 2, 1), (2, 3, 2), (3, 2, 3), (2, 0, 2), (3, 0, 3)), range(2, 6)):
         together(rng, core, shape, doc.gates_of(core.own_list(shape)), t)
     for _ in range(60):
@@ -189,9 +189,9 @@ def elections(rng, core):
 
 
 def any_tables(rng, core, call):
-    """A round is tested on whatever bits the tables hold."""
+    """Rounds on tables of random bits."""
     for _ in range(100):
-        any_bits = {name: [rng.randrange(2) for _ in call[name]] for name in ("dealt", "heard", "wires", "published")}
+        any_bits = {name: [rng.randrange(2) for _ in call[name]] for name in ("triples", "heard", "wires", "published")}
         check(core, "round", call | any_bits | {"r": rng.randrange(max(call["levels"]) + 1), "p": rng.randrange(3)})
 
 

@@ -2,8 +2,8 @@
 
     python3 tests/trustees.py    prints how many calls there were, by reason
 
-Small lists with every dealing counted: for whichever trustee is left out, each dealing of one election has exactly
-one counterpart in another with the same closing bytes. Random elections, graded and ranked, on own and on random
+Tiny lists with all their dealings: whichever trustee is left out, each dealing of one election has exactly one
+counterpart in another election with the same closing bytes. Random elections, graded and ranked, on own and on random
 lists, every reason at its edges, all pairs of faults, and old contents of both tables that are written.
 """
 
@@ -22,7 +22,7 @@ CONDITIONAL = (AND, OR, CHOICE)
 
 
 class Trustee:
-    """One trustee: it knows its number, its own bits, and what was opened."""
+    """One trustee of the model: it knows its number, its own bits, and what was opened."""
 
     def __init__(self, number, ballot_bits, triples):
         self.first = number == 0
@@ -68,11 +68,11 @@ def parity(bits):
     return sum(bits) % 2
 
 
-def protocol(gates, inputs, k, t, parts, dealt):
+def protocol(gates, inputs, k, t, shares, triples):
     """The trustees after a run of the list."""
     count = doc.conditional_count(gates)
-    trustees = [Trustee(p, parts[p * inputs : (p + 1) * inputs],
-                        dealt[3 * count * p : 3 * count * (p + 1)]) for p in range(t)]
+    trustees = [Trustee(p, shares[p * inputs : (p + 1) * inputs],
+                        triples[3 * count * p : 3 * count * (p + 1)]) for p in range(t)]
     i = 0
     for gate in gates:
         if gate[0] in CONDITIONAL:
@@ -90,12 +90,12 @@ def protocol(gates, inputs, k, t, parts, dealt):
 
 
 class Call:
-    """A call with all that it lends. Tables that are written are given by their lengths."""
+    """A call with everything lent to it. Tables that are written are given by their lengths."""
 
-    def __init__(self, shape, gates, ballots, t, parts, dealt, old=9):
+    def __init__(self, shape, gates, ballots, t, shares, triples, old=9):
         count = doc.conditional_count(gates)
         self.shape, self.table, self.ballots, self.t = tuple(shape), flat(gates), list(ballots), t
-        self.parts, self.dealt, self.old = list(parts), list(dealt), old
+        self.shares, self.triples, self.old = list(shares), list(triples), old
         self.wires = t * (len(ballots) + len(gates))
         self.published = t * (2 * count + shape[0])
 
@@ -111,7 +111,7 @@ class Call:
         return doc.gates_of(self.table)
 
     def fault(self):
-        """Reason and place by the model, or none."""
+        """Reason and place according to the model, or None."""
         k, d, n = self.shape
         fault = doc.test_fault(k, d, n, self.table) or doc.ballots_fault(k, d, n, self.ballots)
         if fault:
@@ -121,14 +121,14 @@ class Call:
         gates, inputs, t = self.gates(), len(self.ballots), self.t
         count = doc.conditional_count(gates)
         needed = (t * inputs, t * 3 * count, t * (inputs + len(gates)), t * (2 * count + k))
-        if (len(self.parts), len(self.dealt), self.wires, self.published) != needed:
+        if (len(self.shares), len(self.triples), self.wires, self.published) != needed:
             return 17, 0
-        if any(bit not in (0, 1) for bit in self.parts + self.dealt):
+        if any(bit not in (0, 1) for bit in self.shares + self.triples):
             return 18, 0
-        if any(parity(self.parts[x::inputs]) != self.ballots[x] for x in range(inputs)):
+        if any(parity(self.shares[x::inputs]) != self.ballots[x] for x in range(inputs)):
             return 18, 0
         for i in range(count):
-            u, v, w = (parity(self.dealt[3 * i + j :: 3 * count]) for j in range(3))
+            u, v, w = (parity(self.triples[3 * i + j :: 3 * count]) for j in range(3))
             if w != u * v:
                 return 18, 0
         return None
@@ -136,14 +136,14 @@ class Call:
 
 def lent_to(call):
     """The arguments of a call."""
-    read = [bytes_of(call.parts), bytes_of(call.dealt)]
+    read = [bytes_of(call.shares), bytes_of(call.triples)]
     written = [output([call.old] * call.wires), output([call.old] * call.published)]
     return [*call.shape, numbers(call.table), bytes_of(call.ballots), call.t, *read, *written]
 
 
 class Trustees(Core):
     def check(self, call):
-        """One call against the model. Of an accepted one, the trustees as the model has them."""
+        """Compares one call with the model; returns the model's trustees, or None if it is refused."""
         lent = lent_to(call)
         said = self.call("jugy_trustees", *lent, answers=ANSWER)
         fault = call.fault()
@@ -151,7 +151,7 @@ class Trustees(Core):
             assert said == ["refused", *fault], (fault, said, call.shape)
             return None
         gates, k = call.gates(), call.shape[0]
-        trustees = protocol(gates, len(call.ballots), k, call.t, call.parts, call.dealt)
+        trustees = protocol(gates, len(call.ballots), k, call.t, call.shares, call.triples)
         plain = doc.run_gates(call.ballots, gates, [0] * doc.conditional_count(gates))[0]
         for x, wire in enumerate(plain):
             assert parity(trustee.held[x] for trustee in trustees) == wire
@@ -163,43 +163,43 @@ class Trustees(Core):
 
 
 def dealings(rng, ballots, count, t):
-    """A random dealing: ballot parts and dealer parts."""
-    parts = [[rng.randrange(2) for _ in ballots] for _ in range(t - 1)]
-    parts.append([x ^ parity(column) for x, column in zip(ballots, zip(*parts))])
-    triples = []
+    """A random dealing: the ballot shares and the triples."""
+    shares = [[rng.randrange(2) for _ in ballots] for _ in range(t - 1)]
+    shares.append([x ^ parity(column) for x, column in zip(ballots, zip(*shares))])
+    drawn = []
     for _ in range(count):
         u, v = ([rng.randrange(2) for _ in range(t)] for _ in range(2))
         w = [rng.randrange(2) for _ in range(t - 1)]
         w.append(parity(w) ^ (parity(u) & parity(v)))
-        triples.append((u, v, w))
-    dealt = [bit for p in range(t) for u, v, w in triples for bit in (u[p], v[p], w[p])]
-    return [bit for share in parts for bit in share], dealt
+        drawn.append((u, v, w))
+    triples = [bit for p in range(t) for u, v, w in drawn for bit in (u[p], v[p], w[p])]
+    return [bit for share in shares for bit in share], triples
 
 
 def all_dealings(ballots, count, t):
     inputs = len(ballots)
-    for parts in itertools.product((0, 1), repeat=t * inputs):
-        if any(parity(parts[x::inputs]) != ballots[x] for x in range(inputs)):
+    for shares in itertools.product((0, 1), repeat=t * inputs):
+        if any(parity(shares[x::inputs]) != ballots[x] for x in range(inputs)):
             continue
-        for dealt in itertools.product((0, 1), repeat=3 * count * t):
-            sums = [parity(dealt[place :: 3 * count]) for place in range(3 * count)]
+        for triples in itertools.product((0, 1), repeat=3 * count * t):
+            sums = [parity(triples[place :: 3 * count]) for place in range(3 * count)]
             if all(w == u * v for u, v, w in zip(sums[::3], sums[1::3], sums[2::3])):
-                yield parts, dealt
+                yield shares, triples
 
 
 def view(call, trustees, published, q):
-    inputs, count = len(call.ballots), len(call.dealt) // 3 // call.t
+    inputs, count = len(call.ballots), len(call.triples) // 3 // call.t
     others = [p for p in range(call.t) if p != q]
     return (
-        tuple(tuple(call.parts[p * inputs : (p + 1) * inputs]) for p in others),
-        tuple(tuple(call.dealt[3 * count * p : 3 * count * (p + 1)]) for p in others),
+        tuple(tuple(call.shares[p * inputs : (p + 1) * inputs]) for p in others),
+        tuple(tuple(call.triples[3 * count * p : 3 * count * (p + 1)]) for p in others),
         tuple(tuple(trustees[p].held) for p in others),
         tuple(published),
     )
 
 
 def count_counterparts(core, shape, gates, t):
-    """All dealings of all elections of a shape: those of two elections with equal closing bytes have the same views."""
+    """Tries all dealings of all elections of a shape: two elections with equal closing bytes have the same views."""
     k, d, n = shape
     rows = [[int(i == j) for j in range(d)] for i in range(d)]
     count = doc.conditional_count(gates)
@@ -207,13 +207,13 @@ def count_counterparts(core, shape, gates, t):
     for ballots in itertools.product(rows, repeat=n * k):
         ballots = [bit for row in ballots for bit in row]
         seen = [collections.Counter() for _ in range(t)]
-        for parts, dealt in all_dealings(ballots, count, t):
-            call = Call(shape, gates, ballots, t, parts, dealt)
+        for shares, triples in all_dealings(ballots, count, t):
+            call = Call(shape, gates, ballots, t, shares, triples)
             trustees = core.check(call)
             for q in range(t):
                 seen[q][view(call, trustees, [b for each in trustees for b in each.said], q)] += 1
         for q in range(t):
-            # exactly one dealing for a view, so that counterparts are unique
+            # each view has exactly one dealing, so a counterpart is unique
             assert set(seen[q].values()) == {1}
         closing = tuple(doc.run_gates(ballots, gates, [0] * count)[0][-k:])
         views[closing].append([frozenset(s) for s in seen])
@@ -229,8 +229,8 @@ def valid_call(rng, core, shape, t, gates=None):
     k, d, n = shape
     gates = doc.gates_of(core.own_list(shape)) if gates is None else gates
     ballots = random_ballots(rng, k, d, n)
-    parts, dealt = dealings(rng, ballots, doc.conditional_count(gates), t)
-    return Call(shape, gates, ballots, t, parts, dealt, old=rng.randrange(256))
+    shares, triples = dealings(rng, ballots, doc.conditional_count(gates), t)
+    return Call(shape, gates, ballots, t, shares, triples, old=rng.randrange(256))
 
 
 def changed(items, place, value):
@@ -240,7 +240,7 @@ def changed(items, place, value):
 
 
 def bad_ballots(call):
-    """Bits that are no ballots: a row without a grade (6), or rankings with the faults 11 and 12."""
+    """Bits that are not ballots: a row without a grade (6), or rankings with the faults 11 and 12."""
     if call.shape[1]:
         return {"row": {"ballots": changed(call.ballots, call.ballots.index(1), 0)}}
     rest = call.ballots[9:]
@@ -254,7 +254,7 @@ def bad_ballots(call):
 def faults(call):
     """Changes of an accepted call, each with one fault."""
     k, d, n = call.shape
-    last = len(call.dealt) - 1
+    last = len(call.triples) - 1
     two = [p * len(call.ballots) for p in range(2)]
     return {
         "shape": {"shape": (9, d, n)},
@@ -267,22 +267,22 @@ def faults(call):
         "one trustee": {"t": 1},
         "six": {"t": 6},
         "many": {"t": 2 ** 60},
-        "parts": {"parts": call.parts[:-1]},
-        "more parts": {"parts": call.parts + [0]},
-        "dealt": {"dealt": call.dealt[:-1]},
-        "more dealt": {"dealt": call.dealt + [0]},
+        "fewer shares": {"shares": call.shares[:-1]},
+        "more shares": {"shares": call.shares + [0]},
+        "fewer triples": {"triples": call.triples[:-1]},
+        "more triples": {"triples": call.triples + [0]},
         "wires": {"wires": call.wires - 1},
         "more wires": {"wires": call.wires + 1},
         "published": {"published": call.published - 1},
         "more published": {"published": call.published + 1},
-        "no parts": {"parts": []},
-        "ballot part 2": {"parts": changed(call.parts, len(call.parts) - 1, call.parts[-1] + 2)},
-        "ballot part 255": {"parts": changed(call.parts, 0, 255)},
-        "ballot part": {"parts": changed(call.parts, 0, 1 - call.parts[0])},
-        "dealer part": {"dealt": changed(call.dealt, 0, call.dealt[0] + 2)},
-        "product": {"dealt": changed(call.dealt, last, 1 - call.dealt[last])},
-        "two parts exchanged": {"parts": changed(changed(call.parts, two[0], 3), two[1],
-                                                 call.parts[two[0]] ^ call.parts[two[1]] ^ 1)},
+        "no shares": {"shares": []},
+        "a share of 2 or 3": {"shares": changed(call.shares, len(call.shares) - 1, call.shares[-1] + 2)},
+        "a share of 255": {"shares": changed(call.shares, 0, 255)},
+        "another sum": {"shares": changed(call.shares, 0, 1 - call.shares[0])},
+        "a triple's share of 2 or 3": {"triples": changed(call.triples, 0, call.triples[0] + 2)},
+        "product": {"triples": changed(call.triples, last, 1 - call.triples[last])},
+        "a share of 3 in the right sum": {"shares": changed(changed(call.shares, two[0], 3), two[1],
+                                                            call.shares[two[0]] ^ call.shares[two[1]] ^ 1)},
     }
 
 
@@ -319,19 +319,19 @@ def refusals(core, call):
             assert core.check(call.but(**one, **other)) is None
 
 
-def every_part(rng, core, call):
-    """Every part is tested."""
-    for place in range(len(call.parts)):
-        assert core.check(call.but(parts=changed(call.parts, place, call.parts[place] + 2))) is None
-        assert core.check(call.but(parts=changed(call.parts, place, 1 - call.parts[place]))) is None
-    for place in rng.sample(range(len(call.dealt)), min(60, len(call.dealt))):
-        assert core.check(call.but(dealt=changed(call.dealt, place, call.dealt[place] + 2))) is None
+def every_share(rng, core, call):
+    """The core tests every ballot share and every share of a triple, of which 60 are tried."""
+    for place in range(len(call.shares)):
+        assert core.check(call.but(shares=changed(call.shares, place, call.shares[place] + 2))) is None
+        assert core.check(call.but(shares=changed(call.shares, place, 1 - call.shares[place]))) is None
+    for place in rng.sample(range(len(call.triples)), min(60, len(call.triples))):
+        assert core.check(call.but(triples=changed(call.triples, place, call.triples[place] + 2))) is None
 
 
 def old_contents(rng, core, call):
-    """Whatever both tables held, with conditional gates and without."""
+    """The old contents of both tables do not matter, with conditional gates and without."""
     free = valid_call(rng, core, (2, 2, 1), 5, [(XOR, 0, 1, 0), (ONE, 0, 0, 0), (3, 4, 0, 0)])
-    assert not free.dealt
+    assert not free.triples
     for old in (0, 1, 255):
         core.check(free.but(old=old))
         core.check(call.but(old=old))
@@ -346,7 +346,7 @@ def main():
     for shape in ((2, 3, 2), (3, 0, 2)):
         call = valid_call(rng, core, shape, 3)
         refusals(core, call)
-        every_part(rng, core, call)
+        every_share(rng, core, call)
         old_contents(rng, core, call)
     core.ignores_short_answers("jugy_trustees", *lent_to(call), answers=ANSWER)
     told = core.saw(trustees={1, 2, 3, 4, 5, 6, 11, 12, 16, 17, 18})

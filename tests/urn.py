@@ -26,7 +26,7 @@ def call(name, k, d, urn, juror=None, ballot=None):
     return (*values, 0) if said == "refused" else (0, 0, *values), bytes(lent[2].items())
 
 
-# The model: an urn is taken apart into its chains by sets, and put together again from them.
+# The model takes an urn apart into its two chains, and puts it together again from them.
 
 
 def ballot_fault(k, d, ballot):
@@ -190,7 +190,7 @@ def pairs():
 
 
 def made_empty():
-    """Every length around an urn's, and every shape around its limits, over any old bytes."""
+    """Lengths around those of urns, and shapes around their limits, over random old bytes."""
     for k, d in itertools.product((0, 1, 2, 8, 9, 2**63), (0, 1, 2, 7, 8, 2**63)):
         size = 2 + k * d if k * d < 80 else 58
         for slots, more in itertools.product((0, 1, 2, 3, 255, 256, 257), (-1, 0, 1)):
@@ -206,7 +206,7 @@ def made_empty():
 
 
 def told(rounds):
-    """Two urns with different lengths, slots, jurors, ballots and orders that agree in what a preview may reveal."""
+    """Two urns that agree in what a preview may reveal get the same preview, whatever else differs between them."""
     def facts(k, d, urn, juror):
         chains = take_apart(k, d, urn)
         return chains and (len(chains[0]), juror in (j for _, j, _ in chains[0]), bool(chains[1]))
@@ -249,7 +249,7 @@ def edges():
     assert compare(d, k, empty(k, d, 4), 1, good_ballot(d, k))[0] == (0, 0, 1)
     sound = put_together(k, d, 6, [(s, j, b"\1\0\0\1\0\0") for s, j in ((3, 1), (1, 255), (5, 7))], [2, 4])
     assert compare(k, d, sound, 9, good_ballot(k, d))[0] == (0, 0, 4)
-    # its rows of three bytes are no rows of two
+    # rows of three bytes are not good rows of two
     assert compare(d, k, sound, 9, good_ballot(d, k))[0] == (13, 0, 0)
     places = {"one juror in the first and the last": (5 * size + 1, 1), "juror 0": (size + 1, 0),
               "chain into the free one": (5 * size, 2),

@@ -1,7 +1,7 @@
 #!/usr/bin/env python3
-"""The run on an urn against the reference, over the static library: chains in any order of slots, n that
-is not the number of ballots, damaged urns, every fault with every other, full urns, short answer arrays, and random
-calls. Needs a C compiler and target/staticlib/libjugyvaros.a."""
+"""The run on an urn against the reference, over the static library: chains in any order of slots, an n that is not the
+number of ballots, damaged urns, every fault with every other, full urns, short answer arrays, and random calls. Needs a
+C compiler and target/staticlib/libjugyvaros.a."""
 import itertools
 import random
 import sys
@@ -20,7 +20,7 @@ def run_urn(*call):
     return CORE.run(*call, name="jugy_run_urn")
 
 
-# The model. An urn is a list of slots; it is sound if the slots of both chains, sorted, are 1, 2, and so on.
+# The model. An urn is a list of slots; if it is sound, the slots of both chains, sorted, are 1, 2, and so on.
 
 
 def chain_from(slots, first):
@@ -103,7 +103,7 @@ def buffers(k, d, n, table):
 
 
 def orders():
-    """All orders of three ballots' slots: shown bits tell the chain's order from that of the slots."""
+    """Three ballots in all orders of slots: the shown bits tell whether a run follows the chain."""
     k, d, n = 1, 3, 3
     ballots = [[1, 0, 0], [0, 1, 0], [0, 0, 1]]
     # each input has a gate that shows it

@@ -17,7 +17,7 @@ from jugyvaros import jury_file  # noqa: E402
 
 
 class Failure(Exception):
-    """An end with status 1; the message is the line that is printed."""
+    """Ends the tool with status 1, and its message as the printed line."""
 
 
 class Parser(argparse.ArgumentParser):
@@ -43,7 +43,7 @@ def number(word):
 
 
 def between(low, high):
-    """What reads a number from low to high in an argument."""
+    """A reader for arguments that are a number from low to high."""
     def read(word):
         if not low <= number(word) <= high:
             raise argparse.ArgumentTypeError(f"{word} is not a number from {low} to {high}")

@@ -64,7 +64,7 @@ def page(title, *parts):
 
 
 def facts(entries):
-    """Numbers that stand out, each with what it counts."""
+    """Key figures, each with what it counts."""
     items = "".join(f"<li><b>{escape(str(number))}</b><span>{escape(what)}</span></li>" for number, what in entries)
     return f'<ul class="facts">{items}</ul>'
 

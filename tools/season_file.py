@@ -1,5 +1,5 @@
 """A season's runs in a file, twelve bytes a run, as the program season_sheet reads them: k, d, n, the closing bytes
-as a mask whose lowest bit is candidate 0, and four bytes each for G and C, the lowest first."""
+as a mask whose lowest bit is candidate 0, then G and C, four bytes each in little-endian order."""
 
 import pathlib
 import struct
@@ -23,7 +23,7 @@ class Run(NamedTuple):
 
 
 def runs(data):
-    """The runs in a file's bytes, which the sheet has accepted."""
+    """The runs in a file's bytes. The sheet must have accepted them."""
     return [Run(Shape(k, d, n), [i for i in range(8) if mask >> i & 1], gates, conditional)
             for k, d, n, mask, gates, conditional in RUN.iter_unpack(data)]
 
@@ -32,7 +32,7 @@ def append(name, printed):
     """Adds the run that the rehearsal program printed."""
     lines = [line.split() for line in printed.splitlines()]
     if [line[:1] for line in lines] != [["jury"], ["winners"]]:
-        raise common.Failure("no run to add: hand over what the rehearsal program prints for a jury that it accepts")
+        raise common.Failure("no run to add: pass what the rehearsal program prints for a jury that it accepts")
     shape, winners = ([int(word) for word in line[1:]] for line in lines)
     path = pathlib.Path(name)
     size = path.stat().st_size if path.exists() else 0

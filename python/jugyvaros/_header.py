@@ -9,7 +9,7 @@ WORDS: dict[int, tuple[str, str, str]] = {
     ),
     2: (
         "TABLE",
-        "writing: no room in the gate table; otherwise: not k to 1,048,576 whole gates",
+        "writing: the table is too short; otherwise: not k to 1,048,576 whole gates",
         "",
     ),
     3: (
@@ -19,7 +19,7 @@ WORDS: dict[int, tuple[str, str, str]] = {
     ),
     4: (
         "BALLOTS_LENGTH",
-        "there are not I ballot bytes",
+        "the number of ballot bytes is not I",
         "",
     ),
     5: (
@@ -29,7 +29,7 @@ WORDS: dict[int, tuple[str, str, str]] = {
     ),
     6: (
         "BALLOT_ROW",
-        "graded: a row with no 1 or several",
+        "graded: a row has no 1, or more than one",
         "the row, b k + c",
     ),
     7: (
@@ -69,7 +69,7 @@ WORDS: dict[int, tuple[str, str, str]] = {
     ),
     14: (
         "JUROR",
-        "the juror is not 1 to 255, or is in already (admission), or not in (withdrawal)",
+        "the juror is not 1 to 255, or is already in (admission), or not in (withdrawal)",
         "",
     ),
     15: (
@@ -89,7 +89,7 @@ WORDS: dict[int, tuple[str, str, str]] = {
     ),
     18: (
         "DEALING",
-        "a part is neither 0 nor 1, or parts do not add up to their ballot byte or product",
+        "a share is neither 0 nor 1, or shares do not add up to a ballot byte or product",
         "",
     ),
     19: (
@@ -114,7 +114,7 @@ WORDS: dict[int, tuple[str, str, str]] = {
     ),
     200: (
         "LEVELS",
-        "the level table is not G numbers long, or holds other levels than the list's",
+        "the level table is not G numbers long, or its levels are not the list's",
         "",
     ),
     201: (

@@ -14,7 +14,7 @@ LANES = 64
 
 
 def batch(gates: GateList, juries: Sequence[bytes], tapes: Sequence[bytes] | None = None) -> list[Board]:
-    """Runs a list on 1 to 64 juries. Each gets the board of a run by itself. Without tapes, fresh secret ones are used.
+    """Runs a list on 1 to 64 juries. Each gets the board of its own run. Without tapes, fresh secret ones are used.
 
     If ballots are refused, the place of the refusal is the first jury with the fault.
     """
@@ -24,7 +24,7 @@ def batch(gates: GateList, juries: Sequence[bytes], tapes: Sequence[bytes] | Non
     if tapes is None:
         masks = array.array("Q", secrets.token_bytes(8 * gates.conditional))
     elif len(tapes) != len(juries):
-        raise ValueError(f"{len(juries)} juries have {len(juries)} tapes, not {len(tapes)}")
+        raise ValueError(f"{len(juries)} juries need {len(juries)} tapes, not {len(tapes)}")
     else:
         masks = pack(tapes, gates.conditional, 7, 8)
     wires = array.array("Q", bytes(8 * (gates.shape.inputs + len(gates))))
@@ -38,8 +38,8 @@ def batch(gates: GateList, juries: Sequence[bytes], tapes: Sequence[bytes] | Non
 
 
 def pack(rows: Sequence[bytes], length: int, other_length: int, other_byte: int) -> array.array[int]:
-    """Numbers whose bit j is row j's byte at that place; copies of the last row fill up the 64. A row of another length
-    is refused with the reason `other_length`, a byte above 1 with `other_byte`."""
+    """Bit j of number i is byte i of row j; copies of the last row make up 64 rows. A row of the wrong length is
+    refused with the reason `other_length`, a byte above 1 with `other_byte`."""
     for place, row in enumerate(rows):
         if len(row) != length:
             raise Refused(other_length, place, "the jury")
@@ -54,7 +54,7 @@ _DIGITS = bytes([48, 49, *range(2, 256)])
 
 
 def unpack(words: array.array[int], lanes: int) -> list[bytes]:
-    """The bytes of each of the first juries."""
+    """The bytes of each of the first `lanes` juries."""
     digits = [format(word, "064b")[::-1][:lanes].encode() for word in words]
     return [bytes(column).translate(_BITS) for column in zip(*digits)]
 

@@ -23,7 +23,7 @@ class Jury(NamedTuple):
 
 
 class Dispatched(NamedTuple):
-    """A jury's board, the same as after a run by itself, and how many rounds it took."""
+    """A jury's board, the same as after an undivided run, and how many rounds it took."""
 
     board: Board
     rounds: int
@@ -36,8 +36,8 @@ def dispatch(juries: Sequence[Jury], gates_per_round: int = GATES_PER_ROUND) -> 
     """
     tapes = [fresh_tape(jury.gates.conditional) if jury.tape is None else bytearray(jury.tape) for jury in juries]
     bad = _first_misfit(juries, tapes)
-    # if a jury has a piece of another length, the core is lent none of that piece, and no jury after it: so it tests
-    # all juries before in order, and this one up to that piece
+    # if a jury's piece has the wrong length, the core gets an empty one instead, and no later jury: so it tests all
+    # earlier juries in order, and this one up to that piece
     lent = list(juries) if bad is None else list(juries[:bad + 1])
     ballots = bytearray().join(_whole(jury.ballots, jury.gates.shape.inputs) for jury in lent)
     masks = bytearray().join(_whole(tape, jury.gates.conditional) for tape, jury in zip(tapes, lent))
@@ -54,7 +54,7 @@ def dispatch(juries: Sequence[Jury], gates_per_round: int = GATES_PER_ROUND) -> 
     finally:
         wipe(ballots, masks, *tapes)
     if bad is not None:
-        # the core accepted an empty tape where a longer one was given
+        # the list has no conditional gate, so the core accepted the empty tape that replaced a longer one
         raise Refused(7, bad, "the jury")
     return _cut(juries, boards, rounds)
 

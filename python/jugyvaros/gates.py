@@ -10,7 +10,7 @@ from typing import NamedTuple, Union
 from .library import Buffer, call, wipe
 from .shape import Shape, winners_of
 
-# The longest line of a list as text: a kind, three operands of ten digits, three spaces and a line feed.
+# Enough for any line of a list as text: four numbers of up to ten digits, three spaces and a line feed.
 LONGEST_LINE = 44
 
 
@@ -58,7 +58,7 @@ class GateList:
     __slots__ = ("shape", "conditional", "_table")
 
     def __init__(self, shape: Shape, numbers: Iterable[int]) -> None:
-        """Takes a list that anyone wrote, four numbers a gate: kind, a, b, c. Raises Refused if it does not fit."""
+        """Takes a list, whoever wrote it, four numbers a gate: kind, a, b, c. Raises Refused if it does not fit."""
         self.shape = Shape(*shape)
         self._table = array.array("I", numbers)
         self.conditional = call("jugy_test", *self.shape, self._table, answers=4)[1]
@@ -108,8 +108,8 @@ class GateList:
 
     @property
     def levels(self) -> int:
-        """The multiplicative depth R: how many conditional gates the longest chain has. Gates of one level can be
-        opened together, so a sealing layer needs R rounds."""
+        """The multiplicative depth R: the number of conditional gates in the longest chain. Gates of one level can be
+        opened together, so R rounds of openings are enough."""
         table = array.array("I", bytes(4 * len(self)))
         return call("jugy_levels", *self.shape, self._table, table, answers=5)[2]
 
@@ -122,7 +122,7 @@ class GateList:
         return self.run_by("jugy_run", bytes(ballots), tape)
 
     def run_by(self, name: str, ballots: Buffer, tape: Tape) -> Board:
-        """A run by one of the exported functions that take the same buffers as `jugy_run`."""
+        """Runs the list by an exported function that takes the same buffers as `jugy_run`."""
         masks = fresh_tape(self.conditional) if tape is None else bytearray(tape)
         wires = bytearray(self.shape.inputs + len(self))
         board = bytearray(self.conditional + self.shape.candidates)

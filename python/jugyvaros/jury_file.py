@@ -167,7 +167,7 @@ def _places(number: int, words: Sequence[str], names: Sequence[str]) -> list[int
 
 
 def _check_number(lines: Sequence[tuple[int, list[str]]]) -> None:
-    """Refuses a text that has not 1 to 255 ballots after its first line."""
+    """Refuses a text that does not have 1 to 255 ballots after its first line."""
     if len(lines) > 1 + MOST_BALLOTS:
         raise BadJury(lines[MOST_BALLOTS + 1][0], f"there are at most {MOST_BALLOTS} ballots")
     if len(lines) == 1:

@@ -1,4 +1,4 @@
-"""The core's exported functions: where the library is, how each is called, and refusals as exceptions.
+"""Finds the core's library, calls its exported functions, and raises refusals as exceptions.
 
 The library is, in this order,
   1. the shared object that the environment variable JUGYVAROS_LIBRARY names,
@@ -32,7 +32,7 @@ def path() -> pathlib.Path:
     given = os.environ.get("JUGYVAROS_LIBRARY")
     if given:
         if not pathlib.Path(given).is_file():
-            raise NotBuilt(f"JUGYVAROS_LIBRARY names {given}, which is no file; name the core's shared object")
+            raise NotBuilt(f"JUGYVAROS_LIBRARY names {given}, which is not a file; name the core's shared object")
         return pathlib.Path(given)
     if repository.ROOT is not None:
         return repository.shared_object()
@@ -66,7 +66,7 @@ def size(number: int) -> int:
 
 
 def _code(argument: int | Buffer) -> str:
-    """An argument's kind, as signatures have it."""
+    """The code of an argument, as in SIGNATURES."""
     if isinstance(argument, int):
         return "n"
     return argument.typecode if isinstance(argument, array.array) else "B"
@@ -91,17 +91,17 @@ def wipe(*buffers: bytearray | array.array[int]) -> None:
 
 
 def call(name: str, *arguments: int | Buffer, answers: int, place_of: str | None = None) -> list[int]:
-    """Calls a function with numbers and buffers, and returns its answer after reason and place. `answers` is the length
-    of the whole answer.
+    """Calls a function with numbers and buffers, and returns its answer without reason and place. `answers` is the
+    length of the whole answer.
 
-    A refusal is raised. `place_of` says what its place counts, if this call counts something else than usual.
+    A refusal is raised. `place_of` says what its place counts, if that is not what the header says.
     """
     answer = array.array("L", bytes(8 * answers))
     prepared: list[Any] = []
     given = (*arguments, answer)
     codes = "".join(map(_code, given))
     if codes != SIGNATURES[name]:
-        raise TypeError(f"{name} is handed {SIGNATURES[name]}, not {codes}")
+        raise TypeError(f"{name} takes {SIGNATURES[name]}, not {codes}")
     for argument in given:
         prepared.extend([size(argument)] if isinstance(argument, int) else _lent(argument))
     reason = function(name)(*prepared)

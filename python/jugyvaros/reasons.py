@@ -10,8 +10,8 @@ from ._header import WORDS
 
 # The season sheet is a program without an exported function, so the header does not have its reasons.
 SHEET = {
-    21: ("SHEET_LENGTH", "the file is no whole number of runs, or has more than 4,096", ""),
-    22: ("SHEET_RUN", "a run has a shape outside its limits, or a winner who is no candidate", "the run"),
+    21: ("SHEET_LENGTH", "the file is not a whole number of runs, or has more than 4,096", ""),
+    22: ("SHEET_RUN", "a run has a shape outside its limits, or a winner who is not a candidate", "the run"),
 }
 REASONS = {**WORDS, **SHEET}
 
@@ -29,19 +29,19 @@ ADVICE = {
     11: "a candidate is never before itself, and of two at most one is before the other",
     12: "if one candidate is before another, every third is after the first or before the second",
     13: "start from an empty urn, and change it only by admitting and withdrawing",
-    14: "jurors are numbered 1 to 255, and each is in once",
+    14: "jurors are numbered 1 to 255; admit each only once, and withdraw only those who are in",
     15: "make the urn with more slots, or withdraw a ballot first",
     16: "there are 2 to 5 trustees",
     17: "make a dealing for this list and these ballots",
     18: "deal again: all shares are bits, and they add up to the ballots and to the products",
     19: "dispatch 1 to 8 juries at a time",
-    20: "give each jury 1 to 65,536 gates a round",
+    20: "take 1 to 65,536 gates per round",
     21: "a run is 12 bytes; start a new file for the next season",
     22: "remove that run from the file",
     23: "write a kind and its operands in decimal, single spaces, a line feed after each line",
-    24: "pass a longer output",
+    24: "pass a longer output buffer",
     200: "use the levels that the core writes for this list",
-    201: "the rounds of a list are 0 to the largest of its levels",
+    201: "rounds are numbered 0 to the list's largest level",
     202: "pass two bits for each conditional gate, 0 if a sum is not known yet",
 }
 

@@ -89,7 +89,7 @@ def shared_object() -> pathlib.Path:
 
 
 def link(source: pathlib.Path, made: pathlib.Path) -> None:
-    """Makes a shared object from an archive. A program that loads it meanwhile finds the old one or the new one."""
+    """Makes a shared object from an archive. A program that loads it meanwhile never finds a half-written one."""
     half = made.with_name(f".{made.name}.{os.getpid()}")
     _build("cc", "-shared", "-o", half, "-Wl,--whole-archive", source, "-Wl,--no-whole-archive")
     os.replace(half, made)
@@ -100,13 +100,13 @@ def program(name: str) -> pathlib.Path:
     made = root() / "target/bin" / name
     if _is_older(made):
         _build("rt", "check", name)
-        # if a source was only touched, the build leaves the program as it was; do not look at it again
+        # the build does not rewrite a program whose sources were only touched; touch it, so that it is not built again
         made.touch()
     return made
 
 
 def native(name: str) -> pathlib.Path:
-    """A program of the Rust wrapper, linked with the archive; both are built first where a source is newer."""
+    """A program of the Rust wrapper, linked with the archive; both are built first if a source is newer."""
     archive()
     folder = root() / "target/rust"
     _build("cargo", "build", "--quiet", "--release", "--offline", "--manifest-path", root() / "rust/Cargo.toml",

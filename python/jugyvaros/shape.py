@@ -74,7 +74,7 @@ class Shape(NamedTuple):
 
 
 def winners_of(closing: Iterable[int]) -> tuple[int, ...]:
-    """The winners by closing bytes: candidates from 0, in order."""
+    """The candidates, from 0 and in order, whose closing byte is 1."""
     return tuple(candidate for candidate, bit in enumerate(closing) if bit)
 
 

@@ -1,4 +1,4 @@
-"""A trustee on its own machine: it holds its own tables, and hears nothing of the others but opened sums."""
+"""A trustee on its own machine: it holds its own tables, and learns nothing from the others but opened sums."""
 
 from __future__ import annotations
 
@@ -33,7 +33,7 @@ class Trustee:
     __slots__ = ("gates", "trustees", "number", "rounds", "_levels", "_triples", "_wires", "_published")
 
     def __init__(self, gates: GateList, trustees: int, number: int) -> None:
-        """Takes the list that all run. The numbers of trustees are tested by `start`."""
+        """Takes the list that all trustees run. `start` tests the two numbers."""
         self.gates, self.trustees, self.number = gates, trustees, number
         self._levels = array.array("I", bytes(4 * len(gates)))
         self.rounds = call("jugy_levels", *gates.shape, gates.table, self._levels, answers=5)[2]
@@ -53,7 +53,7 @@ class Trustee:
 
     def round(self, number: int, heard: bytes) -> bytes:
         """Does a round, and returns all that this trustee has published so far: two bits for each conditional gate, 0
-        until its level comes, then a closing bit for each candidate, 0 until the last round.
+        until the round before its level, then a closing bit for each candidate, 0 until the last round.
 
         `heard` has the two sums of each conditional gate, 0 if they are not known yet.
         """

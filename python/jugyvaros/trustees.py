@@ -1,4 +1,4 @@
-"""Trustees who each hold one bit of every wire. Not even all of them but one can see a ballot."""
+"""Trustees who each hold one bit of every wire. All but one of them together learn only the result."""
 
 from __future__ import annotations
 
@@ -42,10 +42,10 @@ def _split(bits: bytes, trustees: int) -> list[bytes]:
 
 
 def deal(gates: GateList, ballots: bytes, trustees: int) -> Dealing:
-    """Splits ballots among 2 to 5 trustees and deals a triple for each conditional gate, with fresh secret bits.
+    """Shares the ballots, and a triple for each conditional gate, among 2 to 5 trustees, with fresh secret bits.
 
-    Whoever calls this sees the ballots. In a real tally each juror would split their own ballot, and a dealer would
-    deal the triples.
+    Whoever calls this sees the ballots. In a real tally each juror would share their own ballot, and a dealer the
+    triples.
     """
     number = max(1, min(trustees, 6))
     first, second = (bytes(fresh_tape(gates.conditional)) for _ in range(2))
@@ -80,5 +80,5 @@ def tally(gates: GateList, ballots: bytes, dealing: Dealing) -> Tally:
 
 
 def _joined(pieces: Sequence[bytes], length: int) -> bytearray:
-    """The pieces one after another. If one has the wrong length, a single byte, whose length the core refuses."""
+    """Joins the pieces. If one has the wrong length, returns a single byte instead, whose length the core refuses."""
     return bytearray().join(pieces) if all(len(piece) == length for piece in pieces) else bytearray(1)

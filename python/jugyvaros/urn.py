@@ -1,4 +1,4 @@
-"""An urn for graded ballots, which go in and come out while tasting goes on."""
+"""An urn for graded ballots, which are admitted and withdrawn while tasting goes on."""
 
 from __future__ import annotations
 
@@ -24,7 +24,7 @@ class Urn:
     def __init__(self, candidates: int, grades: int, slots: int = MOST_SLOTS) -> None:
         """An empty urn of 2 to 256 slots. It has room for one ballot fewer."""
         self.candidates, self.grades = candidates, grades
-        # no urn is longer than this: the core refuses larger numbers
+        # the core refuses larger numbers too, so no longer table is needed
         self._bytes = bytearray(max(0, min(slots, MOST_SLOTS + 1)) * (2 + min(max(candidates * grades, 0), 56)))
         call("jugy_empty_urn", candidates, grades, self._bytes, answers=3)
 

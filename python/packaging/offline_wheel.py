@@ -1,8 +1,8 @@
 """Builds the wheel for pip, with the standard library only: nothing is fetched, so it works without a network.
 
-The wheel holds the package and a copy of the core's shared object. That is linked from
-target/staticlib/libjugyvaros.a of the checkout, which is proved and built first if a source is newer; or it is the one
-that JUGYVAROS_LIBRARY names.
+The wheel holds the package and a copy of the core's shared object: the file that JUGYVAROS_LIBRARY names, if it is set;
+otherwise one linked from the checkout's target/staticlib/libjugyvaros.a, which is proved and built first if a source is
+newer.
 """
 
 import base64
@@ -38,7 +38,7 @@ def _metadata():
 
 
 def _write(folder, files, tag):
-    """A wheel of these files, with their hashes as its record."""
+    """Writes a wheel of these files, with a record of their hashes, and returns its name."""
     about = f"{NAME}.dist-info"
     kind = f"Wheel-Version: 1.0\nGenerator: jugyvaros\nRoot-Is-Purelib: false\nTag: {tag}\n"
     files = {**files, f"{about}/METADATA": _metadata().encode(), f"{about}/WHEEL": kind.encode()}
@@ -67,4 +67,4 @@ def build_editable(wheel_directory, config_settings=None, metadata_directory=Non
 
 
 def build_sdist(sdist_directory, config_settings=None):
-    raise NotImplementedError("the core's sources stand outside this folder; build a wheel from a checkout")
+    raise NotImplementedError("the core's sources are outside this folder; build a wheel from a checkout")

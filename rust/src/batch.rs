@@ -10,8 +10,8 @@ use std::io;
 /// How many juries one call runs.
 pub const JURIES: usize = 64;
 
-/// Packs the bytes of up to 64 juries into numbers: bit j of number i is byte i of jury j. All juries have equally many
-/// bytes, each 0 or 1. Juries that are missing get zeros.
+/// Packs the bytes of up to 64 juries into numbers: bit j of number i is byte i of jury j. All juries have the same
+/// number of bytes, each 0 or 1. Missing juries are all zeros.
 ///
 /// # Panics
 /// If there are more than 64 juries, their lengths differ, or a byte is above 1.
@@ -21,7 +21,7 @@ pub fn pack<T: AsRef<[u8]>>(juries: &[T]) -> Secret<u64> {
     let mut words = Secret::zeros(length);
     for (j, bytes) in juries.iter().enumerate() {
         let bytes = bytes.as_ref();
-        assert!(bytes.len() == length, "the juries have lists of one length");
+        assert!(bytes.len() == length, "all juries have the same number of bytes");
         for (word, &byte) in words.iter_mut().zip(bytes) {
             assert!(byte <= 1, "a byte is 0 or 1");
             *word |= u64::from(byte) << j;
@@ -43,8 +43,8 @@ pub fn unpack(words: &[u64], j: usize) -> Secret<u8> {
     bytes
 }
 
-/// Runs a list on the ballots of 64 juries, with one tape number for each conditional gate. Lengths count numbers, as
-/// many as a single run has bytes. Reasons 5 and 8 never apply. `wires` is all zero afterwards.
+/// Runs a list on the ballots of 64 juries, with one tape number for each conditional gate. Each slice has as many
+/// numbers as a single run has bytes. Reasons 5 and 8 never apply. `wires` is all zero afterwards.
 pub fn run(
     shape: Shape,
     table: &[u32],
@@ -57,8 +57,8 @@ pub fn run(
         .map_err(|refusal| located(shape, ballots, refusal))
 }
 
-/// For a fault in ballots, the core answers the first jury with it as the place. Counting that jury alone tells where
-/// in its ballots the fault is.
+/// For a fault in ballots, the place that the core answers is the first jury with the fault. A plain count of that jury
+/// then tells where in its ballots the fault is.
 fn located(shape: Shape, ballots: &[u64], refusal: Refusal) -> JuryRefusal {
     match refusal.reason {
         Reason::BallotRow | Reason::NotAsymmetric | Reason::NotWeakOrder => {

@@ -4,8 +4,8 @@
 use crate::{Reason, Refusal};
 
 pub(crate) mod c {
-    /// Declares the entry points that run a list. They differ in name and in the element type of ballots, tape, wires
-    /// and board.
+    /// Declares the entry points that run a list. They differ only in name and in the element type of ballots, tape,
+    /// wires and board.
     macro_rules! runs {
         ($($name:ident($item:ty);)*) => {
             extern "C" {
@@ -98,7 +98,7 @@ impl Shape {
         [self.candidates, self.grades, self.ballots]
     }
 
-    /// I, the ballot bytes of a jury, if the shape is within its limits.
+    /// I, the ballot bytes of a jury. The shape must be within its limits, so that the product cannot overflow.
     pub(crate) fn inputs(self) -> usize {
         let columns = if self.is_ranked() { self.candidates } else { self.grades };
         self.ballots * self.candidates * columns
@@ -145,7 +145,7 @@ pub(crate) fn answered<const N: usize>(call: impl FnOnce(*mut usize, usize) -> u
     }
 }
 
-/// The same for an entry point that answers G and C.
+/// The same, for an entry point that answers G and C.
 pub(crate) fn sized(call: impl FnOnce(*mut usize, usize) -> usize) -> Result<Size, Refusal> {
     answered(call).map(|[_, _, gates, conditional]| Size { gates, conditional })
 }
@@ -153,7 +153,7 @@ pub(crate) fn sized(call: impl FnOnce(*mut usize, usize) -> usize) -> Result<Siz
 /// Measures a shape's own list.
 pub fn measure(shape: Shape) -> Result<Measures, Refusal> {
     let [k, d, n] = shape.numbers();
-    // SAFETY: the answer array is a live local of `answered`, borrowed by this call alone.
+    // SAFETY: the answer array is a live local of `answered`, borrowed only by this call.
     answered(|answer, length| unsafe { c::jugy_measure(k, d, n, answer, length) })
         .map(|[_, _, gates, conditional, inputs]| Measures { gates, conditional, inputs })
 }

@@ -1,4 +1,4 @@
-//! Up to eight juries in rounds. This module makes the tables, which `c/jugyvaros.h` draws, from a list of juries.
+//! Up to eight juries in rounds. This module makes the call's tables from a list of juries; `c/jugyvaros.h` draws them.
 
 use crate::calls::answered;
 use crate::{run, Board, GateList, JuryRefusal, Reason, Refusal, Secret, Shape};
@@ -39,7 +39,7 @@ pub struct Jury<'a> {
     pub tape: &'a [u8],
 }
 
-/// Says how long the pieces are and not what they hold.
+/// Shows how long the pieces are, not what they hold: ballots and tape are secret.
 impl std::fmt::Debug for Jury<'_> {
     fn fmt(&self, f: &mut std::fmt::Formatter<'_>) -> std::fmt::Result {
         let (numbers, ballots, tape) = (self.table.len(), self.ballots.len(), self.tape.len());
@@ -48,8 +48,8 @@ impl std::fmt::Debug for Jury<'_> {
 }
 
 impl Jury<'_> {
-    /// Makes all tests of a run on this jury's data. A run with an empty wire table passes every test up to the one of
-    /// that table's length, and changes nothing.
+    /// Makes all tests of a run on this jury's data. A run with an empty wire table makes every test before that of the
+    /// table's length, which then refuses it, so nothing changes.
     fn test(&self) -> Result<(), Refusal> {
         match run(self.shape, self.table, self.ballots, self.tape, &mut [], &mut []) {
             Err(Refusal { reason: Reason::WiresLength, .. }) | Ok(_) => Ok(()),
@@ -61,7 +61,7 @@ impl Jury<'_> {
 /// A finished jury: how many rounds it took, and its board.
 #[derive(Clone, Debug, PartialEq, Eq)]
 pub struct Finished {
-    /// In how many rounds the jury did gates.
+    /// The number of rounds in which the jury did gates.
     pub rounds: usize,
     /// Its board, the same as after an undivided run.
     pub board: Board,
@@ -96,10 +96,10 @@ impl Tables {
         }
     }
 
-    /// Calls the core: each jury's number of rounds, or the reason with its jury as place.
+    /// Calls the core, and returns each jury's number of rounds. The place of a refusal is the jury.
     fn run(&mut self, juries: usize, gates_per_round: usize) -> Result<[usize; 8], Refusal> {
-        // SAFETY: every pointer comes from a vector and is handed over with its length; what is written is
-        // borrowed mutably.
+        // SAFETY: every pointer comes from a vector and is passed with its length; whatever is written is borrowed
+        // mutably.
         let [_, _, rounds @ ..]: [usize; 10] = answered(|answer, length| unsafe {
             c::jugy_dispatch(
                 juries,
@@ -124,7 +124,7 @@ impl Tables {
     }
 }
 
-/// Refuses a bad number of juries or of gates per round: with empty tables these reasons come first.
+/// Refuses a bad number of juries or of gates per round. Empty tables are refused too, but these reasons come first.
 fn test_call(juries: usize, gates_per_round: usize) -> Result<(), Refusal> {
     match Tables::of(&[]).run(juries, gates_per_round) {
         Err(refusal) if matches!(refusal.reason, Reason::Juries | Reason::GatesPerRound) => Err(refusal),
@@ -178,18 +178,18 @@ pub struct Dispatch<'a> {
 }
 
 impl<'a> Dispatch<'a> {
-    /// Starts without juries. Each one added does up to `gates_per_round` gates a round.
+    /// Starts without juries. In each round, every jury does up to `gates_per_round` gates.
     pub fn new(gates_per_round: usize) -> Dispatch<'a> {
         Dispatch { gates_per_round, juries: Vec::new() }
     }
 
-    /// Adds a jury after those that are there, and returns its number.
+    /// Adds a jury after the others, and returns its number.
     pub fn add(&mut self, list: &'a GateList, ballots: &'a [u8], tape: &'a [u8]) -> usize {
         self.juries.push(Jury { shape: list.shape(), table: list.table(), ballots, tape });
         self.juries.len() - 1
     }
 
-    /// Runs all of them. Do not use their tapes again.
+    /// Runs all juries. Do not use their tapes again.
     pub fn run(self) -> Result<Vec<Finished>, JuryRefusal> {
         dispatch(&self.juries, self.gates_per_round)
     }

@@ -40,7 +40,7 @@ impl Depths {
 /// Writes the level of each gate: `levels` is G numbers.
 pub fn levels(shape: Shape, table: &[u32], levels: &mut [u32]) -> Result<Depths, Refusal> {
     let [k, d, n] = shape.numbers();
-    // SAFETY: every pointer comes from a slice and is handed over with its length; what is written is borrowed mutably.
+    // SAFETY: every pointer comes from a slice and is passed with its length; whatever is written is borrowed mutably.
     answered(|answer, length| unsafe {
         c::jugy_levels(k, d, n, table.as_ptr(), table.len(), levels.as_mut_ptr(), levels.len(), answer, length)
     })

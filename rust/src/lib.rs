@@ -16,13 +16,13 @@
 //! # Ok::<(), Box<dyn std::error::Error>>(())
 //! ```
 //!
-//! There are other ways to run a list: an [`Urn`] that ballots go into and come out of while tasting goes on;
-//! [`trustees`] who each hold a share of every bit; a [`trustee`] on its own machine, who needs the [`levels`] of the
-//! list; a [`Dispatch`] of up to eight juries in rounds; and a [`Batch`] of 64 juries at once.
+//! There are other ways to run a list: on the ballots in an [`Urn`], which are admitted and withdrawn while tasting
+//! goes on; by [`trustees`] who each hold a share of every bit; by a [`trustee`] on its own machine, who needs the
+//! [`levels`] of the list; as a [`Dispatch`] of up to eight juries in rounds; and as a [`Batch`] of 64 juries at once.
 //!
-//! These types own their buffers. Those that held ballots or tapes are emptied when they are dropped. Below them, each
-//! function with the name of an entry point of `c/jugyvaros.h` works on the caller's slices and returns what the entry
-//! point answers. A call that returns a [`Refusal`] has changed nothing.
+//! These types own their buffers. Those that held ballots or tapes are emptied when they are dropped. One layer below,
+//! a function that is named after an entry point of `c/jugyvaros.h` works on the caller's slices and returns what the
+//! entry point answers. A call that returns a [`Refusal`] has changed nothing.
 
 #![deny(missing_docs)]
 

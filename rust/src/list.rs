@@ -5,7 +5,7 @@ use crate::trustees::{self, Dealing, Tally};
 use crate::{list_of_text, measure, test, text, winners, write, Refusal, Secret, Shape, Size, Urn};
 use std::io;
 
-/// A circuit for one shape of jury, tested when it was made: its runs are never refused for the list.
+/// A circuit for one shape of jury. It is tested when it is made, so no run is refused because of the list.
 ///
 /// ```
 /// use jugyvaros::{GateList, Reason, Shape};
@@ -16,7 +16,7 @@ use std::io;
 /// assert_eq!((list.gates(), list.conditional(), list.inputs()), (1, 0, 2));
 /// assert_eq!(list.text(), "2 0\n");
 /// assert_eq!(list.run(&[1, 0], &[])?.closing(), [1]);
-/// // wire 2 is the gate's own, so it is no operand
+/// // wire 2 is the gate's own, so it cannot be an operand
 /// let refusal = GateList::new(shape, vec![2, 2, 0, 0]).unwrap_err();
 /// assert_eq!((refusal.reason, refusal.place), (Reason::Gate, 0));
 /// # Ok::<(), jugyvaros::Refusal>(())
@@ -99,8 +99,8 @@ impl GateList {
         self.levels().into_iter().max().unwrap_or(0) as usize
     }
 
-    /// A fresh tape from the system's random numbers. Use it for one run: a tape that is used twice gives away what the
-    /// wires hold.
+    /// A fresh tape from the system's random numbers. Use it for one run only: a tape that is used twice reveals what
+    /// the wires hold.
     pub fn fresh_tape(&self) -> io::Result<Secret<u8>> {
         Secret::random_bits(self.conditional())
     }
@@ -122,8 +122,8 @@ impl GateList {
         Ok(Board::new(board, self.conditional()))
     }
 
-    /// Shares the ballots, and a triple for each conditional gate, among 2 to 5 trustees. The randomness is the
-    /// system's.
+    /// Shares the ballots, and a triple for each conditional gate, among 2 to 5 trustees, with the system's random
+    /// numbers.
     pub fn deal(&self, ballots: &[u8], trustees: usize) -> io::Result<Dealing> {
         Dealing::fresh(ballots, self.conditional(), trustees)
     }

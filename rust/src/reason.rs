@@ -3,7 +3,7 @@
 
 use std::fmt;
 
-/// Makes the enum of the reasons and the table of their words from one row a reason.
+/// Makes the enum of the reasons and the table of their words from one row for each reason.
 macro_rules! reasons {
     ($($name:ident = $number:literal: $words:literal $(at $unit:literal)?;)*) => {
         /// Why a call is refused. The numbers are those of docs/REQUIREMENTS.md and `c/jugyvaros.h`.
@@ -41,11 +41,11 @@ macro_rules! reasons {
 
 reasons! {
     Shape = 1: "k, d or n is outside its limits";
-    Table = 2: "writing: no room in the gate table; otherwise: not k to 1,048,576 whole gates";
+    Table = 2: "writing: the table is too short; otherwise: not k to 1,048,576 whole gates";
     Gate = 3: "a bad kind or operand" at "the gate";
-    BallotsLength = 4: "there are not I ballot bytes";
+    BallotsLength = 4: "the number of ballot bytes is not I";
     BallotByte = 5: "a byte of a ballot is neither 0 nor 1" at "the byte";
-    BallotRow = 6: "graded: a row with no 1 or several" at "the row, b k + c";
+    BallotRow = 6: "graded: a row has no 1, or more than one" at "the row, b k + c";
     TapeLength = 7: "the tape's length is not C";
     TapeByte = 8: "a byte of the tape is neither 0 nor 1" at "the byte";
     WiresLength = 9: "the wire table's length is not I + G";
@@ -53,27 +53,27 @@ reasons! {
     NotAsymmetric = 11: "ranked: two before each other, or one before itself" at "the first such byte";
     NotWeakOrder = 12: "ranked: i is before j, a third is not after i and not before j" at "the ballot";
     Urn = 13: "the urn is not sound";
-    Juror = 14: "the juror is not 1 to 255, or is in already (admission), or not in (withdrawal)";
+    Juror = 14: "the juror is not 1 to 255, or is already in (admission), or not in (withdrawal)";
     FullUrn = 15: "the urn has no free slot";
     Trustees = 16: "there are fewer than 2 or more than 5 trustees";
     PartTables = 17: "one of the trustees' four tables has the wrong length";
-    Dealing = 18: "a part is neither 0 nor 1, or parts do not add up to their ballot byte or product";
+    Dealing = 18: "a share is neither 0 nor 1, or shares do not add up to a ballot byte or product";
     Juries = 19: "there are no juries, or more than 8";
     GatesPerRound = 20: "gates_per_round is 0 or above 65,536";
     Line = 23: "a malformed line, an unknown kind, or a number of 2^32 or more" at "the line";
     Output = 24: "the output is too short";
-    Levels = 200: "the level table is not G numbers long, or holds other levels than the list's";
+    Levels = 200: "the level table is not G numbers long, or its levels are not the list's";
     Round = 201: "the round is above R";
     Heard = 202: "the sums heard are not 2 C bits";
 }
 
 impl Reason {
-    /// The reason of that number, if there is one.
+    /// The reason with this number, if there is one.
     pub fn of(number: usize) -> Option<Reason> {
         Reason::ALL.iter().copied().find(|reason| reason.number() == number)
     }
 
-    /// The number that the requirements give it.
+    /// Its number in the requirements.
     pub fn number(self) -> usize {
         self as usize
     }

@@ -12,7 +12,7 @@ impl Number for u64 {}
 
 /// Numbers of a fixed length that are overwritten with zeros when they are dropped: ballots, tapes, urns and dealings.
 ///
-/// It reads like a slice. A clone is a secret too; whatever else is copied out of it, the caller has to empty.
+/// It reads like a slice. A clone is a secret too; the caller has to empty anything else that is copied out of it.
 ///
 /// ```
 /// use jugyvaros::Secret;
@@ -30,7 +30,7 @@ impl<T: Number> Secret<T> {
         Secret(vec![T::default(); length])
     }
 
-    /// The pieces one after another. The buffer is allocated at full length, so that no copy is left by growing it.
+    /// The pieces one after another. The buffer is allocated at full length, because growing it would leave a copy.
     pub fn join<'a>(pieces: impl Iterator<Item = &'a [T]> + Clone) -> Self
     where
         T: 'a,
@@ -98,11 +98,11 @@ impl<T: Number> std::fmt::Debug for Secret<T> {
 
 impl<T: Number> Drop for Secret<T> {
     fn drop(&mut self) {
-        // after the length there may be numbers from before the vector was truncated
+        // a truncated vector still holds numbers past its length, so all of its capacity is overwritten
         self.0.clear();
         for number in self.0.spare_capacity_mut() {
-            // SAFETY: `number` is an aligned element of the buffer. The write is volatile, so that the optimiser keeps
-            // it though nobody reads it again.
+            // SAFETY: `number` is an aligned element of the buffer. The optimiser must keep a volatile write, even if
+            // nobody reads it.
             unsafe { std::ptr::write_volatile(number.as_mut_ptr(), T::default()) };
         }
         compiler_fence(Ordering::SeqCst);

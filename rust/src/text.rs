@@ -52,7 +52,7 @@ pub fn read_text(shape: Shape, text: &[u8], output: &mut [u32]) -> Result<usize,
     .map(|[_, _, numbers]| numbers)
 }
 
-/// The longest line of a gate: a kind, three operands of ten digits, and what is between.
+/// Enough for any line: four numbers of up to ten digits, three spaces and a line feed.
 const LINE: usize = 44;
 
 /// The text of a list, as a string.

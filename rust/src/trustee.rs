@@ -1,4 +1,4 @@
-//! A trustee on its own machine: it holds its own tables, and hears nothing of the others but opened sums.
+//! A trustee on its own machine: it holds its own tables, and learns nothing from the others but opened sums.
 //!
 //! All trustees start, then do the rounds 0 to R together. `c/jugyvaros.h` says what the tables hold and what may be
 //! sent. The program `houses` runs each trustee as a process.
@@ -87,7 +87,7 @@ impl Seat<'_> {
         published: &mut [u8],
     ) -> Result<Size, Refusal> {
         let [k, d, n] = self.shape.numbers();
-        // SAFETY: every pointer comes from a slice and is handed over with its length; what is written is a `&mut`.
+        // SAFETY: every pointer comes from a slice and is passed with its length; whatever is written is a `&mut`.
         sized(|answer, length| unsafe {
             c::jugy_trustee_start(
                 k,
@@ -123,7 +123,7 @@ impl Seat<'_> {
         published: &mut [u8],
     ) -> Result<Depths, Refusal> {
         let [k, d, n] = self.shape.numbers();
-        // SAFETY: every pointer comes from a slice and is handed over with its length; what is written is a `&mut`.
+        // SAFETY: every pointer comes from a slice and is passed with its length; whatever is written is a `&mut`.
         answered(|answer, length| unsafe {
             c::jugy_trustee_round(
                 k,
@@ -151,10 +151,10 @@ impl Seat<'_> {
         .map(Depths::of)
     }
 
-    /// Empties its shares of the wires. Call it once the closing bits have been sent.
+    /// Empties its shares of the wires. Call it after the closing bits have been sent.
     pub fn finish(&self, wires: &mut [u8]) -> Result<Size, Refusal> {
         let [k, d, n] = self.shape.numbers();
-        // SAFETY: every pointer comes from a slice and is handed over with its length; what is written is a `&mut`.
+        // SAFETY: every pointer comes from a slice and is passed with its length; whatever is written is a `&mut`.
         sized(|answer, length| unsafe {
             c::jugy_trustee_finish(
                 k,

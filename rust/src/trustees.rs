@@ -1,5 +1,5 @@
-//! A tally by trustees, each of whom holds a share of every wire: one bit. Modulo 2, all trustees' bits add up to the
-//! wire. `c/jugyvaros.h` draws the four tables.
+//! A tally by trustees. Each holds a share of every wire: one bit. The sum of all shares modulo 2 is the wire.
+//! `c/jugyvaros.h` describes the four tables.
 //!
 //! Use a dealing for one tally only: its bits have to be random, secret and fresh, or the trustees learn more than the
 //! closing bytes. Whoever deals, and whoever calls the tally, sees the plain ballots.
@@ -59,9 +59,9 @@ pub struct Dealing {
 }
 
 impl Dealing {
-    /// A dealing for a list of `conditional` conditional gates, by the system's random numbers. For a number of
-    /// trustees outside 2 to 5, the tables are those of the nearest number; the field `trustees` keeps the number
-    /// given, and the tally refuses it.
+    /// A dealing for a list of `conditional` conditional gates, with the system's random numbers. For a number of
+    /// trustees outside 2 to 5, the tables are made for the nearest number in that range; the field `trustees` keeps
+    /// the number given, which the tally refuses.
     pub fn fresh(ballots: &[u8], conditional: usize, trustees: usize) -> io::Result<Dealing> {
         let t = trustees.clamp(2, 5);
         let random = Secret::random_bits(ballots.len() * (t - 1) + conditional * (2 + 3 * (t - 1)))?;
@@ -127,7 +127,7 @@ pub fn tally(
     published: &mut [u8],
 ) -> Result<Tallied, Refusal> {
     let [k, d, n] = shape.numbers();
-    // SAFETY: every pointer comes from a slice and is handed over with its length; what is written is borrowed mutably.
+    // SAFETY: every pointer comes from a slice and is passed with its length; whatever is written is borrowed mutably.
     let [_, _, gates, conditional, closing @ ..]: [usize; 12] = answered(|answer, length| unsafe {
         c::jugy_trustees(
             k,
@@ -180,7 +180,7 @@ impl Tally {
     }
 }
 
-/// Tallies by a list, with tables of the right lengths. A number of trustees outside 2 to 5 is refused.
+/// Tallies with a list, with tables of the right lengths. A number of trustees outside 2 to 5 is refused.
 pub(crate) fn tally_list(list: &GateList, ballots: &[u8], dealing: &Dealing) -> Result<Tally, Refusal> {
     let (t, each) = (dealing.trustees.clamp(2, 5), 2 * list.conditional() + list.shape().candidates);
     let mut wires = Secret::zeros(t * list.wires());

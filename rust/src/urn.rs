@@ -1,5 +1,5 @@
 //! An urn for graded ballots: admission, withdrawal, previews of both, and a run on the ballots in it.
-//! `c/jugyvaros.h` draws the bytes of an urn and says when it is sound.
+//! `c/jugyvaros.h` describes the bytes of an urn, and says when it is sound.
 //!
 //! Each call returns the number of ballots in the urn afterwards. If it returns a refusal, the urn is unchanged.
 
@@ -66,7 +66,7 @@ fn ballots(call: impl FnOnce(*mut usize, usize) -> usize) -> Result<usize, Refus
 
 /// Makes a table into an empty urn, whatever its bytes are. All its slots are free, in order.
 pub fn empty(k: usize, d: usize, urn: &mut [u8]) -> Result<usize, Refusal> {
-    // SAFETY: every pointer comes from a slice and is handed over with its length; what is written is borrowed mutably.
+    // SAFETY: every pointer comes from a slice and is passed with its length; whatever is written is borrowed mutably.
     ballots(|answer, length| unsafe { c::jugy_empty_urn(k, d, urn.as_mut_ptr(), urn.len(), answer, length) })
 }
 
@@ -88,7 +88,7 @@ pub fn withdraw(k: usize, d: usize, urn: &mut [u8], juror: usize) -> Result<usiz
 /// What `admit` would return. The urn is not changed.
 pub fn preview_admit(k: usize, d: usize, urn: &[u8], juror: usize, ballot: &[u8]) -> Result<usize, Refusal> {
     let (bytes, size) = (ballot.as_ptr(), ballot.len());
-    // SAFETY: as in `empty`; the urn is read alone.
+    // SAFETY: as in `empty`; the urn is only read.
     ballots(|answer, length| unsafe {
         c::jugy_preview_admit(k, d, urn.as_ptr(), urn.len(), juror, bytes, size, answer, length)
     })
@@ -96,7 +96,7 @@ pub fn preview_admit(k: usize, d: usize, urn: &[u8], juror: usize, ballot: &[u8]
 
 /// What `withdraw` would return. The urn is not changed.
 pub fn preview_withdraw(k: usize, d: usize, urn: &[u8], juror: usize) -> Result<usize, Refusal> {
-    // SAFETY: as in `empty`; the urn is read alone.
+    // SAFETY: as in `empty`; the urn is only read.
     ballots(|answer, length| unsafe { c::jugy_preview_withdraw(k, d, urn.as_ptr(), urn.len(), juror, answer, length) })
 }
 
@@ -138,7 +138,7 @@ pub struct Urn {
 impl Urn {
     /// An empty urn of 2 to 256 slots. Slot 0 holds no ballot, so there is room for one ballot fewer.
     pub fn new(candidates: usize, grades: usize, slots: usize) -> Result<Urn, Refusal> {
-        // one above each limit is refused like any larger number, so no longer table is needed
+        // a number one above its limit is refused like any larger one, so no longer table is needed
         let mut bytes = Secret::zeros(slots.min(257) * (2 + candidates.min(9) * grades.min(8)));
         empty(candidates, grades, &mut bytes)?;
         Ok(Urn { candidates, grades, bytes })

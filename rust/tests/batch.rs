@@ -1,4 +1,4 @@
-//! Runs for 64 juries: each jury as in its single run, and refusals that name the jury.
+//! Runs for 64 juries: each jury gets what its single run gives, and refusals name the jury.
 mod common;
 
 use common::{ballots, numbers, refusal};
@@ -46,7 +46,7 @@ fn a_refusal_says_which_jury_and_where_in_it() {
     assert_eq!(bad_row, JuryRefusal { jury: Some(63), refusal: Refusal { reason: Reason::BallotRow, place: 1 } });
     assert_eq!((bad_row.reason(), bad_row.place()), (Reason::BallotRow, 63));
     let jury = "(place 63, counted from 0: the jury; in it, place 1: the row, b k + c)";
-    assert_eq!(bad_row.to_string(), format!("refused 6 63: graded: a row with no 1 or several {jury}"));
+    assert_eq!(bad_row.to_string(), format!("refused 6 63: graded: a row has no 1, or more than one {jury}"));
     // rankings: 11 in jury 5 comes before 12 in jury 4
     let located = |jury, reason, place| JuryRefusal { jury, refusal: Refusal { reason, place } };
     let ranked = Shape::ranked(3, 1);

@@ -132,7 +132,7 @@ fn refusals_name_the_first_bad_jury() {
     assert_eq!((said(&bad, 1).reason(), said(&bad, 1).place()), (Reason::BallotsLength, 2));
     assert_eq!(
         said(&bad, 1).to_string(),
-        "refused 4 2: there are not I ballot bytes (place 2, counted from 0: the jury)"
+        "refused 4 2: the number of ballot bytes is not I (place 2, counted from 0: the jury)"
     );
     let mut gates = of.lists[1].table().to_vec();
     gates[4] = 8;

@@ -34,7 +34,7 @@ unsafe impl GlobalAlloc for Looking {
 #[global_allocator]
 static ALLOCATOR: Looking = Looking;
 
-/// How many buffers of that length were freed meanwhile, and how many of them were not empty.
+/// How many buffers of that length `work` frees, and how many of them are not empty.
 fn left(length: usize, work: impl FnOnce()) -> (usize, usize) {
     SEEN.store(0, SeqCst);
     FULL.store(0, SeqCst);
@@ -47,7 +47,7 @@ fn left(length: usize, work: impl FnOnce()) -> (usize, usize) {
 /// A single test, so that no other thread frees buffers meanwhile.
 #[test]
 fn buffers_are_emptied() {
-    // the allocator sees what is left: a plain vector is not emptied
+    // the allocator does see what is left: a plain vector is not emptied
     assert_eq!(left(4099, || drop(std::hint::black_box(vec![1u8; 4099]))), (1, 1));
     assert_eq!(left(4099, || drop(Secret::from(vec![1u8; 4099]))), (1, 0));
     assert_eq!(left(8 * 517, || drop(Secret::from(vec![u64::MAX; 517]))), (1, 0));

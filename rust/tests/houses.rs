@@ -22,7 +22,7 @@ fn words(houses: usize, shape: Shape, more: &str) -> Vec<String> {
     numbers.into_iter().chain(more.split_whitespace().map(String::from)).collect()
 }
 
-/// A number from 0 to 2^64 - 1 that looks random.
+/// A number below 2^31 that looks random.
 fn mixed(seed: &mut u64) -> u64 {
     *seed = seed.wrapping_mul(6364136223846793005).wrapping_add(1442695040888963407);
     *seed >> 33

@@ -5,7 +5,7 @@ use jugyvaros::{GateList, Reason, Shape};
 
 const SHAPE: Shape = Shape { candidates: 2, grades: 2, ballots: 1 };
 
-// and of two ballot bytes; a free copy of it; a choice by it, which is one level deeper
+// an AND of two ballot bytes; a copy of it, which is free; a choice by that copy, which is one level deeper
 const LIST: [u32; 12] = [4, 0, 1, 0, 2, 4, 0, 0, 7, 5, 2, 3];
 
 #[test]

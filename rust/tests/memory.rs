@@ -1,5 +1,5 @@
-//! With the usual allocator, dropped secrets are nowhere in the program's memory, which it searches itself. Run it with
-//! `--release` too: only there could the optimiser remove writes that nobody reads.
+//! With the usual allocator: this program drops secrets, searches its own memory for them, and must find none. Run it
+//! with `--release` too: only there could the optimiser remove writes that nobody reads.
 use jugyvaros::Secret;
 use std::fs::{read_to_string, File};
 use std::os::unix::fs::FileExt;
@@ -7,8 +7,8 @@ use std::os::unix::fs::FileExt;
 const LENGTH: usize = 60_000;
 const RUN: usize = 4096;
 
-/// How many places of the writable memory hold a long run of this byte. The buffer is passed in, so that it does not
-/// reuse memory that was just freed.
+/// In how many places of the writable memory there is a long run of this byte. The caller passes the buffer in, so that
+/// it does not reuse memory that was just freed.
 fn runs(piece: &mut [u8], byte: u8) -> usize {
     let memory = File::open("/proc/self/mem").unwrap();
     let mut found = 0;

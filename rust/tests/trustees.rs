@@ -46,9 +46,9 @@ fn the_wires_are_emptied_and_a_refusal_alters_nothing() {
         assert_eq!(list.tally(&BALLOTS, &dealing).unwrap_err(), said.unwrap_err());
         said.unwrap_err()
     };
-    let mut part = good.clone();
-    part.ballot_shares[0] ^= 1;
-    assert_eq!(refused(part), refusal(Reason::Dealing));
+    let mut share = good.clone();
+    share.ballot_shares[0] ^= 1;
+    assert_eq!(refused(share), refusal(Reason::Dealing));
     let mut product = good.clone();
     product.triples[2] ^= 1;
     assert_eq!(refused(product), refusal(Reason::Dealing));

@@ -1,5 +1,5 @@
-//! The urn through the wrapper: ballots go in and out, previews change nothing, and a run is the run on the chain's
-//! ballots.
+//! The urn through the wrapper: ballots go in and out, previews change nothing, and a run takes the chain's ballots in
+//! order.
 mod common;
 
 use common::{refusal, SHAPE};

@@ -1,7 +1,6 @@
 /* The run for 64 juries on heap buffers of exactly the lent length, for valgrind: random lists, graded and ranked,
- * good and with up to two faults. Each jury of an accepted call is compared with the reference's single run, a
- * refusal's reason and place with the reference's tests of the juries one by one, and what it was lent with its
- * copy. */
+ * without faults and with up to two. Each jury of an accepted call is compared with the reference's single run. The
+ * reason and place of a refusal are compared with the reference's tests of each jury, and the buffers with copies. */
 #include "../../c/jugyvaros.h"
 #include "random_jury.h"
 #include "seen.h"
@@ -50,7 +49,7 @@ static struct call good_call(void) {
     return c;
 }
 
-/* The first ballot of a jury says that 0 is before 1, and no more. */
+/* Makes the first ballot of a jury say only that 0 is before 1. */
 static void put_gap(uint64_t *ballots, size_t k, uint64_t jury) {
     for (size_t i = 0; i < k * k; i++)
         ballots[i] &= ~jury;
@@ -114,7 +113,7 @@ static struct said expected(const struct call *c) {
     return reason ? (struct said){reason, 0, 0, 0, {0}} : s;
 }
 
-/* Puts the reference's single runs in the place of wires and board. */
+/* Fills wires and board with the results of the reference's single runs. */
 static void run_juries(struct call *c) {
     memset(c->tables[WIRES], 0, 8 * c->lengths[WIRES]);
     memset(c->tables[BOARD], 0, 8 * c->lengths[BOARD]);
@@ -153,7 +152,7 @@ static void one_call(size_t faults) {
     if (!status)
         run_juries(&c);
     if (memcmp(wires, c.tables[WIRES], 8 * c.lengths[WIRES]) || memcmp(board, c.tables[BOARD], 8 * c.lengths[BOARD]))
-        fail(status ? "a refusal alters" : "a jury differs from its single run, or a wire is left");
+        fail(status ? "a refusal changes a buffer" : "a jury differs from its single run, or a wire is left");
     for (int i = 0; i < TABLES; i++)
         free(c.tables[i]);
     free(c.table), free(wires), free(board), free(answer), free(old);

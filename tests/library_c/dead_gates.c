@@ -1,6 +1,6 @@
-/* Looks for gates of own lists that no closing byte depends on, from the last gate back.
- *   dead_gates ranked   the own list of each ranked shape
- *   dead_gates graded   of each graded shape
+/* Looks for gates of own lists on which no closing byte depends, from the last gate to the first.
+ *   dead_gates ranked   looks through the own list of each ranked shape
+ *   dead_gates graded   looks through the own list of each graded shape
  * It prints how many lists it looked through, and ends with 1 at the first list with such a gate. */
 #include "../../c/jugyvaros.h"
 #include "kinds.h"
@@ -13,7 +13,7 @@ enum { MOST_GATES = 400000, MOST_WIRES = MOST_GATES + 255 * 64 };
 static uint32_t table[4 * MOST_GATES];
 static uint8_t needed[MOST_WIRES];
 
-/* How many gates no closing byte depends on; `inputs` wires come before the gates. */
+/* The number of gates on which no closing byte depends. There are `inputs` wires before the gates. */
 static size_t dead(size_t inputs, size_t gates, size_t k) {
     size_t count = 0;
     memset(needed, 0, inputs + gates);
@@ -40,7 +40,8 @@ int main(int argc, char **argv) {
         for (size_t d = ranked ? 0 : 2; d <= (ranked ? 0 : 7); d++)
             for (size_t n = 1; n <= 255; n++) {
                 size_t answer[5] = {0}, inputs = n * k * (d == 0 ? k : d);
-                if (jugy_measure(k, d, n, answer, 5) != 0 || answer[2] > MOST_GATES || inputs > MOST_WIRES - MOST_GATES) {
+                if (jugy_measure(k, d, n, answer, 5) != 0 || answer[2] > MOST_GATES ||
+                    inputs > MOST_WIRES - MOST_GATES) {
                     printf("dead_gates: %zu %zu %zu cannot be measured\n", k, d, n);
                     return 1;
                 }
@@ -51,7 +52,8 @@ int main(int argc, char **argv) {
                 }
                 found = dead(inputs, gates, k);
                 if (found != 0) {
-                    printf("dead_gates: %zu %zu %zu has %zu gates, %zu of them without effect\n", k, d, n, gates, found);
+                    printf("dead_gates: %zu %zu %zu has %zu gates, %zu of them without effect\n", k, d, n, gates,
+                           found);
                     return 1;
                 }
                 lists++;

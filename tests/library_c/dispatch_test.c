@@ -1,6 +1,6 @@
-/* The dispatcher on heap buffers of exactly the lent length, for valgrind: up to eight random juries, good and with
- * up to two faults. Status and answer are compared with the reference's runs, jury after jury on the pieces that the
- * headers name; so are boards and wires of an accepted call; a refused call must change nothing. */
+/* The dispatcher on heap buffers of exactly the lent length, for valgrind: up to eight random juries, without faults
+ * and with up to two. Status and answer, and boards and wires of an accepted call, are compared with the reference's
+ * runs of each jury on the pieces that the headers name. A refused call must change nothing. */
 #include "../../c/jugyvaros.h"
 #include "random_jury.h"
 #include "seen.h"
@@ -74,7 +74,7 @@ static struct call good_call(void) {
     return c;
 }
 
-/* Takes the last items away. */
+/* Removes the last items of a buffer. */
 static void shorten(void **buffer, size_t *length, size_t size, size_t by) {
     *length -= by < *length ? by : *length;
     void *shorter = copy_of(*buffer, *length * size);
@@ -119,7 +119,7 @@ static void *piece(const struct call *c, int table, size_t *from, size_t *length
     return begin;
 }
 
-/* The reference's run on a jury's pieces, which fills its part of boards and wires if it is accepted. */
+/* The reference's run on a jury's pieces. If it is accepted, it fills in the jury's wires and board. */
 static struct said run_jury(const struct call *c, size_t jury, size_t *from) {
     size_t k = stated(c, STATED * jury), d = stated(c, STATED * jury + 1), n = stated(c, STATED * jury + 2);
     size_t gates = stated(c, STATED * jury + 3), lengths[TABLES] = {4 * gates, ballot_bytes(k, d, n), 0, 0, 0};
@@ -136,8 +136,8 @@ static struct said run_jury(const struct call *c, size_t jury, size_t *from) {
                          lengths[TAPES], pieces[WIRES], lengths[WIRES], pieces[BOARDS], lengths[BOARDS]);
 }
 
-/* The whole answer array. If the call is refused, the expected tables are filled for the juries before the bad one;
- * they are not compared. */
+/* Works out the whole answer array. If the call is refused, wires and boards of the juries before the bad one are
+ * filled in too, but not compared. */
 static void expect(const struct call *c, size_t *right) {
     size_t from[TABLES] = {0};
     memset(right, 0, JUGY_DISPATCH_ANSWER * sizeof *right);
@@ -179,7 +179,7 @@ static void one_call(size_t faults) {
     }
     for (int i = 0; i < 2; i++) {
         if (memcmp(lent_tables[i], status ? before[i] : c.tables[WIRES + i], c.lengths[WIRES + i]))
-            fail(status ? "a refusal alters" : "other wires or boards");
+            fail(status ? "a refusal changes a buffer" : "other wires or boards");
         free(lent_tables[i]), free(before[i]);
     }
     for (int i = 0; i < TABLES; i++)

@@ -1,5 +1,5 @@
-/* The table of the eight kinds of gates for the test programs in C: how many operands a kind uses, and whether its
- * gates are conditional. The reference in Python has its own. */
+/* The table of kinds for all tests in C: the number of operands, and whether the gate is conditional. The tests in
+ * Python have theirs in tests/reference.py. */
 #ifndef KINDS_H
 #define KINDS_H
 

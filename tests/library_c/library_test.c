@@ -1,9 +1,9 @@
 /* The five exported functions against the reference, on exact-size heap buffers.
  *   library_test edges          each entry point, accepted and for each reason
  *   library_test shapes         every shape: measured, its list written, tested, and run on a jury
- *   library_test random N SEED  N random juries, each with calls of every kind, good and damaged, of right and wrong
+ *   library_test random N SEED  N random juries, each with calls of every kind, good and damaged, with right and wrong
  *                               lengths
- * It prints how many calls it compared, and ends with 1 at the first that differs, or if a reason never came. */
+ * It prints how many calls it compared, and ends with 1 at the first difference, or if a reason never occurred. */
 #include "../../c/jugyvaros.h"
 #include "kinds.h"
 #include "reference.h"
@@ -15,12 +15,12 @@ static const char *what = "";
 #define CHECK(test)                                                                                                  \
     do {                                                                                                             \
         if (!(test)) {                                                                                               \
-            printf("library_test: line %d, %s: %s\n", __LINE__, what, #test);                                           \
+            printf("library_test: line %d, %s: %s\n", __LINE__, what, #test);                                        \
             exit(1);                                                                                                 \
         }                                                                                                            \
     } while (0)
 
-/* ---- random numbers, the same in every run of one seed */
+/* ---- random numbers, the same for the same seed */
 static uint64_t state = 1;
 
 static uint64_t draw(uint64_t below) {
@@ -48,9 +48,10 @@ static void *copy(const void *from, size_t bytes) {
 
 static int same(const void *a, const void *b, size_t bytes) { return bytes == 0 || memcmp(a, b, bytes) == 0; }
 
-/* ---- one call each: the answer array, exact, too short or longer, and everything lent, against the reference */
+/* ---- one call each, compared with the reference: the answer array, which may be too short or too long, and everything
+ * that is lent */
 
-/* Compares a status and an answer array with the `needed` numbers expected; `rest` has those from 2 on. */
+/* Compares a status and an answer array with the expected ones, of `needed` numbers; `rest` has those from 2 on. */
 static void compare(struct said s, const size_t *rest, size_t needed, size_t status, const size_t *answer,
                     const size_t *before, size_t length) {
     seen(status);
@@ -109,14 +110,14 @@ static struct said call_run(size_t k, size_t d, size_t n, const uint32_t *list, 
     uint8_t *wires = take(wires_length), *board = take(board_length);
     uint8_t *expected_wires = copy(wires, wires_length), *expected_board = copy(board, board_length);
     size_t *answer = take(al * sizeof *answer), *before = copy(answer, al * sizeof *answer);
-    size_t status = jugy_run(k, d, n, table, length, lent, ballots_length, tape, tape_length, wires, wires_length, board,
-                             board_length, answer, al);
+    size_t status = jugy_run(k, d, n, table, length, lent, ballots_length, tape, tape_length, wires, wires_length,
+                             board, board_length, answer, al);
     struct said s;
     if (al < 4)
         s = (struct said){JUGY_SHORT_ANSWER, 0, 0, 0, {0}};
     else /* if it refuses, it leaves the expected wires and board as they were */
-        s = reference_run(k, d, n, list, length, ballots, ballots_length, masks, tape_length, expected_wires, wires_length,
-                          expected_board, board_length);
+        s = reference_run(k, d, n, list, length, ballots, ballots_length, masks, tape_length, expected_wires,
+                          wires_length, expected_board, board_length);
     size_t rest[2] = {s.gates, s.conditional};
     compare(s, rest, 4, status, answer, before, al);
     CHECK(same(wires, expected_wires, wires_length));
@@ -145,7 +146,7 @@ static struct said call_measure(size_t k, size_t d, size_t n, size_t al) {
     return s;
 }
 
-/* Writes the own list into a table of some length, over noise. The reference has no list of its own: the core's is
+/* Writes the own list into a table of some length, over noise. The reference writes no lists, so the core's list is
  * compared with the measure, the bound and the test, and by the callers with the rule. Returns the table if the call
  * is accepted. */
 static uint32_t *call_write(size_t k, size_t d, size_t n, size_t length, struct said measured, size_t al) {
@@ -175,7 +176,7 @@ static uint32_t *call_write(size_t k, size_t d, size_t n, size_t length, struct 
 
 /* ---- lists and ballots */
 
-/* Rankings with ties: each juror's ranks differ a little from those that all of them share. */
+/* Rankings with ties: each juror's ranks differ a little from ranks that all jurors share. */
 static void fill_rankings(uint8_t *b, size_t k, size_t n) {
     size_t shared[8], ranks[8], spread = 1 + draw(2 * k);
     for (size_t i = 0; i < k; i++)
@@ -206,7 +207,7 @@ static void fill_tape(uint8_t *t, size_t length) {
         t[i] = (uint8_t)draw(2);
 }
 
-/* A random list of `gates` gates that the tester accepts. */
+/* A random list of `gates` gates that the test accepts. */
 static uint32_t *random_list(size_t inputs, size_t gates) {
     uint32_t *t = malloc(gates * 16);
     CHECK(t != NULL);
@@ -235,7 +236,8 @@ static size_t near(size_t length) {
 /* One run of a list on ballots, with up to two things damaged. */
 static void damaged_run(size_t k, size_t d, size_t n, const uint32_t *list, size_t gates) {
     size_t inputs = ballot_bytes(k, d, n), conditional = count_marks(list, gates), length = 4 * gates;
-    size_t ballots_length = inputs, tape_length = conditional, wires_length = inputs + gates, board_length = conditional + k;
+    size_t ballots_length = inputs, tape_length = conditional, wires_length = inputs + gates;
+    size_t board_length = conditional + k;
     size_t al = answer_length(4);
     uint32_t *t = malloc((length + 16) * 4);
     uint8_t *b = malloc(inputs + 16), *m = malloc(conditional + 16);
@@ -292,7 +294,8 @@ static void good_run(size_t k, size_t d, size_t n, const uint32_t *list, size_t 
     CHECK(b && m);
     fill_ballots(b, k, d, n);
     fill_tape(m, conditional);
-    struct said s = call_run(k, d, n, list, 4 * gates, b, inputs, m, conditional, inputs + gates, conditional + k, 4, closing);
+    struct said s =
+        call_run(k, d, n, list, 4 * gates, b, inputs, m, conditional, inputs + gates, conditional + k, 4, closing);
     CHECK(s.reason == 0 && s.gates == gates && s.conditional == conditional);
     struct said c = call_count(k, d, n, b, inputs, 10);
     CHECK(c.reason == 0);
@@ -306,9 +309,10 @@ static void good_run(size_t k, size_t d, size_t n, const uint32_t *list, size_t 
 
 static void edges(void) {
     struct said m;
-    /* reason 1: each number just outside */
+    /* reason 1: each number just outside its limits */
     static const size_t outside[][3] = {{0, 3, 3}, {9, 3, 3}, {2, 1, 3}, {2, 8, 3}, {2, 3, 0}, {2, 3, 256},
-                                        {SIZE_MAX, 3, 3}, {2, SIZE_MAX, 3}, {2, 3, SIZE_MAX}, {SIZE_MAX, SIZE_MAX, SIZE_MAX}};
+                                        {SIZE_MAX, 3, 3}, {2, SIZE_MAX, 3}, {2, 3, SIZE_MAX},
+                                        {SIZE_MAX, SIZE_MAX, SIZE_MAX}};
     uint32_t none[4] = {1, 0, 0, 0};
     for (size_t i = 0; i < sizeof outside / sizeof *outside; i++) {
         size_t k = outside[i][0], d = outside[i][1], n = outside[i][2];
@@ -327,7 +331,7 @@ static void edges(void) {
         call_count(2, 3, 3, (uint8_t *)none, 6, al);
         call_run(2, 3, 3, none, 4, (uint8_t *)none, 6, (uint8_t *)none, 0, 1, 1, al, NULL);
     }
-    /* the jury that [rehearsal] gives: writing into tables around its length, running */
+    /* the jury of [rehearsal]: its list written into tables of lengths around the right one, and run */
     uint32_t *list = own_list(2, 3, 3, &m);
     CHECK(list != NULL);
     for (size_t length = 0; length <= 8; length++)
@@ -345,7 +349,7 @@ static void edges(void) {
     CHECK(call_test(2, 3, 3, list, 4, 4).reason == 2);
     CHECK(call_test(2, 3, 3, list, 0, 4).reason == 2);
     CHECK(call_run(2, 3, 3, list, 4, ballots, 18, tape, c, 18 + g, c + 2, 4, NULL).reason == 2);
-    /* reason 3: gate 0 naming wire I (I − 1 is accepted); kind 8; an unused operand; the first bad gate is the place */
+    /* reason 3: gate 0 uses wire I, which is its own (I - 1 is allowed); kind 8; an unused operand that is not 0 */
     uint32_t two[8] = {2, 18, 0, 0, 3, 18, 0, 0};
     struct said s = call_test(2, 3, 3, two, 8, 4);
     CHECK(s.reason == 3 && s.place == 0);
@@ -387,7 +391,7 @@ static void edges(void) {
     CHECK(call_run(2, 3, 3, list, 4 * g, ballots, 18, tape, c, 18 + g, c + 1, 4, NULL).reason == 10);
     CHECK(call_run(2, 3, 3, list, 4 * g, ballots, 18, tape, c, 18 + g, c + 3, 4, NULL).reason == 10);
     free(list);
-    /* rankings: 11 at the earlier of two opposite bytes and before any 12, 12 at its ballot */
+    /* rankings: 11 comes before 12; its place is the earlier of two opposite bytes, and that of 12 is the ballot */
     list = own_list(3, 0, 2, &m);
     CHECK(list != NULL);
     uint8_t ranked[18] = {0, 1, 1, 0, 0, 0, 0, 0, 0, 0, 0, 1, 0, 0, 1, 0, 0, 0}, none_before[9] = {0};
@@ -396,7 +400,7 @@ static void edges(void) {
     ranked[9 + 6] = 1;
     s = call_count(3, 0, 2, ranked, 18, 10);
     CHECK(s.reason == 11 && s.place == 9 + 2);
-    ranked[2] = 0; /* a first ballot for 12 */
+    ranked[2] = 0; /* now the first ballot has fault 12 */
     CHECK(call_count(3, 0, 2, ranked, 18, 10).reason == 11);
     ranked[9 + 6] = 0;
     s = call_count(3, 0, 2, ranked, 18, 10);
@@ -405,7 +409,8 @@ static void edges(void) {
     s = call_run(3, 0, 2, list, 4 * m.gates, ranked, 18, tape, m.conditional, 18 + m.gates, m.conditional + 3, 4, NULL);
     CHECK(s.reason == 12 && s.place == 0);
     ranked[2] = 1;
-    CHECK(call_run(3, 0, 2, list, 4 * m.gates, ranked, 18, tape, m.conditional, 18 + m.gates, m.conditional + 3, 4, NULL).reason == 0);
+    s = call_run(3, 0, 2, list, 4 * m.gates, ranked, 18, tape, m.conditional, 18 + m.gates, m.conditional + 3, 4, NULL);
+    CHECK(s.reason == 0);
     free(list);
     /* the smallest shape, and the largest number of gates and one more */
     list = own_list(1, 2, 1, &m);
@@ -437,9 +442,10 @@ static void every_shape(void) {
 
 static void random_juries(size_t juries) {
     for (size_t i = 0; i < juries; i++) {
-        /* mostly small, now and then as large as can be */
+        /* mostly small, now and then of any size */
         uint64_t way = draw(40);
-        size_t k = 1 + draw(way < 30 ? 4 : 8), d = 1 + draw(way < 30 ? 4 : 7), n = 1 + draw(way < 30 ? 9 : way < 39 ? 40 : 255);
+        size_t k = 1 + draw(way < 30 ? 4 : 8), d = 1 + draw(way < 30 ? 4 : 7);
+        size_t n = 1 + draw(way < 30 ? 9 : way < 39 ? 40 : 255);
         if (d == 1)
             d = 0; /* a ranking */
         struct said m;

@@ -1,4 +1,4 @@
-/* Random ballots, tapes and lists, over the numbers of lent.h. */
+/* Random ballots, tapes and lists, from the random numbers of lent.h. */
 #ifndef RANDOM_JURY_H
 #define RANDOM_JURY_H
 
@@ -6,7 +6,7 @@
 #include "lent.h"
 #include "reference.h"
 
-/* Good ballots: a 1 in each row of grades; without grades, every juror ranks all candidates, with ties. */
+/* Good ballots: a 1 in each row of grades; if d is 0, every juror ranks all candidates, with ties. */
 static inline void random_ballots(uint8_t *ballots, size_t k, size_t d, size_t n) {
     memset(ballots, 0, ballot_bytes(k, d, n));
     for (size_t row = 0; d && row < n * k; row++)
@@ -20,7 +20,7 @@ static inline void random_ballots(uint8_t *ballots, size_t k, size_t d, size_t n
     }
 }
 
-/* Whether three candidates or more are ranked: then a ballot that only puts 0 before 1 leaves a third tied with both,
+/* Whether at least three candidates are ranked: then a ballot that only puts 0 before 1 leaves a third tied with both,
  * which is reason 12. */
 static inline int can_have_gap(size_t k, size_t d, size_t ballots_length) {
     return d == 0 && k > 2 && k <= 8 && ballots_length >= k * k;

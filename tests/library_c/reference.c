@@ -8,7 +8,7 @@ int shape_within(size_t k, size_t d, size_t n) {
 
 size_t ballot_bytes(size_t k, size_t d, size_t n) { return n * k * (d == 0 ? k : d); }
 
-/* The w of the bound: how many binary digits n has. */
+/* w, the number of binary digits of n. */
 static size_t digits(size_t n) {
     size_t w = 0;
     for (; n; n >>= 1)
@@ -157,7 +157,7 @@ static size_t median_of(const size_t *counts, size_t d, size_t n) {
     return d;
 }
 
-/* The sequence of a candidate: the median of the grades that are left, which is then struck. */
+/* A candidate's sequence of medians: after each, one grade of its kind is struck. */
 static void sequence_of(const size_t *counts, size_t d, size_t n, size_t *sequence) {
     size_t left[7];
     for (size_t g = 0; g < d; g++)
@@ -175,7 +175,7 @@ static int comes_before(const size_t *a, const size_t *b, size_t n) {
     return 0;
 }
 
-/* The strongest path from i to j over candidates that are not visited yet, by trying all of them. */
+/* The strongest path from i to j, by trying all paths. Bit l of `met` says whether candidate l has been visited. */
 static size_t strongest(size_t k, size_t links[8][8], size_t i, size_t j, unsigned met) {
     size_t best = links[i][j];
     for (size_t l = 0; l < k; l++) {

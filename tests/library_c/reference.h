@@ -1,5 +1,5 @@
-/* An independent reference implementation in C: what an entry point must answer, and what it must leave. It is written
- * to be simple. `struct said` holds an answer; it has closing bytes only for a count. */
+/* An independent reference implementation in C: what an entry point must answer and leave behind. It is written to be
+ * simple. `struct said` holds an answer; only a count sets its closing bytes. */
 #ifndef REFERENCE_H
 #define REFERENCE_H
 
@@ -13,7 +13,7 @@ struct said {
 
 int shape_within(size_t k, size_t d, size_t n);
 
-/* I. */
+/* I, the number of ballot bytes. */
 size_t ballot_bytes(size_t k, size_t d, size_t n);
 
 /* The bound on G: [bound] and [judgment-bound], or [ranking-bound] for rankings. */

@@ -1,5 +1,5 @@
-/* The reasons that a program's calls were answered with. Each program names those that can come, and ends with 1 if one
- * of them never came, or if another came. */
+/* Counts the statuses of a program's calls. Each program names those that can occur, and ends with 1 if one of them
+ * never occurred, or if another did. */
 #ifndef SEEN_H
 #define SEEN_H
 
@@ -25,14 +25,14 @@ static inline void all_seen(const char *program, const size_t *expected, size_t 
     for (size_t i = 0; i < count; i++) {
         printf(" %zu: %zu", expected[i], seen_statuses[expected[i]]);
         if (!seen_statuses[expected[i]]) {
-            printf("\n%s: status %zu never came\n", program, expected[i]);
+            printf("\n%s: status %zu never occurred\n", program, expected[i]);
             exit(1);
         }
         named += seen_statuses[expected[i]];
     }
     printf("\n");
     if (named != calls) {
-        printf("%s: a status came that is not one of these\n", program);
+        printf("%s: a status occurred that is not one of these\n", program);
         exit(1);
     }
 }

@@ -19,8 +19,8 @@ static size_t print_line(const uint32_t *gate, char *line) {
     return at;
 }
 
-struct text_said reference_write_text(size_t k, size_t d, size_t n, const uint32_t *table, size_t length, uint8_t *output,
-                                      size_t output_length) {
+struct text_said reference_write_text(size_t k, size_t d, size_t n, const uint32_t *table, size_t length,
+                                      uint8_t *output, size_t output_length) {
     struct said tested = reference_test(k, d, n, table, length);
     if (tested.reason)
         return refused(tested.reason, tested.place);

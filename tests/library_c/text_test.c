@@ -1,4 +1,4 @@
-/* Texts of gate lists through the exported functions, against the reference, on exact-size heap buffers:
+/* Gate lists as text: the exported functions against the reference, on exact-size heap buffers.
  *     text_test short CHARACTERS   every text of up to CHARACTERS digits, spaces and line feeds
  *     text_test edits ROUNDS SEED  random lists written, read back, and read again after an edit of one character
  *     text_test faults             every pair of faults, and malformed lines
@@ -108,7 +108,8 @@ static void edits(size_t rounds, uint64_t seed) {
             fail("a good list", text, 0);
         write_both(s, table, 4 * gates, wrote.length, text);
         write_both(s, table, 4 * gates, wrote.length - 1 - below(wrote.length), NULL);
-        if (read_both(s, text, wrote.length, 4 * gates).reason || read_both(s, text, wrote.length, 4 * gates + 3).reason)
+        if (read_both(s, text, wrote.length, 4 * gates).reason ||
+            read_both(s, text, wrote.length, 4 * gates + 3).reason)
             fail("a good text", text, wrote.length);
         read_both(s, text, wrote.length, below(4 * gates));
         for (int i = 0; i < 8; i++) {
@@ -131,16 +132,17 @@ static void edits(size_t rounds, uint64_t seed) {
     }
 }
 
-/* For each reason a part that causes it, in all combinations: shape, lines, form, gate, room; graded and ranked. */
+/* All combinations of faults: shape, number of lines, malformed line, gate and output; for grades or for rankings. */
 static void read_faults(size_t grades) {
-    static const char *bad_forms[] = {"",    " 0",  "0 ",       "00",         "01",          "2  0",       "2 01",  "2",     "2 0 0",
-                                      "0 0", "8",   "+0",       "-1",         "2\t0",        "0\r",        "2 0 ",  "x",     "4 0",
-                                      "7 0 0", "2 4294967296", "2 99999999999999999999999999999999999999999999999999"};
+    static const char *bad_forms[] = {
+        "",  " 0", "0 ", "00",    "01",  "2  0", "2 01", "2",   "2 0 0", "0 0",
+        "8", "+0", "-1", "2\t0", "0\r", "2 0 ", "x",    "4 0", "7 0 0", "2 4294967296",
+        "2 99999999999999999999999999999999999999999999999999"};
     for (int mask = 0; mask < 16; mask++)
         for (size_t f = 0; f < sizeof bad_forms / sizeof *bad_forms; f++) {
             struct shape s = {mask & 1 ? 9 : 2, grades, 1};
             char text[256] = "";
-            strcat(text, mask & 8 ? "2 4\n" : "2 3\n"); /* wire 4 is the gate's own, of grades as of ranks */
+            strcat(text, mask & 8 ? "2 4\n" : "2 3\n"); /* wire 4 is the gate's own, graded or ranked */
             if (!(mask & 2)) {
                 strcat(text, mask & 4 ? bad_forms[f] : "0");
                 strcat(text, "\n");
@@ -150,9 +152,10 @@ static void read_faults(size_t grades) {
         }
 }
 
-/* The same for writing: shape, length of the table, gate, room. */
+/* The same for writing: shape, length of the table, gate and output. */
 static void write_faults(size_t grades) {
-    static const uint32_t second[][4] = {{3, 4, 0, 0}, {8, 0, 0, 0}, {2, 5, 0, 0}, {3, 4, 1, 0}, {7, 1, 2, 4}, {2, 4294967295u, 0, 0}};
+    static const uint32_t second[][4] = {{3, 4, 0, 0}, {8, 0, 0, 0}, {2, 5, 0, 0},
+                                         {3, 4, 1, 0}, {7, 1, 2, 4}, {2, 4294967295u, 0, 0}};
     for (size_t g = 0; g < sizeof second / sizeof *second; g++)
         for (size_t k = 2; k <= 9; k += 7)
             for (size_t length = 0; length <= 12; length++)

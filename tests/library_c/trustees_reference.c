@@ -7,14 +7,14 @@ enum { MOST_TRUSTEES = 5 };
 /* What one trustee knows and does. */
 struct trustee {
     int is_first;
-    uint8_t *held;        /* its bit of every wire so far */
-    const uint8_t *dealt; /* its bits of u, v and u v, a triple for each conditional gate */
-    uint8_t *says;        /* what it publishes */
+    uint8_t *held;          /* its share of every wire so far */
+    const uint8_t *triples; /* its shares of u, v and u v for each conditional gate */
+    uint8_t *says;          /* what it publishes */
 };
 
 static struct said refused(size_t reason) { return (struct said){reason, 0, 0, 0, {0}}; }
 
-/* The sum modulo 2 of one place of all pieces. */
+/* The sum modulo 2, over all pieces, of the bits at one place. */
 static uint8_t sum(const uint8_t *pieces, size_t size, size_t trustees, size_t at) {
     size_t total = 0;
     for (size_t p = 0; p < trustees; p++)
@@ -22,40 +22,41 @@ static uint8_t sum(const uint8_t *pieces, size_t size, size_t trustees, size_t a
     return total % 2;
 }
 
-/* Whether every part is a bit, the parts of a ballot byte add up to it, and those of a product to the product of
- * sums. */
-static int deals(size_t trustees, const uint8_t *ballots, size_t inputs, size_t conditional, const uint8_t *parts,
-                 const uint8_t *dealt) {
+/* Whether every share is a bit, the shares of a ballot byte add up to it, and those of u v to the product of the sums
+ * for u and v. */
+static int deals(size_t trustees, const uint8_t *ballots, size_t inputs, size_t conditional, const uint8_t *shares,
+                 const uint8_t *triples) {
     size_t size = 3 * conditional;
     for (size_t i = 0; i < trustees * inputs; i++)
-        if (parts[i] > 1)
+        if (shares[i] > 1)
             return 0;
     for (size_t i = 0; i < trustees * size; i++)
-        if (dealt[i] > 1)
+        if (triples[i] > 1)
             return 0;
     for (size_t i = 0; i < inputs; i++)
-        if (sum(parts, inputs, trustees, i) != ballots[i])
+        if (sum(shares, inputs, trustees, i) != ballots[i])
             return 0;
     for (size_t i = 0; i < size; i += 3)
-        if (sum(dealt, size, trustees, i + 2) != sum(dealt, size, trustees, i) * sum(dealt, size, trustees, i + 1))
+        if (sum(triples, size, trustees, i + 2) !=
+            sum(triples, size, trustees, i) * sum(triples, size, trustees, i + 1))
             return 0;
     return 1;
 }
 
-/* A trustee's bits of the two factors of a conditional gate: of a, and of b, or for a choice of b plus c. */
+/* A trustee's shares of the two factors of a conditional gate: of a; and of b, or of b plus c if the kind is 7. */
 static void factors(const struct trustee *who, const uint32_t *gate, uint8_t *factor) {
     factor[0] = who->held[gate[1]];
     factor[1] = gate[0] == 7 ? (who->held[gate[2]] + who->held[gate[3]]) % 2 : who->held[gate[2]];
 }
 
-/* A trustee's bit of the product, from the two opened sums. */
+/* A trustee's share of the product, from the two opened sums. */
 static uint8_t product(const struct trustee *who, size_t i, const uint8_t *opened) {
-    const uint8_t *triple = who->dealt + 3 * i;
+    const uint8_t *triple = who->triples + 3 * i;
     uint8_t bit = triple[2] + opened[0] * triple[1] + opened[1] * triple[0];
     return (who->is_first ? bit + opened[0] * opened[1] : bit) % 2;
 }
 
-/* A trustee's bit of a gate's wire; z is its bit of the product, if the gate has one. */
+/* A trustee's share of a gate's wire; z is its share of the product, if the gate has one. */
 static uint8_t own_bit(const struct trustee *who, const uint32_t *gate, uint8_t z) {
     const uint8_t *held = who->held;
     switch (gate[0]) {
@@ -66,7 +67,7 @@ static uint8_t own_bit(const struct trustee *who, const uint32_t *gate, uint8_t 
     case 4: return z;
     case 5: return (held[gate[1]] + held[gate[2]] + z) % 2; /* a or b is a plus b plus their product */
     case 6: return (held[gate[1]] + held[gate[2]]) % 2;
-    default: return (held[gate[3]] + z) % 2; /* c plus a times b plus c */
+    default: return (held[gate[3]] + z) % 2; /* c plus a times (b plus c) */
     }
 }
 
@@ -77,7 +78,7 @@ static void publish(struct trustee *trustees, size_t t, const uint32_t *gate, si
         uint8_t factor[2];
         factors(&trustees[p], gate, factor);
         for (size_t j = 0; j < 2; j++) {
-            trustees[p].says[2 * i + j] = (factor[j] + trustees[p].dealt[3 * i + j]) % 2;
+            trustees[p].says[2 * i + j] = (factor[j] + trustees[p].triples[3 * i + j]) % 2;
             opened[j] = (opened[j] + trustees[p].says[2 * i + j]) % 2;
         }
     }
@@ -99,8 +100,8 @@ static void evaluate(struct trustee *trustees, size_t t, const uint32_t *table, 
 }
 
 struct said reference_trustees(size_t k, size_t d, size_t n, const uint32_t *table, size_t table_length,
-                               const uint8_t *ballots, size_t ballots_length, size_t trustees, const uint8_t *parts,
-                               size_t parts_length, const uint8_t *dealt, size_t dealt_length, uint8_t *wires,
+                               const uint8_t *ballots, size_t ballots_length, size_t trustees, const uint8_t *shares,
+                               size_t shares_length, const uint8_t *triples, size_t triples_length, uint8_t *wires,
                                size_t wires_length, uint8_t *published, size_t published_length) {
     struct said s = reference_test(k, d, n, table, table_length);
     if (s.reason)
@@ -111,15 +112,15 @@ struct said reference_trustees(size_t k, size_t d, size_t n, const uint32_t *tab
     if (trustees < 2 || trustees > MOST_TRUSTEES)
         return refused(16);
     size_t inputs = ballots_length, all = inputs + s.gates, each = 2 * s.conditional + k;
-    if (parts_length != trustees * inputs || dealt_length != trustees * 3 * s.conditional ||
+    if (shares_length != trustees * inputs || triples_length != trustees * 3 * s.conditional ||
         wires_length != trustees * all || published_length != trustees * each)
         return refused(17);
-    if (!deals(trustees, ballots, inputs, s.conditional, parts, dealt))
+    if (!deals(trustees, ballots, inputs, s.conditional, shares, triples))
         return refused(18);
     struct trustee who[MOST_TRUSTEES];
     for (size_t p = 0; p < trustees; p++) {
-        who[p] = (struct trustee){p == 0, lent(all), dealt + p * 3 * s.conditional, published + p * each};
-        memcpy(who[p].held, parts + p * inputs, inputs);
+        who[p] = (struct trustee){p == 0, lent(all), triples + p * 3 * s.conditional, published + p * each};
+        memcpy(who[p].held, shares + p * inputs, inputs);
     }
     evaluate(who, trustees, table, s.gates, inputs);
     for (size_t p = 0; p < trustees; p++) {

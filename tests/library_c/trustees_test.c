@@ -1,5 +1,5 @@
 /* The trustees' tally on heap buffers of exactly the lent length, for valgrind: own lists and random ones, graded and
- * ranked, good and with up to two faults. Status, answer, wire parts and every published bit are compared with the
+ * ranked, without faults and with up to two. Status, answer, wires and every published bit are compared with the
  * reference, and the sums of own lists with the plain count. */
 #include "../../c/jugyvaros.h"
 #include "dealing.h"
@@ -7,14 +7,14 @@
 #include "seen.h"
 #include "trustees_reference.h"
 
-enum { PARTS, DEALT, WIRES, PUBLISHED, TABLES };
+enum { SHARES, TRIPLES, WIRES, PUBLISHED, TABLES };
 
 static void fail(const char *what) {
     printf("trustees_test: %s\n", what);
     exit(1);
 }
 
-/* What is lent to one call; the lengths may be wrong, and every buffer is as long as its length says. */
+/* What is lent to one call. A length may be wrong for the call, but every buffer is as long as its length says. */
 struct call {
     size_t k, d, n, trustees, table_length, ballots_length, lengths[TABLES], answer_length;
     uint32_t *table;
@@ -40,7 +40,7 @@ static struct call good_call(void) {
     size_t each[TABLES] = {inputs, 3 * marks, inputs + gates, 2 * marks + c.k};
     for (int i = 0; i < TABLES; i++)
         c.lengths[i] = t * each[i], c.tables[i] = filled(c.lengths[i], 7);
-    deal(t, c.ballots, inputs, marks, c.tables[PARTS], c.tables[DEALT]);
+    deal(t, c.ballots, inputs, marks, c.tables[SHARES], c.tables[TRIPLES]);
     c.answer_length = JUGY_TRUSTEES_ANSWER;
     return c;
 }
@@ -72,13 +72,13 @@ static void damage(struct call *c) {
     case 6: c->trustees = below(2) ? 1 - below(2) : 6 + below(200); break;
     case 7: c->tables[i] = another_length(c->tables[i], &c->lengths[i], 1); break;
     case 8:
-        if (c->lengths[PARTS])
-            c->tables[PARTS][below((uint32_t)c->lengths[PARTS])] ^= (uint8_t)(1 + below(3));
+        if (c->lengths[SHARES])
+            c->tables[SHARES][below((uint32_t)c->lengths[SHARES])] ^= (uint8_t)(1 + below(3));
         break;
     case 9:
     case 10:
-        if (c->lengths[DEALT])
-            c->tables[DEALT][below((uint32_t)c->lengths[DEALT])] ^= (uint8_t)(1 + below(3));
+        if (c->lengths[TRIPLES])
+            c->tables[TRIPLES][below((uint32_t)c->lengths[TRIPLES])] ^= (uint8_t)(1 + below(3));
         break;
     default: c->answer_length = below(JUGY_TRUSTEES_ANSWER); break;
     }
@@ -86,17 +86,17 @@ static void damage(struct call *c) {
 
 static size_t answered(const struct call *c, uint8_t *wires, uint8_t *published, size_t *answer) {
     return seen(jugy_trustees(c->k, c->d, c->n, c->table, c->table_length, c->ballots, c->ballots_length, c->trustees,
-                              c->tables[PARTS], c->lengths[PARTS], c->tables[DEALT], c->lengths[DEALT], wires,
+                              c->tables[SHARES], c->lengths[SHARES], c->tables[TRIPLES], c->lengths[TRIPLES], wires,
                               c->lengths[WIRES], published, c->lengths[PUBLISHED], answer, c->answer_length));
 }
 
 static struct said expected(const struct call *c) {
     return reference_trustees(c->k, c->d, c->n, c->table, c->table_length, c->ballots, c->ballots_length, c->trustees,
-                              c->tables[PARTS], c->lengths[PARTS], c->tables[DEALT], c->lengths[DEALT],
+                              c->tables[SHARES], c->lengths[SHARES], c->tables[TRIPLES], c->lengths[TRIPLES],
                               c->tables[WIRES], c->lengths[WIRES], c->tables[PUBLISHED], c->lengths[PUBLISHED]);
 }
 
-/* The reference's answer as an array. */
+/* Compares the answer array with the reference's answer, and for an own list also with the plain count. */
 static void compare_answer(const struct call *c, struct said s, const size_t *answer) {
     size_t right[JUGY_TRUSTEES_ANSWER] = {s.reason, s.place, s.gates, s.conditional}, counted[JUGY_COUNT_ANSWER];
     for (int i = 0; !s.reason && i < 8; i++)
@@ -128,9 +128,9 @@ static void one_call(size_t faults) {
             fail("another status");
         compare_answer(&c, s, answer);
     }
-    /* filled in by the reference if the call is accepted, otherwise unchanged */
+    /* the reference has filled in its own copies if the call is accepted, otherwise they are unchanged */
     if (memcmp(wires, c.tables[WIRES], c.lengths[WIRES]))
-        fail("other wire parts");
+        fail("other wires");
     if (memcmp(published, c.tables[PUBLISHED], c.lengths[PUBLISHED]))
         fail("other published bits");
     for (int i = 0; i < TABLES; i++)

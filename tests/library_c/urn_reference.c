@@ -4,9 +4,9 @@
 
 enum { SHORT_ANSWER = 255 };
 
-/* The facts of a sound urn. */
+/* What an urn holds: the number of ballots, and a juror's slot with the one before it in the chain. */
 typedef struct {
-    size_t ballots, slot, before; /* slot 0: the juror has no ballot */
+    size_t ballots, slot, before; /* slot is 0 if the juror has no ballot */
     bool sound;
 } Found;
 
@@ -111,8 +111,8 @@ size_t urn_preview_admit(size_t k, size_t d, const uint8_t *urn, size_t length, 
     return answer_length < 3 ? SHORT_ANSWER : decide_admit(k, d, urn, length, juror, ballot, ballot_length, answer);
 }
 
-size_t urn_admit(size_t k, size_t d, uint8_t *urn, size_t length, size_t juror, const uint8_t *ballot, size_t ballot_length,
-                 size_t *answer, size_t answer_length) {
+size_t urn_admit(size_t k, size_t d, uint8_t *urn, size_t length, size_t juror, const uint8_t *ballot,
+                 size_t ballot_length, size_t *answer, size_t answer_length) {
     if (answer_length < 3)
         return SHORT_ANSWER;
     size_t reason = decide_admit(k, d, urn, length, juror, ballot, ballot_length, answer);
@@ -127,7 +127,8 @@ size_t urn_admit(size_t k, size_t d, uint8_t *urn, size_t length, size_t juror, 
     return reason;
 }
 
-static size_t decide_withdraw(size_t k, size_t d, const uint8_t *urn, size_t length, size_t juror, size_t *answer, Found *found) {
+static size_t decide_withdraw(size_t k, size_t d, const uint8_t *urn, size_t length, size_t juror, size_t *answer,
+                              Found *found) {
     if (!graded(k, d))
         return say(answer, 1, 0, 0);
     *found = look(k, d, urn, length, juror);
@@ -144,7 +145,8 @@ size_t urn_preview_withdraw(size_t k, size_t d, const uint8_t *urn, size_t lengt
     return answer_length < 3 ? SHORT_ANSWER : decide_withdraw(k, d, urn, length, juror, answer, &found);
 }
 
-size_t urn_withdraw(size_t k, size_t d, uint8_t *urn, size_t length, size_t juror, size_t *answer, size_t answer_length) {
+size_t urn_withdraw(size_t k, size_t d, uint8_t *urn, size_t length, size_t juror, size_t *answer,
+                    size_t answer_length) {
     Found found;
     if (answer_length < 3)
         return SHORT_ANSWER;

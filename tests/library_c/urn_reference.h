@@ -7,9 +7,10 @@
 #include <stdint.h>
 
 size_t urn_empty(size_t k, size_t d, uint8_t *urn, size_t length, size_t *answer, size_t answer_length);
-size_t urn_admit(size_t k, size_t d, uint8_t *urn, size_t length, size_t juror, const uint8_t *ballot, size_t ballot_length,
-                 size_t *answer, size_t answer_length);
-size_t urn_withdraw(size_t k, size_t d, uint8_t *urn, size_t length, size_t juror, size_t *answer, size_t answer_length);
+size_t urn_admit(size_t k, size_t d, uint8_t *urn, size_t length, size_t juror, const uint8_t *ballot,
+                 size_t ballot_length, size_t *answer, size_t answer_length);
+size_t urn_withdraw(size_t k, size_t d, uint8_t *urn, size_t length, size_t juror, size_t *answer,
+                    size_t answer_length);
 size_t urn_preview_admit(size_t k, size_t d, const uint8_t *urn, size_t length, size_t juror, const uint8_t *ballot,
                          size_t ballot_length, size_t *answer, size_t answer_length);
 size_t urn_preview_withdraw(size_t k, size_t d, const uint8_t *urn, size_t length, size_t juror, size_t *answer,

@@ -1,7 +1,7 @@
-/* Runs on an urn over heap buffers of exactly the lent length, for valgrind: urns that were filled, thinned out and
- * now and then damaged, with tables, tapes, wire tables and boards that fit or are one off. A run on a sound urn is
- * compared with jugy_run on the ballots of its chain, and a refused call's buffers and every urn with their
- * copies. */
+/* Runs on an urn, on heap buffers of exactly the lent length, for valgrind. Ballots are admitted and withdrawn, and now
+ * and then the urn is damaged; tables, tapes, wire tables and boards fit, or are one too long or too short. A run on a
+ * sound urn is compared with jugy_run on the ballots of its chain. The urn never changes, and after a refusal no buffer
+ * has changed. */
 #include "../../c/jugyvaros.h"
 #include "random_jury.h"
 #include "seen.h"
@@ -56,29 +56,29 @@ static void one_call(size_t k, size_t d, size_t n, const uint8_t *urn, size_t le
     size_t room = below(20) ? JUGY_RUN_ANSWER : below(JUGY_RUN_ANSWER);
     said[0] = seen(jugy_run_urn(k, d, n, table, numbers, urn, length, tape, tape_length, wires, wires_length, board,
                                 board_length, said, room));
-    expect(!memcmp(before, urn, length), "the urn is altered");
+    expect(!memcmp(before, urn, length), "the urn is changed");
     if (room < JUGY_RUN_ANSWER) {
-        expect(said[0] == JUGY_SHORT_ANSWER, "a short answer array is taken");
+        expect(said[0] == JUGY_SHORT_ANSWER, "a short answer array is accepted");
     } else if (!shape_within(k, d, n) || d == 0) {
-        expect(said[0] == JUGY_SHAPE, "a shape outside the limits is taken");
+        expect(said[0] == JUGY_SHAPE, "a shape outside the limits is accepted");
     } else if (is_sound(k, d, urn, length)) {
         uint8_t *chain = chain_of(k, d, urn, &count), *ballots = copy_of(chain, count * k * d);
         uint8_t *run_wires = filled(wires_length, 7), *run_board = filled(board_length, 7);
         jugy_run(k, d, n, table, numbers, ballots, count * k * d, tape, tape_length, run_wires, wires_length, run_board,
                  board_length, other, JUGY_RUN_ANSWER);
-        expect(!memcmp(said, other, sizeof said), "another answer than jugy_run has on the ballots of the chain");
+        expect(!memcmp(said, other, sizeof said), "another answer than that of jugy_run on the ballots of the chain");
         expect(!memcmp(wires, run_wires, wires_length) && !memcmp(board, run_board, board_length), "other buffers");
         free(chain);
         free(ballots);
         free(run_wires);
         free(run_board);
     } else {
-        expect(said[0] == JUGY_URN, "an unsound urn is not refused as one");
+        expect(said[0] == JUGY_URN, "an unsound urn is not refused with its reason");
     }
     for (size_t i = 0; said[0] && i < wires_length; i++)
-        expect(wires[i] == 7, "a refusal alters the wire table");
+        expect(wires[i] == 7, "a refusal changes the wire table");
     for (size_t i = 0; said[0] && i < board_length; i++)
-        expect(board[i] == 7, "a refusal alters the board");
+        expect(board[i] == 7, "a refusal changes the board");
     free(table);
     free(tape);
     free(wires);

@@ -11,7 +11,7 @@ static void fail(const char *what) {
     exit(1);
 }
 
-/* An answer array that is too short: nothing changes. */
+/* Calls with an answer array that is too short: nothing may change. */
 static void short_answers(size_t k, size_t d, uint8_t *urn, size_t length, const uint8_t *ballot,
                           size_t ballot_length) {
     size_t room = below(JUGY_URN_ANSWER), *answer = filled(room * sizeof *answer, 9),
@@ -24,9 +24,9 @@ static void short_answers(size_t k, size_t d, uint8_t *urn, size_t length, const
                          jugy_preview_withdraw(k, d, urn, length, 1, answer, room)};
     for (size_t i = 0; i < sizeof statuses / sizeof *statuses; i++)
         if (seen(statuses[i]) != JUGY_SHORT_ANSWER)
-            fail("a short answer array is taken");
+            fail("a short answer array is accepted");
     if (memcmp(answer, old, room * sizeof *answer) || memcmp(copy, urn, length))
-        fail("a short answer array alters something");
+        fail("a call with a short answer array changes something");
     free(answer), free(old), free(copy);
 }
 

@@ -1,13 +1,16 @@
-//! Competing houses tally together, each in its own process. They talk over loopback TCP with a coordinator that adds
-//! what they publish and holds no share.
+//! Competing houses tally together, each in its own process. They talk over loopback TCP with a coordinator, which adds
+//! up what they publish and holds no share.
 //!
 //!     houses T K D N < BALLOTS        the I ballot bytes of a jury of K blends, D grades (0: rankings) and N ballots
 //!
 //! T is the number of houses, 2 to 5. The program prints the rounds R, the exchanges, the bytes that all houses sent,
 //! the time and the closing bytes. If a house leaves, falls silent or sends a wrong length, all processes end with an
-//! error. For trials, a house can be told to misbehave:
-//!     --leave P R    house P leaves in round R      --short P R    it sends a byte too few      --silent P R
-//!     --wait MS      how long a process waits for another; 10,000 if not given
+//! error. For trials, house P can be told to misbehave in round R:
+//!
+//!     --leave P R     it ends
+//!     --short P R     it sends a byte too few
+//!     --silent P R    it sends nothing in time
+//!     --wait MS       how many milliseconds a process waits for another; 10,000 if not given
 
 use jugyvaros::trustee::Seat;
 use jugyvaros::{GateList, Secret, Shape};
@@ -37,7 +40,7 @@ impl Plan {
         Ok(Plan { houses, levels: list.levels(), rounds: list.rounds(), list, wait })
     }
 
-    /// The places of a trustee's published bits that are new after a round.
+    /// Which of a trustee's published bits are new after a round, by their places.
     fn places(&self, round: usize) -> Vec<usize> {
         let conditional = |&g: &usize| matches!(self.list.table()[4 * g], 4 | 5 | 7);
         let mut places: Vec<usize> = (0..self.list.gates())
@@ -53,7 +56,7 @@ impl Plan {
     }
 }
 
-/// Packs bits into bytes, eight a byte.
+/// Packs bits into bytes, the first bit lowest.
 fn packed(bits: impl Iterator<Item = u8>) -> Vec<u8> {
     let bits: Vec<u8> = bits.collect();
     bits.chunks(8).map(|eight| eight.iter().enumerate().fold(0, |byte, (i, bit)| byte | bit << i)).collect()
@@ -63,18 +66,19 @@ fn bit(bytes: &[u8], i: usize) -> u8 {
     bytes[i / 8] >> (i % 8) & 1
 }
 
-/// Receives a message: its length, then its bytes. An unexpected length is an error, and so is silence.
+/// Sends a message: its length, then its bytes.
 fn send(stream: &mut TcpStream, bytes: &[u8]) -> std::io::Result<()> {
     stream.write_all(&(bytes.len() as u32).to_le_bytes())?;
     stream.write_all(bytes)
 }
 
+/// Receives a message. An unexpected length is an error, and so is silence.
 fn receive(stream: &mut TcpStream, length: usize) -> Outcome<Vec<u8>> {
     let mut said = [0; 4];
     stream.read_exact(&mut said)?;
     let said = u32::from_le_bytes(said) as usize;
     if said != length {
-        return Err(format!("a message of {said} bytes where {length} belong").into());
+        return Err(format!("a message of {said} bytes, but {length} were expected").into());
     }
     let mut bytes = vec![0; length];
     stream.read_exact(&mut bytes)?;
@@ -101,12 +105,12 @@ fn gather(plan: &Plan, listener: &TcpListener) -> Outcome<Vec<TcpStream>> {
                 stream.read_exact(&mut number)?;
                 match seats.get_mut(number[0] as usize) {
                     Some(seat) if seat.is_none() => *seat = Some(stream),
-                    _ => return Err(format!("house {} is none of those awaited", number[0]).into()),
+                    _ => return Err(format!("house {} was not expected", number[0]).into()),
                 }
             }
             Err(error) if error.kind() == ErrorKind::WouldBlock => {
                 if Instant::now() > deadline {
-                    return Err("not all houses called in time".into());
+                    return Err("not all houses connected in time".into());
                 }
                 sleep(POLL);
             }
@@ -116,7 +120,7 @@ fn gather(plan: &Plan, listener: &TcpListener) -> Outcome<Vec<TcpStream>> {
     Ok(seats.into_iter().flatten().collect())
 }
 
-/// The coordinator: it adds what the houses publish, round by round, and tells them the sums.
+/// The coordinator: it adds up what the houses publish, round by round, and tells them the sums.
 fn coordinate(plan: &Plan) -> Outcome<()> {
     let listener = TcpListener::bind((Ipv4Addr::LOCALHOST, 0))?;
     println!("{}", listener.local_addr()?.port());
@@ -149,7 +153,7 @@ struct Fault {
     round: usize,
 }
 
-/// A house: it reads its own ballot shares and triples, and hears nothing but sums.
+/// A house: it reads its own ballot shares and triples, and receives nothing but sums.
 fn tally(plan: &Plan, number: usize, port: u16, fault: &Fault) -> Outcome<()> {
     let (list, opened) = (&plan.list, 2 * plan.list.conditional());
     let mut ballot_shares = Secret::<u8>::zeros(list.inputs());
@@ -170,7 +174,7 @@ fn tally(plan: &Plan, number: usize, port: u16, fault: &Fault) -> Outcome<()> {
         let mut message = packed(places.iter().map(|&place| published[place]));
         if fault.house == number && fault.round == round {
             match fault.kind.as_str() {
-                "--leave" => return Err("goes away, as it was told to".into()),
+                "--leave" => return Err("left, as it was told to".into()),
                 "--short" => drop(message.pop()),
                 "--silent" => sleep(plan.wait * 2),
                 _ => {}

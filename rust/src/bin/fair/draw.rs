@@ -34,13 +34,13 @@ impl Random {
     }
 }
 
-/// How many rounds of drawing there are at most.
+/// The largest number of rounds of drawing.
 const ROUNDS: usize = 64;
 
-/// One of L levels for each jury, all equally likely: binary digits are drawn again until they are below L.
+/// One of L levels for each jury, all equally likely: each jury draws binary digits until their number is below L.
 ///
-/// A round leaves a jury without a level with a probability of at most 3/8. That some jury has none after all rounds is
-/// less likely than one in 10^25; such a jury gets the best level.
+/// After one round a jury has no level yet with a probability of at most 3/8. The chance that any jury has none after
+/// all rounds is below 1 in 10^25; such a jury gets the best level.
 #[inline]
 fn uniform<const L: usize>(random: &mut Random) -> [u64; L] {
     let mut row = [0; L];
@@ -76,7 +76,7 @@ fn step<const L: usize>(row: [u64; L], random: &mut Random) -> [u64; L] {
     })
 }
 
-/// Which juror prefers i to j: i's level is better.
+/// In which juries the juror prefers i to j, that is, i's level is better.
 #[inline]
 fn before<const L: usize>(i: &[u64; L], j: &[u64; L]) -> u64 {
     let (mut found, mut better) = (0, 0);
@@ -251,7 +251,7 @@ mod tests {
             let mut words = vec![0; 5 * 4 * 4];
             let best = drawn.ballots(&mut Random::new(3, 9), &mut words);
             for j in 0..64 {
-                // all jurors are of one mind, so who is truly best wins, and nobody else
+                // all jurors agree, so exactly the truly best blends win
                 let closing = count(drawn.shape, &unpack(&words, j)).unwrap();
                 assert_eq!(closing.to_vec(), unpack(&best, j).to_vec());
             }

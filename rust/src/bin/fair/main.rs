@@ -12,7 +12,7 @@ use std::io::{IsTerminal, Write};
 use std::process::ExitCode;
 use std::time::{Duration, Instant};
 
-/// A seed's number: FNV-1a over its characters.
+/// A seed's number: FNV-1a over its bytes.
 fn seed_number(seed: &str) -> u64 {
     seed.bytes().fold(0xCBF2_9CE4_8422_2325, |hash, byte| (hash ^ u64::from(byte)).wrapping_mul(0x100_0000_01B3))
 }
@@ -32,7 +32,7 @@ fn rehearsed(fair: &Fair, jobs: usize) -> Result<Outcome, JuryRefusal> {
         }
         let mut outcome = Outcome::of(fair.draw.shape.candidates);
         for worker in workers {
-            outcome.add(&worker.join().expect("a thread ends by itself")?);
+            outcome.add(&worker.join().expect("no thread panics")?);
         }
         Ok(outcome)
     })

@@ -1,10 +1,10 @@
-//! What `tools/fair` hands on. It has read the command line and tested what stands there.
+//! What `tools/fair` passes on. It has already read and tested the command line.
 
 use crate::draw::{Draw, Opinion};
 use jugyvaros::Shape;
 use std::path::PathBuf;
 
-/// What stands for an option that is not given.
+/// The word for an option that is not given.
 const NONE: &str = "-";
 
 /// A fair to rehearse.

@@ -10,7 +10,7 @@ use std::sync::atomic::{AtomicU64, Ordering::Relaxed};
 #[derive(Clone, Debug, Default, PartialEq)]
 pub struct Outcome {
     pub juries: u64,
-    /// By blend.
+    /// Each blend's wins.
     pub won: Vec<u64>,
     /// Juries with more than one winner.
     pub shared: u64,
@@ -54,12 +54,13 @@ pub struct Fair<'a> {
     pub draw: Draw,
     pub seed: u64,
     pub blocks: u64,
-    /// How many blocks threads have taken, and how many are counted.
+    /// How many blocks the threads have taken, and how many they have counted.
     taken: AtomicU64,
     counted: AtomicU64,
 }
 
-/// A thread takes several blocks at once, so that with small shapes reading the clock costs little.
+/// A thread takes several blocks at once, about this many numbers of ballots and tape: for small shapes, reading the
+/// clock once a block would cost too much.
 const WORDS: usize = 1 << 14;
 const MOST_BLOCKS: usize = 64;
 

@@ -27,9 +27,9 @@ pub fn lines(draw: &Draw, seed: &str, outcome: &Outcome, seconds: f64) -> String
     for (name, count) in counts(draw, outcome) {
         let (share, error) = share(count, outcome.juries);
         let won = if name.starts_with("blend") { " won" } else { "" };
-        writeln!(text, "{name}{won} {count} share {share:.4} error {error:.4}").expect("text takes all");
+        writeln!(text, "{name}{won} {count} share {share:.4} error {error:.4}").expect("a string takes any text");
     }
-    writeln!(text, "seconds {seconds:.4} core {:.4}", outcome.core).expect("text takes all");
+    writeln!(text, "seconds {seconds:.4} core {:.4}", outcome.core).expect("a string takes any text");
     text
 }
 
@@ -107,7 +107,7 @@ fn column(scale: &Scale, middle: f64, name: &str, count: u64, (share, error): (f
             svg,
             "<text x=\"{middle:.1}\" y=\"{at:.1}\" text-anchor=\"middle\" fill=\"{colour}\">{text}</text>"
         );
-        put.expect("text takes all");
+        put.expect("a string takes any text");
     }
     svg
 }
