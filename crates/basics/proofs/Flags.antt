@@ -15,15 +15,16 @@ and-taken t u r h e = e ∙ ap (λ (x : Bool). x && u) (sym h)
 pub and-left : (t u r : Bool) → t ≡ false → r ≡ t → r ≡ (t && u)
 and-left t u r h e = e ∙ h ∙ ap (λ (x : Bool). x && u) (sym h)
 
--- the first test held, and the flag is its outcome
-pub or-taken : (t u r : Bool) → t ≡ true → r ≡ t → r ≡ (t || u)
-or-taken t u r h e = e ∙ h ∙ ap (λ (x : Bool). x || u) (sym h)
-
 -- the first test failed, so the flag is the second test
 pub or-left : (t u r : Bool) → t ≡ false → r ≡ u → r ≡ (t || u)
 or-left t u r h e = e ∙ ap (λ (x : Bool). x || u) (sym h)
 
 -- if a conjunction holds, so do both its parts
+-- the second test failed, and the flag is the outcome of the first
+pub or-only-first : (t u r : Bool) → u ≡ false → r ≡ t → r ≡ (t || u)
+or-only-first false u r e f = f ∙ sym e
+or-only-first true u r e f = f
+
 pub and-first : (t u : Bool) → (t && u) ≡ true → t ≡ true
 and-first true u e = refl
 and-first false u e = e

@@ -10,7 +10,7 @@ use lib.Dec.{T, leb}
 use borrow.Author.Tests.{leb-true, le-leb, ne-eqb}
 use Rattle.jury.specs.declared.shape.Shape.{Shape}
 use Rattle.jury.specs.Shape.{isRanking, gradedLimits, rankedLimits, withinLimits, columns, ballotBytes}
-use Rattle.basics.proofs.Flags.{and-first, and-second, or-either, or-first, T-true, true-T}
+use Rattle.basics.proofs.Flags.{and-first, and-second, or-either, or-first, never-true, T-true, true-T}
 
 -- a graded jury
 pub record Within (s : Shape) : Type 0 where
@@ -118,6 +118,13 @@ graded-kind s e f = ⊎-elim (λ g. g) (λ r. absurd (true≢false (sym (ranked 
 
 pub ranked-kind : (s : Shape) → withinLimits s ≡ true → isRanking s ≡ true → rankedLimits s ≡ true
 ranked-kind s e f = ⊎-elim (λ g. absurd (true≢false (sym f ∙ graded-is s (within s g)))) (λ r. r) (kinds s e)
+
+-- no shape is of both kinds
+pub not-graded : (s : Shape) → isRanking s ≡ true → gradedLimits s ≡ false
+not-graded s e = never-true (gradedLimits s) (λ g. true≢false (sym e ∙ graded-is s (within s g)))
+
+pub not-ranked : (s : Shape) → isRanking s ≡ false → rankedLimits s ≡ false
+not-ranked s e = never-true (rankedLimits s) (λ r. true≢false (sym (ranked s r .ranking) ∙ e))
 
 pub graded-within : (s : Shape) → gradedLimits s ≡ true → withinLimits s ≡ true
 unfolding withinLimits

@@ -82,7 +82,11 @@ impl Shape {
     pub fn is_within_limits(self) -> bool
         ensures { λ r. ⌜ r ≡ withinLimits self ⌝ }
     {
-        self.is_within_graded_limits() || self.is_within_ranked_limits()
+        if self.is_ranking() {
+            self.is_within_ranked_limits()
+        } else {
+            self.is_within_graded_limits()
+        }
     }
 
     // The bytes of a row: one for each grade, or one for each candidate in a ranking.

@@ -3,15 +3,16 @@
 use mathlib.Core.Path.{_≡_, _∙_, ap}
 use mathlib.Core.Bool.{Bool, true, false, _&&_}
 use mathlib.Core.Logic.{_≢_}
-use mathlib.Core.List.{List, _∷_}
+use mathlib.Core.List.{List, [], _∷_}
 use Prim.Native.Nat.{ℕ, suc, _≤_, _<_}
 use native.Mathlib.Omega.{arith}
 use lib.Dec.{eqb}
 use lib.ListN.{length, getD, take, drop, length-take, drop-of-length-le}
 use lib.Seq.{drop-cons, getD-take}
-use borrow.Author.Tests.{eq-eqb, ne-eqb}
+use borrow.Author.Tests.{lt-ltb, le-ltb, eq-eqb, ne-eqb}
 use Rattle.basics.specs.Lists.{sameNumbers}
 use Rattle.basics.proofs.Same.{same-refl}
+use Rattle.rule_judgment.specs.inner.Decision.{byteBeside}
 
 -- the counts from place g on of the first d: that of g first
 rest-step : (row : List ℕ) (g d : ℕ) → d ≤ length row → g < d → drop g (take d row) ≡ getD row g 0 ∷ drop (suc g) (take d row)
@@ -47,3 +48,19 @@ module _ (a b : List ℕ) (g d : ℕ) (ha : d ≤ length a) (hb : d ≤ length b
 
 pub same-passes : (xs ys : List ℕ) → xs ≡ ys → sameNumbers xs ys ≡ true
 same-passes xs ys e = rw e (same-refl ys)
+
+-- the closing byte of candidate c if `first` wins: no candidate, one with the same counts, any other
+module _ (counts : List (List ℕ)) (k d first c : ℕ) where
+  pub beside-past : k ≤ c → byteBeside counts k d first c ≡ 0
+  unfolding byteBeside
+  beside-past h = rw (le-ltb c k h)
+
+  pub beside-same : c < k → sameNumbers (take d (getD counts c [])) (take d (getD counts first [])) ≡ true
+      → byteBeside counts k d first c ≡ 1
+  unfolding byteBeside
+  beside-same h e = rw (lt-ltb c k h, e)
+
+  pub beside-other : c < k → sameNumbers (take d (getD counts c [])) (take d (getD counts first [])) ≡ false
+      → byteBeside counts k d first c ≡ 0
+  unfolding byteBeside
+  beside-other h e = rw (lt-ltb c k h, e)

@@ -8,7 +8,7 @@ ghost use lib.ListN.{take, getD};
 ghost use Rattle.jury.specs.ClosingBytes.{eightBytes};
 ghost use Rattle.jury.specs.inner.Counts.{rowsIn};
 ghost use Rattle.rule_judgment.specs.Judgment.{sequenceOf, precedes, judgmentOf};
-ghost use Rattle.rule_judgment.specs.inner.Decision.{halfReached, decidedBy};
+ghost use Rattle.rule_judgment.specs.inner.Decision.{byteBeside, halfReached, decidedBy};
 ghost use Rattle.rule_judgment.specs.inner.Ready.{WinnersReady, FirstReady, WinningCandidate, RowsReady, Compared, SumsReady};
 
 // Running sums of two candidates: how many of their grades are at least as good as some grade.
@@ -17,8 +17,8 @@ pub struct Sums {
     pub b: usize,
 }
 
-// The closing bytes: 1 for each candidate with the first sequence, 0 for the others and from place k on. The matrix is
-// lent, here and below: the processor would wait for a copy of numbers that were just stored.
+// The closing bytes: 1 for each candidate with the first sequence, 0 for the others and from place k on. There is no
+// loop, and the matrix is lent: the processor waits if what was stored in parts is read or copied as a whole.
 pub fn winners(shape: Shape, counts: &[[u16; 7]; 8]) -> [u8; 8]
     requires { ⌜ WinnersReady shape (now counts) ⌝ }
     ensures { λ r.
@@ -27,15 +27,31 @@ pub fn winners(shape: Shape, counts: &[[u16; 7]; 8]) -> [u8; 8]
     let k = shape.candidates;
     let d = shape.grades;
     let first = first_winner(counts, k, d, shape.ballots);
-    let mut closing = [0u8; 8];
-    let mut c = 0;
-    while c < k {
-        if same_counts(counts, c, first, d) {
-            closing[c] = 1;
-        }
-        c += 1;
+    [
+        closing_byte(counts, 0, first, k, d),
+        closing_byte(counts, 1, first, k, d),
+        closing_byte(counts, 2, first, k, d),
+        closing_byte(counts, 3, first, k, d),
+        closing_byte(counts, 4, first, k, d),
+        closing_byte(counts, 5, first, k, d),
+        closing_byte(counts, 6, first, k, d),
+        closing_byte(counts, 7, first, k, d),
+    ]
+}
+
+// The closing byte of candidate c: 1 if it is one of k and has the counts of `first`, who wins.
+fn closing_byte(counts: &[[u16; 7]; 8], c: usize, first: usize, k: usize, d: usize) -> u8
+    requires { ⌜ RowsReady (now counts) c first d ⌝ }
+    ensures { λ r. ⌜ r ≡ byteBeside (now (counts .entry)) k d first c ⌝ }
+{
+    if k <= c {
+        return 0;
     }
-    closing
+    if same_counts(counts, c, first, d) {
+        1
+    } else {
+        0
+    }
 }
 
 // A candidate whose sequence no other sequence precedes.

@@ -1,8 +1,17 @@
 -- Definitions for inner functions and their proofs: no entry point's contract needs them.
 use mathlib.Core.Bool.{Bool, cond, _&&_, _||_}
+use mathlib.Core.List.{List, []}
 use Prim.Native.Nat.{ℕ, _+_, _*_}
 use lib.Dec.{leb, ltb}
+use lib.ListN.{getD, take}
+use Rattle.basics.specs.Lists.{sameNumbers}
 use Rattle.rule_judgment.specs.declared.rule.Sums.{Sums}
+
+-- The closing byte of candidate c in an array of counts, of which the first k rows and d columns are used, if the
+-- candidate `first` wins: 1 if c is one of k and has the same counts.
+unfoldable pub byteBeside : List (List ℕ) → ℕ → ℕ → ℕ → ℕ → ℕ
+byteBeside counts k d first c =
+    cond (ltb c k && sameNumbers (take d (getD counts c [])) (take d (getD counts first []))) 1 0
 
 -- Whether the sum of one of two candidates is at least half of n.
 unfoldable pub halfReached : ℕ → Sums → Bool

@@ -1,49 +1,39 @@
--- `rule_judgment::rule::winners` meets its contract: below c the bytes are 1 for those with the first winner's
--- counts; from c on they are 0.
+-- `rule_judgment::rule::winners` meets its contract: a byte is 1 for those with the first winner's counts.
 -- Assumes nothing.
 use mathlib.Core.Path.{_≡_, _∙_, sym, ap}
 use mathlib.Core.Bool.{true, false}
 use mathlib.Core.Logic.{⊎-elim}
-use mathlib.Core.List.{List, []}
-use Prim.Native.Nat.{ℕ, suc, _-_, _≤_, _<_}
-use native.Mathlib.Numerals.{add-one}
+use mathlib.Core.List.{List, [], _∷_}
+use Prim.Native.Nat.{ℕ, _≤_, _<_}
 use native.Mathlib.Omega.{arith}
-use lib.ListN.{length, getD, set, take}
+use lib.ListN.{length, getD, take}
+use lib.Seq.{length-take-le}
 use Rattle.basics.specs.Lists.{tabulate, sameNumbers}
+use Rattle.basics.proofs.Cases.{below-or-not}
+use Rattle.basics.proofs.Flags.{either}
+use Rattle.basics.proofs.Tabulate.{upTo, upTo-new, upTo-old, tabulate-cong}
 use Rattle.jury.specs.inner.Counts.{rowsIn}
 use Rattle.jury.proofs.Limits.{Within, within-T}
-use Rattle.basics.proofs.Tabulate.{upTo, fill-start, fill-step, fill-skip}
 use Rattle.jury.proofs.Rows.{rows-length, row-at}
 use Rattle.rule_judgment.specs.Judgment.{judgmentOf}
+use Rattle.rule_judgment.specs.inner.Decision.{byteBeside}
+use Rattle.rule_judgment.specs.inner.Ready.{RowsReady}
 use Rattle.rule_judgment.proofs.Leading.{same-wins, other-loses, eight-judged}
+use Rattle.rule_judgment.proofs.SameCounts.{beside-past, beside-same, beside-other}
 use Rattle.rule_judgment.proofs.rule.winners.Statement.{statement}
 use Rattle.rule_judgment.proofs.rule.winners.Tie as tie
 
--- the closing byte of a row
-abbrev byte : List (List ℕ) → ℕ → ℕ
-byte rows j = getD (judgmentOf rows) j 0
-
--- the bytes before turn c
-abbrev filled : List (List ℕ) → ℕ → List ℕ
-filled rows c = tabulate 8 (upTo c (byte rows) (λ j. 0))
-
-abbrev Inv-loop : tie.InvT-loop
-Inv-loop counts k d first closing₀ c₀ closing c = (c ≤ k) × (closing ≡ filled (rowsIn k d counts) c)
-
-abbrev μ-loop : tie.MeasureT-loop
-μ-loop counts k d first closing₀ c₀ closing c = k - c
-
-within-limits : (c : tie.Start Inv-loop μ-loop) → Within (c .args .shape)
+within-limits : (c : tie.Start) → Within (c .args .shape)
 within-limits c = within-T (c .args .shape) (c .pre .within)
 
-abbrev rows : tie.Start Inv-loop μ-loop → List (List ℕ)
+abbrev rows : tie.Start → List (List ℕ)
 rows c = rowsIn (c .args .shape .candidates) (c .args .shape .grades) (c .args .counts .now)
 
-rows-are : (c : tie.Start Inv-loop μ-loop) → length (rows c) ≡ c .args .shape .candidates
+rows-are : (c : tie.Start) → length (rows c) ≡ c .args .shape .candidates
 rows-are c = rows-length (c .args .shape .candidates) (c .args .shape .grades) (c .args .counts .now)
     (omega (arith, c .pre .eight, within-limits c .k-most))
 
-first-winner-requires : tie.Need-first-winner-requires Inv-loop μ-loop
+first-winner-requires : tie.Need-first-winner-requires
 first-winner-requires c κs =
     let w = within-limits c in
     record {
@@ -56,115 +46,167 @@ first-winner-requires c κs =
       gets = c .pre .gets;
     }
 
-loop-holds : tie.Need-loop-holds Inv-loop μ-loop
-unfolding tabulate
-loop-holds c = (omega arith, sym (fill-start 8 (byte (rows (c .before))) (λ j. 0)))
-
-same-counts-requires : tie.Need-same-counts-requires Inv-loop μ-loop
-same-counts-requires c κs =
-    let at = c .before in
-    let start = at .before .before in
-    let w = within-limits start in
-    let now : at .loop .c < 8 = omega (arith, w .k-most) in
-    let first : at .before .first-winner .result < 8 = omega (arith, w .k-most, at .before .first-winner .ensures .inside) in
+-- the row of each candidate, and that of the first winner, are in the array
+ready : (c : tie.After-first-winner) (i : ℕ) → i < 8
+    → RowsReady (c .before .args .counts .now) i (c .first-winner .result) (c .before .args .shape .grades)
+ready c i h =
+    let w = within-limits (c .before) in
+    let inside : c .first-winner .result < 8 = omega (arith, w .k-most, c .first-winner .ensures .inside) in
     record {
-      firstInside = now;
-      secondInside = first;
+      firstInside = h;
+      secondInside = inside;
       fewGrades = w .d-most;
-      firstColumns = start .pre .columns (at .loop .c) now;
-      secondColumns = start .pre .columns (at .before .first-winner .result) first;
+      firstColumns = c .before .pre .columns i h;
+      secondColumns = c .before .pre .columns (c .first-winner .result) inside;
     }
 
--- The stages of the function, seen from later ones.
-abbrev start-from-then1 : tie.Then1 Inv-loop μ-loop → tie.Start Inv-loop μ-loop
-start-from-then1 c = c .before .before .before .before .before
+-- The first winner is found, seen from each closing byte.
+abbrev found2 : tie.After-closing-byte → tie.After-first-winner
+found2 c = c .before
 
-array-write-closing : tie.Need-array-write-closing Inv-loop μ-loop
-array-write-closing c = omega (arith, within-limits (start-from-then1 c) .k-most)
+abbrev found3 : tie.After-closing-byte2 → tie.After-first-winner
+found3 c = found2 (c .before)
 
-add-c : tie.Need-add-c Inv-loop μ-loop
-add-c c = omega arith
+abbrev found4 : tie.After-closing-byte3 → tie.After-first-winner
+found4 c = found3 (c .before)
 
-loop-less : tie.Need-loop-less Inv-loop μ-loop
-loop-less c = omega arith
+abbrev found5 : tie.After-closing-byte4 → tie.After-first-winner
+found5 c = found4 (c .before)
 
--- what a turn's comparison says about its candidate's byte
-module _ (c : tie.After-same-counts Inv-loop μ-loop) where
-  abbrev at : tie.At-loop Inv-loop μ-loop
-  at = c .before .before
+abbrev found6 : tie.After-closing-byte5 → tie.After-first-winner
+found6 c = found5 (c .before)
 
-  abbrev begin : tie.Start Inv-loop μ-loop
-  begin = at .before .before
+abbrev found7 : tie.After-closing-byte6 → tie.After-first-winner
+found7 c = found6 (c .before)
+
+abbrev found8 : tie.After-closing-byte7 → tie.After-first-winner
+found8 c = found7 (c .before)
+
+closing-byte-requires : tie.Need-closing-byte-requires
+closing-byte-requires c κs = ready c 0 (omega arith)
+
+closing-byte-requires-2 : tie.Need-closing-byte-requires-2
+closing-byte-requires-2 c κs = ready (found2 c) 1 (omega arith)
+
+closing-byte-requires-3 : tie.Need-closing-byte-requires-3
+closing-byte-requires-3 c κs = ready (found3 c) 2 (omega arith)
+
+closing-byte-requires-4 : tie.Need-closing-byte-requires-4
+closing-byte-requires-4 c κs = ready (found4 c) 3 (omega arith)
+
+closing-byte-requires-5 : tie.Need-closing-byte-requires-5
+closing-byte-requires-5 c κs = ready (found5 c) 4 (omega arith)
+
+closing-byte-requires-6 : tie.Need-closing-byte-requires-6
+closing-byte-requires-6 c κs = ready (found6 c) 5 (omega arith)
+
+closing-byte-requires-7 : tie.Need-closing-byte-requires-7
+closing-byte-requires-7 c κs = ready (found7 c) 6 (omega arith)
+
+closing-byte-requires-8 : tie.Need-closing-byte-requires-8
+closing-byte-requires-8 c κs = ready (found8 c) 7 (omega arith)
+
+-- Exactly those with the first winner's counts win.
+module _ (c : tie.After-first-winner) where
+  abbrev start : tie.Start
+  start = c .before
 
   abbrev winner : ℕ
-  winner = at .before .first-winner .result
+  winner = c .first-winner .result
 
-  row : (i : ℕ) → i < begin .args .shape .candidates → getD (rows begin) i []
-      ≡ take (begin .args .shape .grades) (getD (begin .args .counts .now) i [])
-  row i l = row-at (begin .args .shape .candidates) (begin .args .shape .grades) (begin .args .counts .now) i l
+  abbrev k : ℕ
+  k = start .args .shape .candidates
 
-  winner-inside : winner < begin .args .shape .candidates
-  winner-inside = at .before .first-winner .ensures .inside
+  abbrev d : ℕ
+  d = start .args .shape .grades
 
-  turn-inside : at .loop .c < begin .args .shape .candidates
-  turn-inside = omega arith
+  abbrev counts : List (List ℕ)
+  counts = start .args .counts .now
 
-  compared-rows : c .same-counts .result ≡ sameNumbers (getD (rows begin) (at .loop .c) []) (getD (rows begin) winner [])
-  compared-rows = c .same-counts .ensures .answer ∙ sym (rw (row (at .loop .c) turn-inside, row winner winner-inside))
+  abbrev judged : ℕ → ℕ
+  judged i = getD (judgmentOf (rows start)) i 0
 
-  byte-one : c .same-counts .result ≡ true → byte (rows begin) (at .loop .c) ≡ 1
-  byte-one e =
-      same-wins (begin .args .shape .ballots) (rows begin) (begin .pre .gets) winner
-      (omega (arith, rows-are begin, winner-inside)) (at .before .first-winner .ensures .byte)
-      (at .loop .c) (omega (arith, rows-are begin, turn-inside)) (sym compared-rows ∙ e)
+  -- the closing bytes, and 0 past the last candidate
+  abbrev padded : ℕ → ℕ
+  padded = upTo (length (rows start)) judged (λ j. 0)
 
-  byte-zero : c .same-counts .result ≡ false → byte (rows begin) (at .loop .c) ≡ 0
-  byte-zero e =
-      other-loses (begin .args .shape .ballots) (rows begin) (begin .pre .gets) winner
-      (omega (arith, rows-are begin, winner-inside)) (at .before .first-winner .ensures .byte)
-      (at .loop .c) (omega (arith, rows-are begin, turn-inside))
-      (ap length (row (at .loop .c) turn-inside) ∙ c .same-counts .ensures .firstLength
-      ∙ sym (c .same-counts .ensures .secondLength) ∙ sym (ap length (row winner winner-inside)))
-      (sym compared-rows ∙ e)
+  byte-is : (i : ℕ) → i < 8 → byteBeside counts k d winner i ≡ padded i
+  byte-is i h = ⊎-elim inside outside (below-or-not i k)
+    where
+      size : length (rows start) ≡ k
+      size = rows-are start
 
-loop-again : tie.Need-loop-again Inv-loop μ-loop
-loop-again c =
-    let now = at (c .before) in
-    let all = rows (begin (c .before)) in
-    let i = now .loop .c in
-    let room : i < 8 = omega (arith, turn-inside (c .before), within-limits (begin (c .before)) .k-most) in (
-      omega arith,
-      ⊎-elim {C = c .if1 .closing ≡ filled all (suc i)}
-          (λ w.
-          w .1
-          ∙ ap (λ (m : List ℕ). set m i 1) (now .loop .inv .1)
-          ∙ ap (λ (v : ℕ). set (filled all i) i v) (sym (byte-one (c .before) (w .0 .taken)))
-          ∙ fill-step 8 i (byte all) (λ j. 0) room)
-          (λ w. w .1 ∙ now .loop .inv .1 ∙ fill-skip 8 i (byte all) (λ j. 0) room (byte-zero (c .before) (w .0 .left)))
-          (c .if1 .came)
-          ∙ ap (filled all) (sym (add-one i)),
-    )
+      row : (j : ℕ) → j < k → getD (rows start) j [] ≡ take d (getD counts j [])
+      row j l = row-at k d counts j l
 
-returns : tie.Need-returns Inv-loop μ-loop
+      won : winner < k
+      won = c .first-winner .ensures .inside
+
+      outside : k ≤ i → byteBeside counts k d winner i ≡ padded i
+      outside l = beside-past counts k d winner i l
+          ∙ sym (upTo-old (length (rows start)) i judged (λ j. 0) (omega (arith, size)))
+
+      inside : i < k → byteBeside counts k d winner i ≡ padded i
+      inside l = either (sameNumbers (take d (getD counts i [])) (take d (getD counts winner []))) same other
+          ∙ sym (upTo-new (length (rows start)) i judged (λ j. 0) (omega (arith, size)))
+        where
+          as-rows : sameNumbers (getD (rows start) i []) (getD (rows start) winner [])
+              ≡ sameNumbers (take d (getD counts i [])) (take d (getD counts winner []))
+          as-rows = rw (row i l, row winner won)
+
+          same : sameNumbers (take d (getD counts i [])) (take d (getD counts winner [])) ≡ true
+              → byteBeside counts k d winner i ≡ judged i
+          same e = beside-same counts k d winner i l e
+              ∙ sym (same-wins (start .args .shape .ballots) (rows start) (start .pre .gets) winner (omega (arith, size, won))
+              (c .first-winner .ensures .byte) i (omega (arith, size, l)) (as-rows ∙ e))
+
+          other : sameNumbers (take d (getD counts i [])) (take d (getD counts winner [])) ≡ false
+              → byteBeside counts k d winner i ≡ judged i
+          other e = beside-other counts k d winner i l e
+              ∙ sym (other-loses (start .args .shape .ballots) (rows start) (start .pre .gets) winner (omega (arith, size, won))
+              (c .first-winner .ensures .byte) i (omega (arith, size, l)) (as-long ∙ sym (ap length (row winner won))) (as-rows ∙ e))
+            where
+              as-long : length (getD (rows start) i []) ≡ length (take d (getD counts winner []))
+              as-long =
+                  let r = ready c i h in
+                  ap length (row i l)
+                  ∙ length-take-le d (getD counts i []) (omega (arith, r .fewGrades, r .firstColumns))
+                  ∙ sym (length-take-le d (getD counts winner []) (omega (arith, r .fewGrades, r .secondColumns)))
+
+-- Eight bytes, one by one, are a table of eight.
+eight-are : (g : ℕ → ℕ) {a b c d e f h i : ℕ} → a ≡ g 0 → b ≡ g 1 → c ≡ g 2 → d ≡ g 3 → e ≡ g 4 → f ≡ g 5 → h ≡ g 6 → i ≡ g 7
+    → a ∷ b ∷ c ∷ d ∷ e ∷ f ∷ h ∷ i ∷ [] ≡ tabulate 8 g
+unfolding tabulate
+eight-are g p q r s t u v w = cc (p, q, r, s, t, u, v, w)
+
+returns : tie.Need-returns
 returns c =
-    let last = c .before in
-    let all = rows (last .before .before) in
-    last .loop .inv .1
-    ∙ ap (λ (i : ℕ). tabulate 8 (upTo i (byte all) (λ j. 0))) {x = last .loop .c} {y = length all}
-    (omega (arith, rows-are (last .before .before)))
-    ∙ eight-judged all
+    let seventh = c .before in
+    let sixth = seventh .before in
+    let fifth = sixth .before in
+    let fourth = fifth .before in
+    let third = fourth .before in
+    let second = third .before in
+    let first = second .before in
+    let f = first .before in
+    let byte : ℕ → ℕ = byteBeside (counts f) (k f) (d f) (winner f) in
+    eight-are byte (first .closing-byte .ensures) (second .closing-byte2 .ensures) (third .closing-byte3 .ensures)
+    (fourth .closing-byte4 .ensures) (fifth .closing-byte5 .ensures) (sixth .closing-byte6 .ensures)
+    (seventh .closing-byte7 .ensures) (c .closing-byte8 .ensures)
+    ∙ tabulate-cong 8 byte (padded f) (byte-is f)
+    ∙ eight-judged (rows (start f))
 
 pub winners-spec : {M : Type 1} → statement M
 winners-spec =
     tie.close
     (tie.spec
-    Inv-loop
-    μ-loop
     first-winner-requires
-    loop-holds
-    same-counts-requires
-    array-write-closing
-    add-c
-    loop-less
-    loop-again
+    closing-byte-requires
+    closing-byte-requires-2
+    closing-byte-requires-3
+    closing-byte-requires-4
+    closing-byte-requires-5
+    closing-byte-requires-6
+    closing-byte-requires-7
+    closing-byte-requires-8
     returns)
