@@ -1,5 +1,5 @@
--- Laws of truth values. The first four are for tests that the code joins by `&&` or `||`: they give the flag r
--- after the two branches.
+-- Laws of truth values. The first ones are for tests that the code joins by `&&` or `||`: they give the flag r after
+-- the two branches.
 -- Assumes nothing.
 use mathlib.Core.Path.{_≡_, _∙_, refl, sym, ap}
 use mathlib.Core.Bool.{Bool, true, false, cond, _&&_, _||_}

@@ -23,8 +23,8 @@ adders m e = (m + e + 1) / 2
 unfoldable pub levelSum : ℕ → ℕ → ℕ → ℕ → ℕ
 levelSum n s m e = cond (eqb (adders m e) 0) s (n + 3 * adders m e - 2)
 
--- r levels of adders that count the m bits from `at` on, d apart, and the public number `extra`, one binary digit
--- of it a level. A level's sum starts with its first bit.
+-- r levels of adders that count the m bits from `at` on, d apart, and the public number `extra`: each level adds one
+-- of its binary digits. A level's sum starts with its first bit.
 unfoldable pub countLevels : ℕ → ℕ → ℕ → ℕ → ℕ → ℕ → List Gate
 countLevels n at d m extra zero = []
 countLevels n at d m extra (suc r) =

@@ -1,6 +1,6 @@
--- Words compared in two halves, side by side, in half as many rounds. The low half has l + 1 digits, the high half
--- h; if h is 0, the low half is the whole word. The cut changes neither the number of gates nor that of conditional
--- gates.
+-- Words compared in two halves, side by side, in half as many rounds. The low half has l + 1 digits, the high half h;
+-- if h is 0, the low half is the whole word. The cut changes neither the number of gates nor that of conditional
+-- ones.
 use mathlib.Core.List.{List, [], _∷_, _++_}
 use Prim.Native.Nat.{ℕ, zero, suc, _+_, _-_}
 use Rattle.gates.specs.Gate.{Gate}
@@ -47,7 +47,7 @@ unfoldable pub compareHalves : ℕ → ℕ → ℕ → ℕ → ℕ → List Gate
 compareHalves n x y l h =
     unequalHalves n x y l h ++ aboveHalves (n + unequalSpan (l + h)) n x (highUnequalAt n l h) l h
 
--- For words of w + 1 digits: the number of gates of this block, and the wire that says whether the word at x is
+-- For words of w + 1 digits: the number of gates of this block, and the wire that says, if they differ, whether x is
 -- above.
 abbrev pub compareSpan : ℕ → ℕ
 compareSpan w = unequalSpan w + w

@@ -4,8 +4,7 @@ use Prim.Native.Nat.{ℕ, zero, suc, _+_}
 use Rattle.gates.specs.Gate.{Gate}
 use Rattle.gate_words.specs.Gates.{xorOf}
 
--- The sums modulo 2 of two rows of m wires, from x and y on. The wires of one row are dx apart, those of the other
--- dy.
+-- The sums modulo 2 of two rows of m wires: one from x on, dx apart, the other from y on, dy apart.
 unfoldable pub xorRows : ℕ → ℕ → ℕ → ℕ → ℕ → List Gate
 xorRows x dx y dy zero = []
 xorRows x dx y dy (suc m) = xorOf x y ∷ xorRows (x + dx) dx (y + dy) dy m

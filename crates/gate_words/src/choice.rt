@@ -46,8 +46,7 @@ impl Writer {
         w
     }
 
-    // A chain of gates whose kind has two operands. It joins wire s and `count` wires from `first` on, a stride
-    // apart.
+    // A chain of gates whose kind has two operands: joins wire s and `count` wires from `first` on, a stride apart.
     fn chain(
         self,
         table: &mut [u32],

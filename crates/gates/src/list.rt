@@ -1,4 +1,4 @@
-// The test of a gate list, whoever wrote it.
+// The test of a gate list, the own one or a stranger's.
 use crate::kind;
 use crate::kind::GateValue;
 ghost use mathlib.Core.Path.{_≡_};

@@ -27,8 +27,8 @@ fn medians_alone(w: Writer, table: &mut [u32], e: u32, s: u32) -> Writer
     differ.emit(table, kind::COPY, s, 0, 0)
 }
 
-// The result of the medians, wires e and s, and of a single sum, of above + 1 digits, which decides if the medians
-// are equal.
+// Which key comes first by a single sum, of above + 1 digits, if the medians are equal. Wires e and s have the result
+// of the medians.
 fn one_sum(
     w: Writer,
     table: &mut [u32],
@@ -52,7 +52,8 @@ fn one_sum(
     either.emit(table, kind::CHOICE, e, s, first)
 }
 
-// Which of the keys at x and y comes first, from the result of their medians, wires e and s, and from their sums.
+// Which of the keys at x and y comes first. Wires e and s have the result of the medians; if they are equal, the sums
+// decide.
 fn tie_break_below(
     w: Writer,
     table: &mut [u32],

@@ -94,8 +94,8 @@ fn compare_and_reach(
 }
 
 // Whether the lower grade is struck first; `resolve` starts at wire q. Wires j and k are the carries of x and y. Wire
-// s says whether x is larger at the lower grade, f and g whether the median is worse than the first and than the
-// last.
+// s says whether x is larger at the lower grade; f and g say whether the median is worse than the first grade, and
+// than the last.
 fn lower_first(
     w: Writer,
     table: &mut [u32],

@@ -114,7 +114,7 @@ pub fn compare_ones(
     )
 }
 
-// The wire that says whether the numbers of ones differ, if their comparison goes from wire n to just before wire
+// The wire that says whether the numbers of ones differ. Their comparison starts at wire n and ends just before wire
 // `end`.
 pub fn ones_differ(n: u32, end: u32, count: u32, above: u32) -> u32
     requires { ⌜ EndReady n end count above ⌝ }

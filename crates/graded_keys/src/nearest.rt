@@ -1,4 +1,4 @@
-// Chooses the words of two keys at the grades nearest to the median at which the keys differ. A word has above + 1
+// Chooses the words of two keys at the grades nearest to the median at which they differ. A word has above + 1
 // digits.
 use gate_words::halves::unequal_at;
 use gate_words::writer::Writer;

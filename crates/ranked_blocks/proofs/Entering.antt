@@ -160,7 +160,7 @@ module _ (k n w at i j : ℕ) where
   votes-moved e q ne = ap (λ (x : ℕ). counter at x (k * k) n 0 w) (sym q)
       ∙ sym (ap (λ (c : Bool). cond c [] (counter at (i * k + j) (k * k) n 0 w)) (ne-eqb i j ne))
 
--- one block for each two candidates: there is none unless the row is the later candidate's and has blocks
+-- one block for each pair of candidates: there is none unless the row is the later candidate's and has blocks
 pub not-later : (rows : ℕ → Bool) (i j : ℕ) → i ≤ j → (ltb j i && rows i) ≡ false
 not-later rows i j l = ap (λ (c : Bool). c && rows i) (le-ltb j i l)
 

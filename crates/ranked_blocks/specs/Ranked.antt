@@ -1,4 +1,4 @@
--- The public numbers from which a ranked tasting's own list is written, and what is kept for each two candidates.
+-- The public numbers from which a ranked tasting's own list is written, and what is kept for each pair of candidates.
 use mathlib.Core.Bool.{Bool, cond, _&&_}
 use mathlib.Core.Logic.{_≢_}
 use mathlib.Core.List.{List}
@@ -31,6 +31,6 @@ abbrev pub keepLinks : (ℕ → Bool) → List ℕ → ℕ → ℕ → ℕ → �
 keepLinks rows wires k i j wire =
     cond (ltb j i && rows i) (set (set wires (i * k + j) (wire - 2)) (j * k + i) (wire - 1)) wires
 
--- The words kept for each two candidates, of w + 1 digits, end before the wire `wire`.
+-- The words kept for each pair of candidates, of w + 1 digits, end before the wire `wire`.
 abbrev pub WordsBelow : List ℕ → ℕ → ℕ → ℕ → Type 0
 WordsBelow words k w wire = (i j : ℕ) → i < k → j < k → i ≢ j → keptOf words k i j + suc w ≤ wire

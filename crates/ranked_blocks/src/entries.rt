@@ -25,7 +25,7 @@ pub struct Ranks {
     pub digits: u32,
 }
 
-// Block e of the votes: the number of ballots that put i before j. Where its word starts is kept in `words`.
+// Block e of the votes: the number of ballots that put i before j. The first wire of its word is kept in `words`.
 pub fn votes_entry(w: Writer, table: &mut [u32], words: &mut [u32], p: Ranks, e: u32) -> Writer
     requires { ⌜ VotesReady w (now words) p e ⌝ }
     ensures { λ r. ⌜
@@ -183,8 +183,8 @@ fn new_word(
     path_or_way(w, table, word, to, from, p.digits, cut)
 }
 
-// Block e of stage m: a new word, and where it starts is kept in `words`. There is no block if the stage leaves the
-// word.
+// Block e of stage m: a new word, whose first wire is kept in `words`. If the stage leaves the word, there is no
+// block.
 pub fn path_entry(
     w: Writer,
     table: &mut [u32],

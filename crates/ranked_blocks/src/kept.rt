@@ -1,5 +1,5 @@
-// What is kept for each two of k candidates: where their word starts, or a wire about them. That of i and j is at
-// place i * k + j.
+// What is kept for each pair of k candidates: the first wire of their word, or a wire about them. For i and j it is
+// at place i * k + j.
 ghost use mathlib.Core.Path.{_≡_};
 ghost use Rattle.ranked_circuit.specs.Stages as spec;
 ghost use Rattle.ranked_blocks.specs.Ranked.{keptOf};

@@ -44,7 +44,7 @@ votes-good k n w at i j hi hj h c =
     either-good at (eqb i j) [] (counter at (i * k + j) (k * k) n 0 w) tt
     (λ e. counter-good at (i * k + j) (k * k) n 0 w (bytes-below k n at i j hi hj h) c)
 
--- the words of each two candidates end before the wire `wire`
+-- the words of each pair of candidates end before the wire `wire`
 abbrev pub WordsBelow : ℕ → ℕ → (ℕ → ℕ → ℕ) → ℕ → Type 0
 WordsBelow k w words wire = (i j : ℕ) → i < k → j < k → i ≢ j → words i j + suc w ≤ wire
 

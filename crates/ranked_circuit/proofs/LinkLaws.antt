@@ -1,4 +1,4 @@
--- Tables with one block for each two candidates, whose last two wires are about the two: where these wires are.
+-- Tables with one block for each pair of candidates, whose last two wires are about the two: where these wires are.
 -- Assumes nothing.
 use mathlib.Core.Path.{_≡_, _∙_, refl, ap, subst}
 use mathlib.Core.Bool.{Bool, true, false, cond, _&&_}

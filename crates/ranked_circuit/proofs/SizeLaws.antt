@@ -44,8 +44,8 @@ sizes n w =
       lasts = λ a. refl;
     }
 
--- G: a counter for each two candidates each way, a comparison for each two, a word for each link to or from candidate
--- 0, and so on
+-- G: two counters and a comparison for each pair of candidates, a word for each link to or from candidate 0, and so
+-- on
 pub gates-are : (r n w : ℕ) → r ≤ 5 → length (rankedList (suc (suc (suc r))) n w) ≡
     suc (suc (suc r)) * suc (suc r) * (countSize n 0 w + suc w) + suc (suc (suc r)) * suc (suc r) / 2 * (3 + 3 * w)
     + 2 * suc (suc r) * suc w + suc (suc r) * suc r * (6 * w + 3) + suc r * (suc (suc r) * suc r) * (6 * w + 2)

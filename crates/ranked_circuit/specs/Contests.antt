@@ -1,6 +1,6 @@
 -- Who beats whom. There is no detour over the last candidate l: the paths that avoid l already decide, as
--- `beats-by-six` of `rule_schulze` shows. First each of the others has a duel with l, then each two of the others
--- have a meeting.
+-- `beats-by-six` of `rule_schulze` shows. First each of the others has a duel with l, then each pair of the others
+-- has a meeting.
 use mathlib.Core.Bool.{cond}
 use mathlib.Core.List.{List, [], _∷_, _++_}
 use Prim.Native.Nat.{ℕ, _+_, _-_, _*_, max}
@@ -42,11 +42,11 @@ meeting li lj ij ji mi mj w at =
     ∷ muxOf (at + c - 2) mj (at + c + c + s + s + 1)
     ∷ [])
 
--- The meeting of i and j, if `words` says where words start, and `met` which wire says who beats whom in a duel.
+-- The meeting of i and j, if `words` gives the first wires of words, and `met` the wires that say who won a duel.
 abbrev pub meetingOf : ℕ → (ℕ → ℕ → ℕ) → (ℕ → ℕ → ℕ) → ℕ → ℕ → ℕ → ℕ → List Gate
 meetingOf l words met w at i j = meeting (words l i) (words l j) (words i j) (words j i) (met i l) (met j l) w at
 
--- The block of i and j in the table of meetings: one for each two candidates before l.
+-- The block of i and j in the table of meetings: one for each pair of candidates before l.
 unfoldable pub meetingsBlock : ℕ → (ℕ → ℕ → ℕ) → (ℕ → ℕ → ℕ) → ℕ → ℕ → ℕ → ℕ → List Gate
 meetingsBlock l words met w = laterOf (λ i. ltb i l) (meetingOf l words met w)
 

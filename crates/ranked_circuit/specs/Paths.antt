@@ -8,7 +8,7 @@ use Rattle.gates.specs.Gate.{Gate}
 use Rattle.ranked_circuit.specs.Table.{table, entryEnd}
 use Rattle.ranked_circuit.specs.Stages.{votesBlock, linksBlock, linkAt, stays, pathBlock}
 
--- The wire at which the number of ballots that put i before j starts.
+-- The first wire of the number of ballots that put i before j.
 unfoldable pub votesAt : ℕ → ℕ → ℕ → ℕ → ℕ → ℕ
 votesAt k n w i j = entryEnd (n * k * k) k (votesBlock k n w) i j - suc w
 
@@ -20,7 +20,7 @@ votesTable k n w = table (n * k * k) k (votesBlock k n w)
 unfoldable pub linksFrom : ℕ → ℕ → ℕ → ℕ
 linksFrom k n w = n * k * k + length (votesTable k n w)
 
--- The table of links: for each two candidates, their two numbers of ballots are compared.
+-- The table of links: for each pair of candidates, their two numbers of ballots are compared.
 unfoldable pub linksTable : ℕ → ℕ → ℕ → List Gate
 linksTable k n w = table (linksFrom k n w) k (linksBlock 0 (votesAt k n w) w)
 
@@ -28,7 +28,7 @@ linksTable k n w = table (linksFrom k n w) k (linksBlock 0 (votesAt k n w) w)
 unfoldable pub linkWire : ℕ → ℕ → ℕ → ℕ → ℕ → ℕ
 linkWire k n w = linkAt (linksFrom k n w) k (linksBlock 0 (votesAt k n w) w)
 
--- The gates so far, after the ballots, and where the word of each two candidates starts.
+-- The gates so far, after the ballots, and the first wire of the word of each pair of candidates.
 pub record Paths : Type 0 where
   pub gates : List Gate
   pub words : ℕ → ℕ → ℕ

@@ -1,5 +1,5 @@
--- The own list of a ranked tasting: the paths, the contests of each two candidates, and for each candidate whether
--- somebody beats it. The last k gates say who is not beaten.
+-- The own list of a ranked tasting: the paths, the contests of each pair of candidates, and for each candidate
+-- whether somebody beats it. The last k gates say who is not beaten.
 use mathlib.Core.Bool.{cond}
 use mathlib.Core.List.{List, [], _∷_, _++_}
 use Prim.Native.Nat.{ℕ, zero, suc, _+_, _-_, _*_}

@@ -1,5 +1,5 @@
--- The blocks of the tables, one for each two candidates i and j: numbers of ballots, links, and paths. A word has
--- w + 1 digits and is the end of its block. `words` says where words start.
+-- The blocks of the tables, one for each pair of candidates i and j: numbers of ballots, links, and paths. A word has
+-- w + 1 digits and is the end of its block. `words` gives the first wire of a word.
 use mathlib.Core.Bool.{Bool, cond, _&&_, _||_, not}
 use mathlib.Core.List.{List, [], _++_}
 use Prim.Native.Nat.{ℕ, zero, suc, _+_, _-_, _*_, _/_}
@@ -15,8 +15,8 @@ use Rattle.ranked_circuit.specs.Table.{entryEnd}
 unfoldable pub votesBlock : ℕ → ℕ → ℕ → ℕ → ℕ → ℕ → List Gate
 votesBlock k n w at i j = cond (eqb i j) [] (counter at (i * k + j) (k * k) n 0 w)
 
--- A table with one block for each two candidates: it is at row i and column j if i is the later one and `rows` holds
--- for i. All other places are empty.
+-- A table with one block for each pair of candidates: it is at row i and column j if i is the later one and `rows`
+-- holds for i. All other places are empty.
 unfoldable pub laterOf : (ℕ → Bool) → (ℕ → ℕ → ℕ → List Gate) → ℕ → ℕ → ℕ → List Gate
 laterOf rows block at i j = cond (ltb j i && rows i) (block at i j) []
 

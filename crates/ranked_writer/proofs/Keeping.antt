@@ -1,4 +1,4 @@
--- What the loops over the tables keep for each two candidates.
+-- What the loops over the tables keep for each pair of candidates.
 -- Assumes nothing.
 use mathlib.Core.Path.{_≡_, _∙_, refl, sym, ap}
 use mathlib.Core.Bool.{Bool, true, false, cond, _&&_, _||_, true≢false}

@@ -16,7 +16,7 @@ ghost use Rattle.ranked_blocks.specs.Ranked.{keptOf};
 ghost use Rattle.ranked_writer.specs.inner.Contests.{TableReady, TableDone};
 ghost use Rattle.ranked_writer.specs.inner.Paths.{VotesTableReady, StageReady, WordsDone};
 
-// The table of the numbers of ballots. Where each word starts is kept in `words`.
+// The table of the numbers of ballots. The first wire of each word is kept in `words`.
 pub(crate) fn votes_table(w: Writer, table: &mut [u32], words: &mut [u32], p: Ranks) -> Writer
     requires { ⌜ VotesTableReady w (now words) p ⌝ }
     ensures { λ r. ⌜
@@ -36,7 +36,7 @@ pub(crate) fn votes_table(w: Writer, table: &mut [u32], words: &mut [u32], p: Ra
     next
 }
 
-// The table of links, for each two candidates of whom the later one is at least `first`. The wires that say which
+// The table of links: one for each pair of candidates, if the later one is at least `first`. The wires that say which
 // word is larger are kept in `links`.
 pub(crate) fn links_table(
     w: Writer,
@@ -65,7 +65,7 @@ pub(crate) fn links_table(
     next
 }
 
-// The table of meetings, for each two candidates but the last, whose duels are already in `met`.
+// The table of meetings: one for each pair of candidates but the last. The duels with the last are already in `met`.
 pub(crate) fn meetings_table(
     w: Writer,
     table: &mut [u32],
@@ -94,7 +94,7 @@ pub(crate) fn meetings_table(
     next
 }
 
-// The table of stage m of the paths. Where each new word starts is kept in `words`.
+// The table of stage m of the paths. The first wire of each new word is kept in `words`.
 pub(crate) fn path_table(
     w: Writer,
     table: &mut [u32],

@@ -6,7 +6,7 @@ use Rattle.gate_words.specs.Limits.{writerLimit}
 use Rattle.gate_words.specs.Writing.{Room}
 use Rattle.graded_circuit.specs.Median.{Fits, onesSpan}
 
--- For the ones among `count` wires from x and from y on, a stride apart: they are wires already, and not far apart.
+-- For the ones among `count` wires from x and from y on, a stride apart: they are wires already, within 2000 wires.
 pub record OnesReady (w : Writer) (gates x y stride count : ℕ) : Type 0 where
   pub room : Room w gates
   pub firstBelow : x + count * stride < w .wire + stride

@@ -7,7 +7,7 @@ use Rattle.graded_circuit.specs.declared.plan.Plan.{Plan}
 use Rattle.graded_circuit.specs.Plan.{Planned}
 use Rattle.graded_circuit.specs.RunningSums.{wordSpan, sumSize, worstSize, sumLevelsFrom}
 
--- There is a candidate c and a grade g.
+-- c is a candidate, and g a grade.
 pub record GradeOf (p : Plan) (c g : ℕ) : Type 0 where
   pub planned : Planned p
   pub candidate : c < p .candidates

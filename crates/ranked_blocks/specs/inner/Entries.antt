@@ -11,7 +11,7 @@ use Rattle.ranked_circuit.specs.Stages.{votesBlock, stays, cutAt, newWord, path
 use Rattle.ranked_blocks.specs.Ranked.{Ranked, keptOf, keep, keepLinks, WordsBelow}
 use Rattle.ranked_blocks.specs.declared.entries.Ranks.{Ranks}
 
--- For what is kept for i and j, of at most eight candidates: there are 64 places.
+-- For reading what is kept for i and j, of at most eight candidates: there are 64 places.
 pub record KeptReady (wires : List ℕ) (k i j : ℕ) : Type 0 where
   pub few : k ≤ 8
   pub row : i < k
@@ -23,7 +23,8 @@ pub record CutReady (k digits : ℕ) : Type 0 where
   pub some : 1 ≤ k
   pub narrow : digits ≤ 7
 
--- What is kept so far: 64 places of words, which end before the writer's wire, and 64 wires about two candidates.
+-- What is kept so far: 64 places for words, which end before the writer's wire, and 64 for wires about pairs of
+-- candidates.
 pub record Kept (w : Writer) (words wires : List ℕ) (p : Ranks) : Type 0 where
   pub ranked : Ranked p
   pub words-long : length words ≡ 64
@@ -65,7 +66,7 @@ pub record Entered (w : Writer) (table : List ℕ) (block : List Gate) (table′
   pub wrote : Wrote w table block table′ next
   pub kept : wires′ ≡ keepLinks rows wires k i j (next .wire)
 
--- Block e was written, and where its word starts is kept, unless `stays` says that nothing changes.
+-- Block e was written, and the first wire of its word is kept, unless `stays` says that nothing changes.
 pub record WordEntered (w : Writer) (table : List ℕ) (block : List Gate) (table′ : List ℕ) (next : Writer)
     (stays : Bool) (words : List ℕ) (e digits : ℕ) (words′ : List ℕ) : Type 0 where
   pub wrote : Wrote w table block table′ next

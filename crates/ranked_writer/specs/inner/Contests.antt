@@ -17,7 +17,7 @@ use Rattle.ranked_blocks.specs.inner.Entries.{Kept}
 use Rattle.ranked_blocks.specs.declared.entries.Ranks.{Ranks}
 use Rattle.ranked_writer.specs.Tables.{Keeps}
 
--- For a table with one block for each two candidates: what is kept, and room.
+-- For a table with one block for each pair of candidates: what is kept, and room.
 pub record TableReady (w : Writer) (words wires : List ℕ) (p : Ranks) (block : ℕ → ℕ → ℕ → List Gate) : Type 0 where
   pub kept : Kept w words wires p
   pub room : Room w (length (table (w .wire) (p .candidates) block))

@@ -28,7 +28,7 @@ pub record StageReady (w : Writer) (words links : List ℕ) (p : Ranks) (m : ℕ
       (keptOf words (p .candidates)) (p .digits) m)
   pub stage : m ≤ p .candidates
 
--- The gates were written, and where the word of each two candidates starts is kept, as f says.
+-- The gates were written, and the first wire of the word of each pair of candidates is kept, as f says.
 pub record WordsDone (w : Writer) (table₀ : List ℕ) (gates : List Gate) (table₁ : List ℕ) (next : Writer) (k : ℕ)
     (words : List ℕ) (f : ℕ → ℕ → ℕ) : Type 0 where
   pub wrote : Wrote w table₀ gates table₁ next
@@ -42,7 +42,7 @@ pub record FirstReady (w : Writer) (links words : List ℕ) (p : Ranks) : Type 0
   pub links-long : length links ≡ 64
   pub words-long : length words ≡ 64
 
--- Both tables were written; where the words start is kept, and the wires of the links are.
+-- Both tables were written. The first wires of the words and the wires of the links are kept.
 pub record FirstDone (w : Writer) (table₀ table₁ : List ℕ) (next : Writer) (p : Ranks) (links words : List ℕ)
     : Type 0 where
   pub wrote : Wrote w table₀ (pathsTo (p .candidates) (p .ballots) (p .digits) 0 .gates) table₁ next

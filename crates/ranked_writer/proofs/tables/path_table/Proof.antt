@@ -1,4 +1,4 @@
--- `ranked_writer::tables::path_table` meets its contract: a new word for each two candidates whose word the stage
+-- `ranked_writer::tables::path_table` meets its contract: a new word for each pair of candidates whose word the stage
 -- changes.
 -- Assumes nothing.
 use mathlib.Core.Path.{_≡_, _∙_, refl, sym, ap}
