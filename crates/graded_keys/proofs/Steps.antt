@@ -84,7 +84,7 @@ stride-most m d some h = omega (arith, one-less m d some)
 pub fits-step : (m w : ℕ) → 0 < w → Fits m w → (0 < m) × Fits (m / 2) (w - 1)
 fits-step m w h f = let g = subst (Fits m) (count-down w h) f in (fits-some m (w - 1) g, fits-half m (w - 1) g)
 
--- fewer entries of the same size take less room
+-- fewer entries of the same size take no more room
 pub fewer : (t c k : ℕ) → t ≤ c → t * k ≤ c * k
 fewer t c k h = mul-le-mul-right {m = t} {n = c} k h
 
