@@ -12,18 +12,18 @@ bit-cases zero h = inl refl
 bit-cases (suc zero) h = inr refl
 bit-cases (suc (suc x)) h = absurd (omega arith)
 
--- a number that is none of 0 to 7 is at least 8, in two steps, since `omega` splits at most six times
+-- a number that is none of 0 to 7 is at least 8; two steps, because `omega` splits at most six times
 pub above-3 : (k : ℕ) → k ≢ 0 → k ≢ 1 → k ≢ 2 → k ≢ 3 → 4 ≤ k
 above-3 k h₀ h₁ h₂ h₃ = omega arith
 
 pub above-7 : (k : ℕ) → 4 ≤ k → k ≢ 4 → k ≢ 5 → k ≢ 6 → k ≢ 7 → 8 ≤ k
 above-7 k l h₄ h₅ h₆ h₇ = omega arith
 
--- a number above 0 has one before it
+-- a positive number is the successor of another
 pub count-down : (n : ℕ) → 0 < n → n ≡ suc (n - 1)
 count-down n h = omega arith
 
--- the place of an entry, in entries of equal size
+-- places in a table of equal entries: one entry fewer, the next entry, and an entry that ends inside the table
 pub one-less : (t k : ℕ) → 0 < t → t * k ≡ k + (t - 1) * k
 one-less t k h = omega (arith, ap (λ (x : ℕ). x * k) (count-down t h), suc-mul (t - 1) k)
 

@@ -1,4 +1,5 @@
--- Tests joined by `&&` or `||` in the code: the value of the flag where the two branches meet.
+-- Laws of truth values. The first ones are for tests that the code joins by `&&` or `||`: they give the flag r after
+-- the two branches.
 -- Assumes nothing.
 use mathlib.Core.Path.{_≡_, _∙_, refl, sym, ap}
 use mathlib.Core.Bool.{Bool, true, false, cond, _&&_, _||_}
@@ -55,7 +56,7 @@ pub never-true : (t : Bool) → (t ≡ true → ⊥) → t ≡ false
 never-true true h = absurd (h refl)
 never-true false h = refl
 
--- a test as a fact and as an equation
+-- a test that holds, as a fact and as an equation
 pub T-true : (t : Bool) → T t → t ≡ true
 T-true true h = refl
 T-true false h = absurd h
@@ -71,7 +72,7 @@ pub and-second-fails : (t u : Bool) → u ≡ false → (t && u) ≡ false
 and-second-fails true u e = e
 and-second-fails false u e = refl
 
--- a test holds or fails
+-- two cases: the test holds, or it fails
 pub either : (t : Bool) {A : Type 0} → (t ≡ true → A) → (t ≡ false → A) → A
 either true yes′ no′ = yes′ refl
 either false yes′ no′ = no′ refl
@@ -80,7 +81,7 @@ either false yes′ no′ = no′ refl
 pub absurd-flag : {A : Type 0} → false ≡ true → A
 absurd-flag h = let z : _≡_ {A = ℕ} 0 1 = cc in absurd (omega arith)
 
--- a test as a bit
+-- a test as a bit is at most 1
 pub bit-most : (t : Bool) → cond {A = ℕ} t 1 0 ≤ 1
 bit-most true = omega arith
 bit-most false = omega arith

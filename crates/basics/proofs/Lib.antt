@@ -1,4 +1,4 @@
--- Truth values, cases, numbers, and tables of numbers.
+-- Laws of truth values, cases, numbers, and tables of numbers.
 pub mod Flags
 pub mod Cases
 pub mod Arithmetic

@@ -1,4 +1,4 @@
--- Lists of the same numbers.
+-- The test `sameNumbers` holds exactly if the two lists are equal.
 -- Assumes nothing.
 use mathlib.Core.Path.{_≡_, refl}
 use mathlib.Core.Bool.{true}

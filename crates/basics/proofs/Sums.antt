@@ -5,7 +5,7 @@ use Prim.Native.Nat.{ℕ, zero, suc, _+_}
 use native.Mathlib.Omega.{arith}
 use Rattle.basics.specs.Lists.{sum, tabulate}
 
--- the first entry taken apart, and the last
+-- the sum of an empty table, and of a longer one by its first or its last entry
 pub sum-none : (f : ℕ → ℕ) → sum (tabulate 0 f) ≡ 0
 unfolding sum tabulate
 sum-none f = refl

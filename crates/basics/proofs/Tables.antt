@@ -19,11 +19,11 @@ all-emptied n xs e =
     ∙ append-nil (replicate n 0)
     ∙ ap (λ (k : ℕ). replicate k 0) e
 
--- what the kit's `bytes::copy` leaves: the second of its two clauses, which have no names
+-- what the toolchain's `bytes::copy` leaves: the second of its two clauses, which have no names
 pub copied : {count left : Type 0} → count × left → left
 copied clauses = clauses .1
 
--- zeros at every place
+-- every entry of a table of zeros is 0
 pub zeros-at : (n i : ℕ) → _≡_ {A = ℕ} (getD (replicate n 0) i 0) 0
 zeros-at zero i = refl
 zeros-at (suc n) zero = refl

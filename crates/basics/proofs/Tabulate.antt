@@ -1,4 +1,4 @@
--- Tables of a function's values, and a loop that copies one table into another, one entry a turn.
+-- Tables of a function's values, and the loop that turns one table into another, an entry each turn.
 -- Assumes nothing.
 use mathlib.Core.Path.{_≡_, _∙_, refl, sym, ap}
 use mathlib.Core.Bool.{Bool, cond}
@@ -45,7 +45,7 @@ module _ {A : Type 0} where
   take-tabulate (suc k) zero f h = absurd (omega arith)
   take-tabulate (suc k) (suc n) f h = ap (λ (l : List A). f 0 ∷ l) (take-tabulate k n (λ i. f (suc i)) (omega arith))
 
-  -- the new entries below i, and the old ones from i on
+  -- entry j of the table after i turns: the new one if j is below i, otherwise the old one
   unfoldable pub upTo : ℕ → (ℕ → A) → (ℕ → A) → ℕ → A
   upTo i new old j = cond (ltb j i) (new j) (old j)
 
@@ -57,7 +57,7 @@ module _ {A : Type 0} where
   unfolding upTo
   upTo-old i j new old h = ap (λ (t : Bool). cond t (new j) (old j)) (le-ltb j i h)
 
-  -- from one turn to the next, only entry i changes
+  -- turn i changes only entry i
   upTo-kept : (i j : ℕ) (new old : ℕ → A) → j ≢ i → upTo i new old j ≡ upTo (suc i) new old j
   upTo-kept i j new old e =
       ⊎-elim (λ l. upTo-new i j new old l ∙ sym (upTo-new (suc i) j new old (omega arith)))
@@ -66,11 +66,11 @@ module _ {A : Type 0} where
   pub fill-start : (n : ℕ) (new old : ℕ → A) → tabulate n (upTo 0 new old) ≡ tabulate n old
   fill-start n new old = tabulate-cong n (upTo 0 new old) old (λ j h. upTo-old 0 j new old (omega arith))
 
-  -- the entry that a turn finds
+  -- before turn i, entry i is still the old one
   pub fill-at : (n i : ℕ) (new old : ℕ → A) (d : A) → i < n → getD (tabulate n (upTo i new old)) i d ≡ old i
   fill-at n i new old d h = getD-tabulate n i (upTo i new old) d h ∙ upTo-old i i new old (omega arith)
 
-  -- a turn
+  -- turn i stores entry i
   pub fill-step : (n i : ℕ) (new old : ℕ → A) → i < n → set (tabulate n (upTo i new old)) i (new i) ≡ tabulate n (upTo (suc i) new old)
   fill-step n i new old h =
       ext-getD (new i) (set before i (new i)) after (size ∙ sym (length-tabulate n (upTo (suc i) new old)))
@@ -100,7 +100,7 @@ module _ {A : Type 0} where
           ∙ upTo-kept i j new old e
           ∙ sym (getD-tabulate n j (upTo (suc i) new old) (new i) l)
 
-  -- a turn whose entry is there already
+  -- a turn may store nothing if the new entry equals the old one
   pub fill-skip : (n i : ℕ) (new old : ℕ → A) → i < n → new i ≡ old i → tabulate n (upTo i new old) ≡ tabulate n (upTo (suc i) new old)
   fill-skip n i new old h e = tabulate-cong n (upTo i new old) (upTo (suc i) new old)
       (λ j l. ⊎-elim (λ s. same j s) (upTo-kept i j new old) (same-or-not j i))
@@ -111,7 +111,7 @@ module _ {A : Type 0} where
       same : (j : ℕ) → j ≡ i → upTo i new old j ≡ upTo (suc i) new old j
       same j s = rw s here
 
-  -- the end: from i on the two tables agree
+  -- the loop may end after i turns if the two tables agree from i on
   pub fill-end : (n i : ℕ) (new old : ℕ → A) → ((j : ℕ) → i ≤ j → j < n → new j ≡ old j) → tabulate n (upTo i new old) ≡ tabulate n new
   fill-end n i new old h =
       tabulate-cong n (upTo i new old) new

@@ -14,7 +14,7 @@ unfoldable pub maximum : List ℕ → ℕ
 maximum [] = 0
 maximum (x ∷ xs) = max x (maximum xs)
 
--- The values of f at 0, 1, and so on, n of them.
+-- The first n values of f: f 0, f 1, and so on.
 unfoldable pub tabulate : {A : Type 0} → ℕ → (ℕ → A) → List A
 tabulate zero f = []
 tabulate (suc n) f = f 0 ∷ tabulate n (λ i. f (suc i))
@@ -34,7 +34,7 @@ unfoldable pub distinct : List ℕ → Bool
 distinct [] = true
 distinct (x ∷ xs) = not (member x xs) && distinct xs
 
--- Whether two lists hold the same numbers.
+-- Whether two lists hold the same numbers in the same order.
 unfoldable pub sameNumbers : List ℕ → List ℕ → Bool
 sameNumbers [] [] = true
 sameNumbers [] (y ∷ ys) = false

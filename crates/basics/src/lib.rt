@@ -1,3 +1,3 @@
-// What several floors use and none owns: bytes as numbers, and emptying and copying tables.
+// What all floors share: bytes as numbers, and functions that empty or copy a table.
 pub mod byte;
 pub mod table;

@@ -1,4 +1,4 @@
-// Whole tables: emptying them, and copying words. (The toolchain's crate `bytes` copies bytes.)
+// Functions that empty a table or copy words. (The toolchain's crate `bytes` copies bytes.)
 ghost use mathlib.Core.Path.{_≡_};
 ghost use mathlib.Core.List.{_++_};
 ghost use Prim.Native.Nat.{_≤_};
@@ -26,7 +26,7 @@ pub fn empty_words(words: &mut [u64])
     }
 }
 
-// Copies the words of one slice to the front of another.
+// Copies the words of one slice to the front of another, which keeps its words after them.
 pub fn copy_words(from: &[u64], to: &mut [u64])
     requires { ⌜ length (now from) ≤ length (now to) ⌝ }
     ensures { λ _. ⌜ now (to .exit) ≡ now (from .entry) ++ drop (length (now (from .entry))) (now (to .entry)) ⌝ }

@@ -1,9 +1,10 @@
-// Adders of bits.
+// Adders of bits. Each has three gates from the writer's wire n on: the sum is at n + 1, the carry at n + 2.
 use gate_words::writer::Writer;
 use gates::kind;
 ghost use Rattle.gate_words.specs.Writing.{Room, Wrote};
 ghost use Rattle.gate_words.specs.Adder.{fullAdder, halfAdder, increment};
 
+// Adds the wires s, u and v.
 pub(crate) fn full_adder(start: Writer, table: &mut [u32], s: u32, u: u32, v: u32) -> Writer
     requires { ⌜ Room start 3 ⌝ }
     ensures { λ r. ⌜ Wrote start (now (table .entry)) (fullAdder (start .wire) s u v) (now (table .exit)) r ⌝ }
@@ -14,6 +15,7 @@ pub(crate) fn full_adder(start: Writer, table: &mut [u32], s: u32, u: u32, v: u3
     second.emit(table, kind::CHOICE, n, v, s)
 }
 
+// Adds the wires s and u, and the public bit e.
 pub(crate) fn half_adder(start: Writer, table: &mut [u32], s: u32, u: u32, e: u32) -> Writer
     requires { ⌜ Room start 3 ⌝ }
     ensures { λ r. ⌜ Wrote start (now (table .entry)) (halfAdder (start .wire) s u e) (now (table .exit)) r ⌝ }
@@ -28,6 +30,7 @@ pub(crate) fn half_adder(start: Writer, table: &mut [u32], s: u32, u: u32, e: u3
     second.emit(table, kind::OR, s, u, 0)
 }
 
+// Adds 1 to the wire s, without a conditional gate.
 pub(crate) fn increment(start: Writer, table: &mut [u32], s: u32) -> Writer
     requires { ⌜ Room start 3 ⌝ }
     ensures { λ r. ⌜ Wrote start (now (table .entry)) (increment (start .wire) s) (now (table .exit)) r ⌝ }

@@ -12,7 +12,7 @@ ghost use Rattle.gate_words.specs.Writing.{Wrote};
 ghost use Rattle.gate_words.specs.Counter.{level, adders, levelSum, countLevels, countDigitsAs, counter, countSize};
 ghost use Rattle.gate_words.specs.inner.Counts.{LevelReady, CountReady, CountDigitsReady, CountSizeReady};
 
-// The number of a level's adders.
+// The number of adders in a level that adds `count` bits and the public bit e to a sum.
 pub(crate) fn adders_of(count: u32, e: u32) -> u32
     requires { ⌜ (count < writerLimit) × (e < 2) ⌝ }
     ensures { λ r. ⌜ r ≡ adders count e ⌝ }
@@ -20,7 +20,7 @@ pub(crate) fn adders_of(count: u32, e: u32) -> u32
     (count + e + 1) / 2
 }
 
-// The wire of a level's sum.
+// The wire of a level's sum: the last adder's, or s itself if there is no adder.
 fn level_sum(n: u32, s: u32, count: u32, e: u32) -> u32
     requires { ⌜ (n + 3 * adders count e < writerLimit) × (count < writerLimit) × (e < 2) ⌝ }
     ensures { λ r. ⌜ r ≡ levelSum n s count e ⌝ }
@@ -29,7 +29,7 @@ fn level_sum(n: u32, s: u32, count: u32, e: u32) -> u32
     if adders == 0 { s } else { n + 3 * adders - 2 }
 }
 
-// The number of gates of a counter's levels: three for each carry; a level's carries are the next level's bits.
+// The number of gates of a counter's levels: three for each carry. The carries of a level are the bits of the next.
 pub fn count_size(count: u32, extra: u32, levels: u32) -> u32
     requires { ⌜ CountSizeReady count extra levels ⌝ }
     ensures { λ r. ⌜ r ≡ countSize count extra levels ⌝ }
@@ -47,7 +47,7 @@ pub fn count_size(count: u32, extra: u32, levels: u32) -> u32
     gates
 }
 
-// One level: adds to wire sum `count` bits, a stride apart, and a public bit.
+// One level: adds to wire `sum` the `count` bits from `first` on, a stride apart, and the public bit e.
 pub(crate) fn level(
     start: Writer,
     table: &mut [u32],
@@ -82,7 +82,7 @@ pub(crate) fn level(
     increment(w, table, s)
 }
 
-// The levels that count `count` bits and a public number.
+// The levels that count `count` bits, a stride apart, and the public number `extra`.
 pub fn count_levels(
     start: Writer,
     table: &mut [u32],
@@ -116,7 +116,8 @@ pub fn count_levels(
     w
 }
 
-// The digits of the count whose levels start at wire base, by gates of the kind `low` and, for the top digit, `top`.
+// The digits of a count whose levels start at wire `base`: gates of kind `low` and, for the top digit, of kind
+// `top`.
 pub fn count_digits(
     start: Writer,
     table: &mut [u32],
@@ -150,7 +151,7 @@ pub fn count_digits(
     w.emit(table, top, at, 0, 0)
 }
 
-// Counts `count` bits, a stride apart, and a public number.
+// Counts `count` bits, a stride apart, and the public number `extra`. The last levels + 1 gates are the digits.
 pub fn counter(
     start: Writer,
     table: &mut [u32],

@@ -1,4 +1,4 @@
-// Adders and counters, written for every width: the blocks of `gate_words` that add words and count bits.
+// Writes adders and counters of every width: the blocks of `gate_words` that add words and count bits.
 //
 // Each function writes the gates of one block and returns the next writer. Its `requires` asks for room, and for
 // operands that are wires already.

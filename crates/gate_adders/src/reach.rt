@@ -1,4 +1,4 @@
-// Whether the sum of two words and a public bit needs one more digit than they have: a carry without the sum.
+// Whether the sum of two words and a public bit needs one more digit than the words have: a carry, without the sum.
 use gate_words::choice::chain_end;
 use gate_words::writer::Writer;
 use gates::kind;
@@ -7,7 +7,7 @@ ghost use Rattle.gate_words.specs.Writing.{Room, Wrote};
 ghost use Rattle.gate_words.specs.Reach.{carryBit, carries, carriesBy, highReach, reachHalves, reach, reachSpan};
 ghost use Rattle.gate_words.specs.inner.Ready.{WordsReady};
 
-// The carry out of one digit and the public bit.
+// The carry out of one digit of each word and the public bit.
 fn carry_bit(w: Writer, table: &mut [u32], x: u32, y: u32, bit: u32) -> Writer
     requires { ⌜ Room w 1 ⌝ }
     ensures { λ r. ⌜ Wrote w (now (table .entry)) (carryBit x y bit) (now (table .exit)) r ⌝ }
@@ -18,7 +18,7 @@ fn carry_bit(w: Writer, table: &mut [u32], x: u32, y: u32, bit: u32) -> Writer
     w.emit(table, kind::OR, x, y, 0)
 }
 
-// The carry out of one digit and the wire `carry`.
+// The carry out of one digit, with the carry in at wire `carry`.
 fn carry_next(w: Writer, table: &mut [u32], x: u32, y: u32, carry: u32) -> Writer
     requires { ⌜ Room w 2 ⌝ }
     ensures { λ r. ⌜ Wrote w (now (table .entry)) (carries (w .wire) x y carry 1) (now (table .exit)) r ⌝ }
@@ -27,7 +27,7 @@ fn carry_next(w: Writer, table: &mut [u32], x: u32, y: u32, carry: u32) -> Write
     differ.emit(table, kind::CHOICE, w.wire, carry, x)
 }
 
-// The carry out of `digits` digits.
+// The carry out of `digits` digits, with the carry in at wire `carry`.
 fn carries(w: Writer, table: &mut [u32], x: u32, y: u32, carry: u32, digits: u32) -> Writer
     requires { ⌜ WordsReady w (2 * digits) x y digits ⌝ }
     ensures { λ r. ⌜ Wrote w (now (table .entry)) (carries (w .wire) x y carry digits) (now (table .exit)) r ⌝ }
@@ -44,7 +44,7 @@ fn carries(w: Writer, table: &mut [u32], x: u32, y: u32, carry: u32, digits: u32
     next
 }
 
-// The same, if the wires from f on say in which digits the words differ.
+// The same, but the wires from f on already say in which digits the words differ.
 fn carries_by(w: Writer, table: &mut [u32], f: u32, x: u32, carry: u32, digits: u32) -> Writer
     requires { ⌜ WordsReady w digits f x digits ⌝ }
     ensures { λ r. ⌜ Wrote w (now (table .entry)) (carriesBy (w .wire) f x carry digits) (now (table .exit)) r ⌝ }
@@ -61,7 +61,7 @@ fn carries_by(w: Writer, table: &mut [u32], f: u32, x: u32, carry: u32, digits: 
     next
 }
 
-// The high half, of high + 1 digits; wire `carry` is its carry in.
+// The carry out of the high half, of high + 1 digits, with the carry in at wire `carry`.
 fn high_reach(w: Writer, table: &mut [u32], x: u32, y: u32, carry: u32, high: u32) -> Writer
     requires { ⌜ WordsReady w (3 * high + 2) x y (suc high) ⌝ }
     ensures { λ r. ⌜ Wrote w (now (table .entry)) (highReach (w .wire) x y carry high) (now (table .exit)) r ⌝ }
@@ -75,7 +75,7 @@ fn high_reach(w: Writer, table: &mut [u32], x: u32, y: u32, carry: u32, high: u3
     every.emit(table, kind::CHOICE, all, carry, own)
 }
 
-// Both halves, of low + 1 and high + 1 digits.
+// The carry out of both halves, of low + 1 and high + 1 digits.
 fn reach_halves(
     w: Writer,
     table: &mut [u32],
@@ -94,8 +94,8 @@ fn reach_halves(
     high_reach(lower, table, x + 1 + low, y + 1 + low, n + 2 * low, high)
 }
 
-// The sum of the words of above + 1 digits at x and y and the public bit: the last wire says that it needs one more
-// digit.
+// Whether the sum of the words of above + 1 digits at x and y and the public bit needs one more digit. The last
+// wire says so.
 pub fn reach(w: Writer, table: &mut [u32], x: u32, y: u32, bit: u32, above: u32) -> Writer
     requires { ⌜ WordsReady w (reachSpan above) x y (suc above) ⌝ }
     ensures { λ r. ⌜ Wrote w (now (table .entry)) (reach (w .wire) x y bit above) (now (table .exit)) r ⌝ }

@@ -1,4 +1,5 @@
--- Levels gate by gate: doing a gate and then the rest is doing all that was left.
+-- Levels gate by gate: after each gate, the levels found so far and the gates left give the levels of the whole
+-- list.
 -- Assumes nothing.
 use mathlib.Core.Path.{_≡_, _∙_, refl, sym, ap, subst}
 use mathlib.Core.Bool.{Bool, true, false, cond}
@@ -29,7 +30,7 @@ use Rattle.basics.proofs.Same.{same-refl, same-true}
 use Rattle.gate_levels.proofs.Laws.{levels-keep, gate-level-same, maximum-most, maximum-more, gate-most}
 
 module _ (inputs : ℕ) (table : List ℕ) where
-  -- The gates from g on are left.
+  -- After the first g gates: the table has their levels, `most` is the largest, and the gates from g on are left.
   pub record Left (levels : List ℕ) (most g : ℕ) : Type 0 where
     pub order : g ≤ length (gatesOf table)
     pub long : length levels ≡ length (gatesOf table)
@@ -89,7 +90,7 @@ module _ (inputs : ℕ) (table : List ℕ) where
     prefix-long : length (take g levels) ≡ g
     prefix-long = length-take-le g levels (omega (arith, left .long))
 
-    -- what the gate adds
+    -- the level v of gate g is known
     module _ (v : ℕ) (is : v ≡ gateLevel inputs levels (gateAt table g)) where
       own : v ≡ gateLevel inputs (take g levels) x
       unfolding x
@@ -114,7 +115,7 @@ module _ (inputs : ℕ) (table : List ℕ) where
             small = omega (arith, ap maximum taken, left .small, gate-most inputs (take g levels) x, mark-at-most-one (x .kind), own);
           })
 
-      -- a table with another number here is not the list's
+      -- if the table has another number here, its levels are not the list's own
       pub other : (getD levels g 0 ≡ v → ⊥) → Other ≡ compared inputs (gatesOf table) levels
       unfolding compared
       other differs = go (sameNumbers levels (levelsOf inputs (gatesOf table))) refl
@@ -133,7 +134,7 @@ module _ (inputs : ℕ) (table : List ℕ) where
           go true e = absurd (differs (ap (λ (l : List ℕ). getD l g 0) (same-true levels (levelsOf inputs (gatesOf table)) e) ∙ at))
           go false e = refl
 
-  -- nothing is left
+  -- no gate is left
   pub left-end : (levels : List ℕ) (most g : ℕ) → Left levels most g → length (gatesOf table) ≤ g
       → (levels ≡ levelsOf inputs (gatesOf table)) × (most ≡ roundsOf inputs (gatesOf table))
   unfolding roundsOf levelsFrom
@@ -151,7 +152,7 @@ module _ (inputs : ℕ) (table : List ℕ) where
       let same : sameNumbers levels (levelsOf inputs (gatesOf table)) ≡ true = ap (sameNumbers levels) (sym (f .0)) ∙ same-refl levels in
       rw same (ap Own (e ∙ f .1))
 
--- one gate by its numbers
+-- the level of one gate, by its numbers in the table
 module _ (inputs : ℕ) (table : List ℕ) (g : ℕ) (levels : List ℕ) (ready : LevelReady inputs table g levels)
     (a b c : ℕ) (ea : a ≡ wireLevel inputs levels (getD table (4 * g + 1) 0))
     (eb : b ≡ wireLevel inputs levels (getD table (4 * g + 2) 0)) (ec : c ≡ wireLevel inputs levels (getD table (4 * g + 3) 0)) where

@@ -19,7 +19,7 @@ use Rattle.gates.proofs.Laws.{AllGood}
 use Rattle.basics.specs.Lists.{maximum}
 use Rattle.gate_levels.specs.Levels.{wireLevel, gateLevel, levelsFrom, levelsOf, roundsOf}
 
--- Levels that are there stay, and each gate adds one.
+-- The levels found so far stay, and each gate adds one.
 pub levels-keep : (inputs : ℕ) (ls : List ℕ) (gs : List Gate) (i : ℕ) → i < length ls → getD (levelsFrom inputs ls gs) i 0 ≡ getD ls i 0
 unfolding levelsFrom
 levels-keep inputs ls [] i h = refl
@@ -57,7 +57,7 @@ gate-level-same inputs n ls ms g b e =
       wire-level-same inputs n ls ms (g .c) (b .c-below) e,
     )
 
--- From gate n on, each level is the one that its operands give.
+-- From gate n on, each gate's level follows from the levels of its operands.
 abbrev pub Leveled : ℕ → List ℕ → ℕ → List Gate → Type 0
 Leveled inputs ls n [] = Unit {0}
 Leveled inputs ls n (g ∷ gs) = (getD ls n 0 ≡ gateLevel inputs ls g) × Leveled inputs ls (suc n) gs
@@ -94,7 +94,7 @@ pub operand-levels : (inputs : ℕ) (ls : List ℕ) (g : Gate) → OperandLevels
 unfolding gateLevel
 operand-levels inputs ls g = record { a-level = omega arith; b-level = omega arith; c-level = omega arith }
 
--- The largest level is at least each of them, and one of them if there are any.
+-- The largest level is at least each level. If levels are appended, it is the larger of the two maxima.
 pub maximum-most : (ls : List ℕ) (i : ℕ) → getD ls i 0 ≤ maximum ls
 unfolding maximum
 maximum-most [] i = omega arith
@@ -110,7 +110,7 @@ pub maximum-more : (ls : List ℕ) (l : ℕ) → maximum (ls ++ (l ∷ [])) ≡ 
 unfolding maximum
 maximum-more ls l = omega (arith, maximum-append ls (l ∷ []))
 
--- No wire is deeper than the largest level, so a gate raises it by at most its mark.
+-- No wire's level is above the largest, so a gate raises the largest by at most its mark.
 pub wire-most : (inputs : ℕ) (ls : List ℕ) (x : ℕ) → wireLevel inputs ls x ≤ maximum ls
 unfolding wireLevel
 wire-most inputs ls x = go (ltb x inputs)

@@ -12,14 +12,14 @@ use Rattle.gates.specs.Gate.{Gate}
 unfoldable pub wireLevel : ℕ → List ℕ → ℕ → ℕ
 wireLevel inputs ls x = cond (ltb x inputs) 0 (getD ls (x - inputs) 0)
 
--- The largest level of the operands, plus one if the gate is conditional. An unused operand is 0, so it names an
--- input and adds nothing.
+-- The level of a gate: the largest level of its operands, plus one if the gate is conditional. An unused operand is
+-- 0, so it names an input and adds nothing.
 unfoldable pub gateLevel : ℕ → List ℕ → Gate → ℕ
 gateLevel inputs ls g =
     max (max (wireLevel inputs ls (g .a)) (wireLevel inputs ls (g .b))) (wireLevel inputs ls (g .c))
     + cond (conditionalOf (g .kind)) 1 0
 
--- One level after another, each from those before it.
+-- The levels ls, followed by the level of each gate in turn.
 unfoldable pub levelsFrom : ℕ → List ℕ → List Gate → List ℕ
 levelsFrom inputs ls [] = ls
 levelsFrom inputs ls (g ∷ gs) = levelsFrom inputs (ls ++ (gateLevel inputs ls g ∷ [])) gs

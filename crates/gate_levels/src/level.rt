@@ -1,5 +1,5 @@
-// The levels of a list, written or compared. Nothing here is an entry point: what a `requires` asks, the test of the
-// list establishes.
+// Writes the levels of a list, or compares a lent table with them. No function here is an entry point: the test of
+// the list establishes what each `requires` asks.
 use gates::kind;
 ghost use mathlib.Core.Path.{_≡_};
 ghost use Prim.Native.Nat.{_+_, _<_, max};
@@ -11,7 +11,7 @@ ghost use Rattle.gate_levels.specs.Levels.{wireLevel, gateLevel};
 ghost use Rattle.gate_levels.specs.inner.Filling.{LevelReady, LevelsReady, Filled};
 ghost use Rattle.gate_levels.specs.Compared.{compared};
 
-// Whether a lent table holds the list's own levels; if so, the number of rounds.
+// Whether a lent table holds the list's own levels. If it does, also the number of rounds.
 pub enum Compared {
     Own { rounds: usize },
     Other,
@@ -60,7 +60,7 @@ fn gate_level(marks: &[bool; 8], inputs: usize, table: &[u32], g: usize, levels:
     deepest
 }
 
-// Writes the level of each gate, and answers the largest: R.
+// Writes the level of each gate, and returns the largest, R.
 pub fn write(inputs: usize, table: &[u32], levels: &mut [u32]) -> usize
     requires { ⌜ LevelsReady inputs (now table) (now levels) ⌝ }
     ensures { λ r. ⌜ Filled inputs (now (table .entry)) r (now (levels .exit)) ⌝ }
@@ -78,7 +78,7 @@ pub fn write(inputs: usize, table: &[u32], levels: &mut [u32]) -> usize
     rounds(most)
 }
 
-// Compares a table with the list's own levels, gate by gate, and finds the largest on the way.
+// Compares a table with the list's own levels, gate by gate, and finds the largest of them.
 pub fn compare(inputs: usize, table: &[u32], levels: &[u32]) -> Compared
     requires { ⌜ LevelsReady inputs (now table) (now levels) ⌝ }
     ensures { λ r. ⌜ r ≡ compared inputs (gatesOf (now (table .entry))) (now (levels .entry)) ⌝ }

@@ -1,4 +1,4 @@
--- What adders spell.
+-- What adders compute.
 -- Assumes nothing.
 use mathlib.Core.Path.{_≡_, _∙_}
 use mathlib.Core.Logic.{⊎-elim}

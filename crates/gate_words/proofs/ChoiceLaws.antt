@@ -1,4 +1,4 @@
--- What copies, complements, choices and chains spell.
+-- What copies, complements, choices and chains compute.
 -- Assumes nothing.
 use mathlib.Core.Path.{_≡_, _∙_, sym, ap}
 use Prim.Native.Nat.{ℕ, zero, suc, _+_, _<_}
@@ -52,7 +52,7 @@ module _ (W : ℕ → ℕ) (b : Binary W) where
       let r = masked-zero (n + 1) f (x + 1) w e (holds-rest W n (andOf f x) (masked f (x + 1) w) h) in
       omega (arith, r, number-more W n 1 w, holds-first W n (andOf f x) (masked f (x + 1) w) h ∙ and-is W b f x)
 
-  -- a chain of "or" is 1 exactly if one of its wires is
+  -- a chain of "or" is 1 exactly if one of its operands is
   pub any-one : (n s at d m : ℕ) → 0 < W s + onesAt W at d m → Holds W n (anyOf n s at d m) → W (chainEnd n s m) ≡ 1
   unfolding chainOf
   any-one n s at d zero p h = unfold chainEnd in (omega (arith, b s, ones-none W at d))

@@ -1,4 +1,4 @@
--- Blocks of one gate a digit: the first digit, and the rest. Their lengths.
+-- Blocks with one gate for each digit, as a first digit and the rest; and their lengths.
 -- Assumes nothing.
 use mathlib.Core.Path.{_≡_, _∙_, refl, sym, ap}
 use mathlib.Core.List.{[], _∷_, _++_}
@@ -10,7 +10,7 @@ use Rattle.gate_words.specs.Gates.{gate, andOf, muxOf}
 use Rattle.gate_words.specs.Choice.{choose, masked, chainOf, chainEnd}
 use Rattle.basics.proofs.Arithmetic.{count-down}
 
--- digits that are left count down
+-- after one digit, one less is left
 pub left-one : (i n : ℕ) → i < n → n - i ≡ suc (n - (i + 1))
 left-one i n h = omega arith
 
@@ -47,7 +47,7 @@ chain-step kind n s at d m h = ap (chainOf kind n s at d) (count-down m h) ∙ f
     first : (m : ℕ) → chainOf kind n s at d (suc m) ≡ (gate kind s at 0 ∷ []) ++ chainOf kind (n + 1) n (at + d) d m
     first m = unfold chainOf in refl
 
--- nothing is left
+-- after the last digit, nothing is left
 pub choose-none : (f x y i n : ℕ) → n ≤ i → choose f x y (n - i) ≡ []
 unfolding choose
 choose-none f x y i n h = let e : n - i ≡ 0 = omega arith in rw e
@@ -60,7 +60,7 @@ pub chain-none : (kind n s at d m : ℕ) → m ≤ 0 → chainOf kind n s at d m
 unfolding chainOf
 chain-none kind n s at d m h = let e : m ≡ 0 = omega arith in rw e
 
--- the end of a chain is the end of the chain after its first gate
+-- a chain ends where the chain after its first gate ends
 pub chain-next : (n s m : ℕ) → chainEnd (n + 1) n m ≡ chainEnd n s (suc m)
 unfolding chainEnd
 chain-next n s zero = sym (add-zero n)

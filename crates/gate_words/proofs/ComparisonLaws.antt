@@ -1,5 +1,4 @@
--- What comparisons say, for all widths at once. A wire `up` that says "above so far" counts as one more unit of the
--- word.
+-- What comparisons say, for every width. A wire `up` that says "above so far" counts as 1 added to x's word.
 -- Assumes nothing.
 use mathlib.Core.Path.{_≡_, _∙_, sym, ap}
 use mathlib.Core.Logic.{⊎-elim}
@@ -16,7 +15,7 @@ use Rattle.gate_words.proofs.GateValues.{valueOn, holds-first, holds-re
 use Rattle.gate_words.proofs.ChoiceSteps.{chain-next}
 use Rattle.basics.proofs.Arithmetic.{bit-cases}
 
--- the opposite of a bit
+-- if t < s would make a bit 1, a bit of 0 says that s is at most t
 pub not-one : {y t s : ℕ} → y ≡ 0 → (t < s → y ≡ 1) → s ≤ t
 not-one {y} {t} {s} z f = let g : ¬ (t < s) = λ q. let k = f q in omega arith in omega arith
 
@@ -52,7 +51,7 @@ module _ (W : ℕ → ℕ) (b : Binary W) where
   down-next n down zero = omega arith
   down-next n down (suc w) = omega arith
 
-  -- the wire that one digit passes on: x if the digits differ, else what it was so far
+  -- the result after one digit: x's digit if the digits differ, else the result before
   one-digit : (x y s t k : ℕ) → x ≤ 1 → y ≤ 1 → s ≤ 1 → t ≡ (x + y) % 2 → (t ≡ 0 → k ≡ s) → (t ≡ 1 → k ≡ x)
       → (y < x + s → k ≡ 1) × (x + s ≤ y → k ≡ 0)
   one-digit x y s t k hx hy hs e k₀ k₁ =
@@ -137,8 +136,8 @@ module _ (W : ℕ → ℕ) (b : Binary W) where
             (λ (z : W n ≡ 1). let k : W y < W x + W s = not-zero z (d .1) in omega arith) (bit-cases (W n) (b n)))),
       )
 
-  -- words of w + 1 digits, x's lowest digit starting the chain: 1 if x is above, 0 if it is below, either if they are
-  -- equal
+  -- words of w + 1 digits, and a chain that starts with x's lowest digit: it gives 1 if x is above, 0 if x is
+  -- below, and either if the words are equal
   pub above-words : (n f x y w : ℕ) → Holds W f (differences (x + 1) (y + 1) w) → Holds W n (above n f (x + 1) x w)
       → (number W y 1 (suc w) < number W x 1 (suc w) → W (chainEnd n x w) ≡ 1)
       × (number W x 1 (suc w) < number W y 1 (suc w) → W (chainEnd n x w) ≡ 0)
@@ -148,7 +147,7 @@ module _ (W : ℕ → ℕ) (b : Binary W) where
       let my = number-more W y 1 w in
       ((λ l. r .0 (omega (arith, mx, my, l, b x, b y))), (λ l. r .1 (omega (arith, mx, my, l, b x, b y))))
 
-  -- so if it is 1 the first word is at least the second, and if it is 0 at most
+  -- so a result of 1 says that x is at least y, and 0 that it is at most y
   pub above-one : (n f x y w : ℕ) → Holds W f (differences (x + 1) (y + 1) w) → Holds W n (above n f (x + 1) x w)
       → W (chainEnd n x w) ≡ 1 → number W y 1 (suc w) ≤ number W x 1 (suc w)
   above-one n f x y w g h e = let no : ¬ (number W x 1 (suc w) < number W y 1 (suc w)) = λ l. let z =

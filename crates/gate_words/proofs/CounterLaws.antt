@@ -1,4 +1,4 @@
--- What counters spell, for all numbers of bits, starts and strides at once.
+-- What counters compute, for every number of bits, start and stride.
 -- Assumes nothing.
 use mathlib.Core.Path.{_≡_, _∙_, refl, sym, ap, subst}
 use mathlib.Core.List.{[]}
@@ -32,7 +32,7 @@ two-more : (m e : ℕ) → adders (suc (suc m)) e ≡ suc (adders m e)
 unfolding adders
 two-more m e = omega arith
 
--- the sum of a level with two more bits is the sum of the level after its first adder
+-- a level of two more bits has the same sum as the level after its first adder
 sum-next : (n s m e : ℕ) → levelSum (n + 3) (n + 1) m e ≡ levelSum n s (suc (suc m)) e
 sum-next n s m e = go (adders m e) refl
   where
@@ -50,7 +50,7 @@ module _ (W : ℕ → ℕ) (b : Binary W) where
       let place : n + 3 * 0 + 1 ≡ n + 1 = omega arith in
       rw (sum-some n s m e 0 p, place, p) (omega (arith, ones-more W (n + 2) 3 0, ones-none W (n + 2 + 3) 3))
 
-  -- "ones of the bits = sum + 2 × ones of the carries"
+  -- the bits of a level and e add up to its sum plus twice its carries
   pub level-law : (n s at d e m : ℕ) → e ≤ 1 → Holds W n (level n s at d e m)
       → W (levelSum n s m e) + 2 * onesAt W (n + 2) 3 (adders m e) ≡ W s + onesAt W at d m + e
   unfolding level
@@ -125,7 +125,7 @@ module _ (W : ℕ → ℕ) (b : Binary W) where
       count-law n at d m x r (n + countSize m x r) k (p .0)
       (subst (λ (z : ℕ). Holds W z (countDigits n at m x r)) (ap (λ (z : ℕ). n + z) (length-count n at d m x r)) (p .1))
 
-  -- a chain of sums modulo 2
+  -- a chain of "xor" is the sum modulo 2
   pub parity-law : (n s at d m : ℕ) → Holds W n (parity n s at d m) → W (chainEnd n s m) ≡ (W s + onesAt W at d m) % 2
   unfolding chainOf
   parity-law n s at d zero h = unfold chainEnd in (omega (arith, b s, ones-none W at d))
@@ -134,8 +134,7 @@ module _ (W : ℕ → ℕ) (b : Binary W) where
       let r = parity-law (n + 1) n (at + d) d m (holds-rest W n (xorOf s at) (parity (n + 1) n (at + d) d m) h) in
       omega (arith, g, r, ap W (chain-next n s m), ones-more W at d m)
 
--- m bits and a number can be counted in r + 1 digits if the largest count needs just those digits and the number fits
--- below the top one
+-- m bits and the number x can be counted in r + 1 digits if m + x has exactly r + 1 digits and x has at most r
 pub countable : (m x r : ℕ) → 2 ^ r ≤ m + x → m + x < 2 ^ suc r → x < 2 ^ r → Countable m x r
 countable m x zero low high small = (omega arith, omega arith)
 countable m x (suc r) low high small =

@@ -51,7 +51,7 @@ length-level n s at d e (suc (suc m)) h =
       length-level (n + 3) (n + 1) (at + d + d) d e m h,
     )
 
--- a countdown of levels
+-- no level is left
 nothing : (r : ℕ) → r ≤ 0 → r ≡ 0
 nothing r h = omega arith
 
@@ -123,7 +123,7 @@ length-counter n at d m x r = omega (
   length-digits 2 2 n at m x r,
 )
 
--- a level's carries exist once it is written
+-- once a level is written, its carries are wires
 pub below-carries : (n t : ℕ) → Below (n + 3 * t) (n + 2) 3 t
 below-carries n zero = tt
 below-carries n (suc t) = (omega arith, subst₂ (λ (x y : ℕ). Below x y 3 t) (omega arith) (omega arith) (below-carries (n + 3) t))
@@ -132,21 +132,21 @@ pub few-adders : (m e : ℕ) → e ≤ 1 → adders m e ≤ m + 1
 unfolding adders
 few-adders m e h = omega arith
 
--- a level has at most as many adders as it may have bits, so it has at most twice as many gates and two
+-- r levels that count at most `most` bits have at most r (2 most + 2) gates
 pub count-size-most : (m x r most : ℕ) → m ≤ most → 0 < most → countSize m x r ≤ r * (2 * most + 2)
 unfolding countSize adders
 count-size-most m x zero most h l = omega arith
 count-size-most m x (suc r) most h l =
     omega (arith, count-size-most ((m - 1 + x % 2 + 1) / 2) (x / 2) r most (omega arith) l, suc-mul r (2 * most + 2))
 
--- the levels' bound by products of two numbers
+-- the bound of r levels, with one more level's share added, multiplied out
 pub levels-product : (r n : ℕ) → r * (2 * n + 2) + 2 * n + 2 ≡ 2 * (n * suc r) + 2 * suc r
 levels-product r n =
     let whole : suc r * (2 * n + 2) ≡ suc r * (2 * n) + suc r * 2 = mul-add (suc r) (2 * n) 2 in
     let first : suc r * (2 * n) ≡ 2 * (n * suc r) = mul-comm (suc r) (2 * n) ∙ mul-assoc 2 n (suc r) in
     omega (arith, suc-mul r (2 * n + 2))
 
--- wires a stride apart, the last of which is below n
+-- wires a stride apart are below n if the last one is
 pub below-stride : (n at d m : ℕ) → at + m * d < n + d → Below n at d m
 below-stride n at d zero h = tt
 below-stride n at d (suc m) h =

@@ -1,4 +1,4 @@
--- Where a block's answer is: one of its own wires, or the wire it was given if it has no gate.
+-- The wire of a chain's result is below the chain's end: it is one of its gates or, if there is none, wire s.
 -- Assumes nothing.
 use Prim.Native.Nat.{ℕ, zero, suc, _+_, _≤_, _<_}
 use native.Mathlib.Omega.{arith}

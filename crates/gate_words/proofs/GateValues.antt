@@ -1,4 +1,4 @@
--- The wires of single gates in the final wires, by their numbers.
+-- What the wire of a single gate is, from the values of its operands.
 -- Assumes nothing.
 use mathlib.Core.Path.{_≡_}
 use mathlib.Core.List.{List, _∷_}
@@ -15,7 +15,7 @@ use Rattle.gate_words.proofs.Numbers.{Binary}
 abbrev pub valueOn : (ℕ → ℕ) → Gate → ℕ
 valueOn W g = valueOf (g .kind) (W (g .a)) (W (g .b)) (W (g .c))
 
--- the first gate and those after it, whose wires are counted by sums here
+-- the first gate, and the gates after it, with wires written as n + 1, n + 2 and n + 3
 pub holds-first : (W : ℕ → ℕ) (n : ℕ) (g : Gate) (gs : List Gate) → Holds W n (g ∷ gs) → W n ≡ valueOn W g
 holds-first W n g gs h = h .0
 

@@ -1,4 +1,4 @@
--- A block written piece by piece: what is left.
+-- A block that is written in pieces: what is left after each piece.
 -- Assumes nothing.
 use mathlib.Core.Path.{_≡_, _∙_, refl}
 use mathlib.Core.List.{List, [], _++_}
@@ -11,7 +11,7 @@ use Rattle.gate_words.specs.Writing.{Room, Wrote}
 use Rattle.gate_words.specs.declared.writer.Writer.{Writer}
 use Rattle.gate_words.proofs.Writing.{wrote-nothing, wrote-both}
 
--- once the rest is written from here, the whole is written from the start
+-- Writing the rest from here completes the whole that was begun at the start.
 pub record Goes (w₀ : Writer) (t₀ : List ℕ) (whole : List Gate) (w : Writer) (t : List ℕ) (rest : List Gate) : Type 0 where
   pub ends : (t′ : List ℕ) (r : Writer) → Wrote w t rest t′ r → Wrote w₀ t₀ whole t′ r
   pub long : length t ≡ length t₀
@@ -26,7 +26,7 @@ module _ (w₀ : Writer) (t₀ : List ℕ) (whole : List Gate) where
   pub goes-as : (w : Writer) (t : List ℕ) (rest rest′ : List Gate) → rest ≡ rest′ → Goes w₀ t₀ whole w t rest → Goes w₀ t₀ whole w t rest′
   goes-as w t rest rest′ e g = rw (← e) g
 
-  -- a piece is written
+  -- a piece is written, and the rest is left
   pub goes-on : (w : Writer) (t : List ℕ) (b rest : List Gate) (t₁ : List ℕ) (w₁ : Writer)
       → Goes w₀ t₀ whole w t (b ++ rest) → Wrote w t b t₁ w₁ → Goes w₀ t₀ whole w₁ t₁ rest
   goes-on w t b rest t₁ w₁ g a =
@@ -48,6 +48,6 @@ module _ (w₀ : Writer) (t₀ : List ℕ) (whole : List Gate) where
         counted = g .counted;
       }
 
-  -- nothing is left
+  -- nothing is left, so the whole is written
   pub goes-end : (w : Writer) (t : List ℕ) (rest : List Gate) → rest ≡ [] → Goes w₀ t₀ whole w t rest → Wrote w₀ t₀ whole t w
   goes-end w t rest e g = goes-as w t rest [] e g .ends t w (wrote-nothing w t)

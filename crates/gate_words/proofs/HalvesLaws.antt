@@ -1,4 +1,4 @@
--- What words compared in two halves say, for all widths and cuts; their lengths, and that they are well-formed.
+-- What comparisons in two halves say, for every width and cut; their lengths, and that they are well-formed.
 -- Assumes nothing.
 use mathlib.Core.Path.{_≡_, _∙_, refl, sym, ap, subst}
 use mathlib.Core.Logic.{_⊎_, inl, inr, ⊎-elim, _≢_}
@@ -23,14 +23,14 @@ use Rattle.gate_words.proofs.ComparisonLaws.{above-words}
 use Rattle.gate_words.proofs.Ends.{chain-below}
 use Rattle.gate_words.proofs.PointsBack.{behind, good-or, good-mux, any-good, differences-good, above-good}
 
--- e says that two numbers differ; if they do, s says that the first is larger
+-- e says whether two numbers differ; if they do, s says whether the first is larger
 pub record Tells (e s a c : ℕ) : Type 0 where
   pub same : a ≡ c → e ≡ 0
   pub differ : a ≢ c → e ≡ 1
   pub over : c < a → s ≡ 1
   pub under : a < c → s ≡ 0
 
--- one of three
+-- a is below c, equal to it, or above it
 three-ways : (P : Type 0) (a c : ℕ) → (a < c → P) → (a ≡ c → P) → (c < a → P) → P
 three-ways P zero zero l e g = e refl
 three-ways P zero (suc c) l e g = l (omega arith)
@@ -45,7 +45,7 @@ positive : (o v : ℕ) → o ≡ v → (o ≡ 0 → ⊥) → 0 < v
 positive zero v p z = absurd (z refl)
 positive (suc o) v p z = omega arith
 
--- wires side by side
+-- m neighbouring wires are below n if the last one is
 pub beside : (n at m : ℕ) → at + m ≤ n → Below n at 1 m
 beside n at zero h = tt
 beside n at (suc m) h = (omega arith, beside n (at + 1) m (omega arith))
@@ -133,7 +133,7 @@ high-unequal-some n l h m p e =
     let f : m ≡ n + suc (l + suc (h - 1)) + l = omega arith in
     ap (λ (i : ℕ). chainEnd i (n + 1 + l) (h - 1)) f ∙ sym (ap (highUnequalAt n l) q ∙ (unfold highUnequalAt in refl))
 
--- the wires with the answer are below what comes next
+-- the wires with the results are below the end of the block
 
 end-more : (n s l h : ℕ) → chainEnd n s (l + suc h) ≡ n + l + h
 unfolding chainEnd
@@ -201,7 +201,7 @@ compare-halves-good n x y l h hx hy =
     (above-halves-good (n + unequalSpan (l + h)) n x (highUnequalAt n l h) l h (omega arith) (omega arith)
     (high-unequal-below n l h (n + unequalSpan (l + h)) (omega arith)))
 
--- differences of the low digits, and of those above them
+-- the differences of v low digits, and of the w digits above them
 differences-parts : (x y v w : ℕ) → differences x y (v + w) ≡ differences x y v ++ differences (x + v) (y + v) w
 unfolding differences
 differences-parts x y zero w = rw (zero-add w, add-zero x, add-zero y)
@@ -219,7 +219,7 @@ cut3 W n gs hs is k l e₁ e₂ h =
     let e₃ : n + length (gs ++ hs) ≡ l = omega (arith, length-append gs hs) in
     (t .0, subst (λ (i : ℕ). Holds W i hs) e₁ (t .1), subst (λ (i : ℕ). Holds W i is) e₃ (s .1))
 
--- what both halves say together: the high one decides if it differs
+-- what both halves say together: if the high halves differ, they decide
 joined : {e₁ s₁ a₁ c₁ e₀ s₀ a₀ c₀ e s a c : ℕ} → Tells e₁ s₁ a₁ c₁ → Tells e₀ s₀ a₀ c₀
     → (a₁ < c₁ → a < c) → (c₁ < a₁ → c < a) → (a₁ ≡ c₁ → a + c₀ ≡ c + a₀)
     → (e₁ ≡ 1 → e ≡ 1) → (e₁ ≡ 0 → e ≡ e₀) → (e₁ ≡ 1 → s ≡ s₁) → (e₁ ≡ 0 → s ≡ s₀) → Tells e s a c
@@ -278,7 +278,7 @@ module _ (W : ℕ → ℕ) (b : Binary W) where
   rest-of : (d x y w : ℕ) → Holds W d (differences x y (suc w)) → Holds W (d + 1) (differences (x + 1) (y + 1) w)
   rest-of d x y w g = holds-rest W d (xorOf x y) (differences (x + 1) (y + 1) w) (unfold differences in g)
 
-  -- one half: whether it differs
+  -- whether a half differs
   half-zero : (d n x y w : ℕ) → number W x 1 (suc w) ≡ number W y 1 (suc w) → Holds W d (differences x y (suc w))
       → Holds W n (anyOf n d (d + 1) 1 w) → W (chainEnd n d w) ≡ 0
   half-zero d n x y w e g h = any-zero W b n d (d + 1) 1 w (omega (arith, differ-none d x y (suc w) e g, ones-more W d 1 w)) h
@@ -289,7 +289,7 @@ module _ (W : ℕ → ℕ) (b : Binary W) where
       any-one W b n d (d + 1) 1 w (positive (onesAt W d 1 (suc w)) (W d + onesAt W (d + 1) 1 w) (ones-more W d 1 w)
       (λ z. e (same-none d x y (suc w) z g))) h
 
-  -- words in two parts
+  -- words in two parts: the high parts decide; if they are equal, the low parts do
   high-less : (x y v w : ℕ) → number W (x + v) 1 w < number W (y + v) 1 w → number W x 1 (v + w) < number W y 1 (v + w)
   high-less x y v w h =
       let p = 2 ^ v in
@@ -367,7 +367,7 @@ module _ (W : ℕ → ℕ) (b : Binary W) where
             (s .1),
       )
 
-  -- one half: what it says
+  -- one half: whether it differs, and which word is above
   half-tells : (d n m x y w : ℕ) → Holds W d (differences x y (suc w)) → Holds W n (anyOf n d (d + 1) 1 w)
       → Holds W m (above m (d + 1) (x + 1) x w)
       → Tells (W (chainEnd n d w)) (W (chainEnd m x w)) (number W x 1 (suc w)) (number W y 1 (suc w))
@@ -425,7 +425,7 @@ module _ (W : ℕ → ℕ) (b : Binary W) where
           + number W y 1 (suc l) ≡ number W y 1 (suc (l + suc h)) + number W x 1 (suc l)
       parts-same x y l h e px py q = rw (← e) (high-same x y (suc l) (suc h) (rw (px, py) q))
 
-  -- whether words differ, on its own
+  -- whether words differ, without which is above
   ones-parts : (at l h : ℕ) → onesAt W at 1 (l + h) ≡ onesAt W at 1 l + onesAt W (at + l) 1 h
   ones-parts at zero h = rw (zero-add h, add-zero at) (omega (arith, ones-none W at 1))
   ones-parts at (suc l) h =
@@ -481,7 +481,7 @@ module _ (W : ℕ → ℕ) (b : Binary W) where
       (positive (onesAt W n 1 (suc (l + h))) (W n + onesAt W (n + 1) 1 (l + h)) (ones-more W n 1 (l + h))
       (λ z. e (same-none n x y (suc (l + h)) z (u .0)))) (u .1)
 
--- a word that is cut keeps all its digits
+-- the two parts of a cut word have all its digits
 whole-word : (w h : ℕ) → h ≤ w → w - h + h ≡ w
 whole-word w h q = omega arith
 

@@ -1,11 +1,12 @@
--- What the layers above use: for each block, what its wires spell, that it is well-formed, and its number of gates.
+-- What the layers above use: for each block, what its wires compute, that it is well-formed, and its number of
+-- gates.
 -- Assumes nothing.
 
 -- words and the bits that they are made of
 pub use Rattle.gate_words.proofs.Numbers.{Binary, ones-none, ones-more, number-less, number-split, number-one, number-none, number-more}
 pub use Rattle.basics.proofs.Arithmetic.{bit-cases}
 pub use Rattle.gate_words.proofs.Places.{below-more, below-first, below-rest}
--- what the wires of a block spell
+-- what the wires of a block compute
 pub use Rattle.gate_words.proofs.ChoiceLaws.{choose-one, choose-zero, masked-one, masked-zero, any-one, any-zero}
 pub use Rattle.gate_words.proofs.AdderLaws.{full-law, half-law, increment-law}
 pub use Rattle.gate_words.proofs.ComparisonLaws.{first-up, first-down, words-up, words-down, above-law, above-words, above-one, above-zero}

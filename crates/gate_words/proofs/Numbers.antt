@@ -1,4 +1,4 @@
--- Sums of bits and the numbers that words spell.
+-- Sums of bits, and the numbers that words hold.
 -- Assumes nothing.
 use mathlib.Core.Path.{_≡_, _∙_, refl, ap}
 use Prim.Native.Nat.{ℕ, zero, suc, _+_, _*_, _^_, _≤_, _<_}

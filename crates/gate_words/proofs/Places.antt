@@ -5,7 +5,7 @@ use Prim.Native.Nat.{ℕ, zero, suc, _+_, _-_, _<_, _≤_}
 use native.Mathlib.Omega.{arith}
 use Rattle.gate_words.specs.Word.{Below}
 
--- what is below a wire is below a later one
+-- wires below wire n are also below any later wire
 pub below-more : (n n′ at d m : ℕ) → n ≤ n′ → Below n at d m → Below n′ at d m
 below-more n n′ at d zero h b = tt
 below-more n n′ at d (suc m) h b = (omega arith, below-more n n′ (at + d) d m h (b .1))

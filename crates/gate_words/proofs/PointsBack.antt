@@ -1,4 +1,4 @@
--- Every block is a well-formed list: its operands point back if those it was given do.
+-- Every block is a well-formed list: its operands are earlier wires if the operands that it was given are.
 -- Assumes nothing.
 use mathlib.Core.Path.{_≡_, refl, sym, ap, subst}
 use mathlib.Core.Bool.{Bool, true, false, cond}
@@ -45,7 +45,7 @@ good-xor n x y h k = good-two n 6 x y (omega arith) (operand-counts .6) h k
 pub good-mux : (n f x y : ℕ) → f < n → x < n → y < n → T (goodGate n (muxOf f x y))
 good-mux n f x y l h k = good-three n 7 f x y (omega arith) (operand-counts .7) l h k
 
--- what comes after a block of k gates
+-- a block of k gates, and the gates after it
 pub behind : (n k : ℕ) (gs hs : List Gate) → length gs ≡ k → AllGood n gs → AllGood (n + k) hs → AllGood n (gs ++ hs)
 behind n k gs hs e p q = good-append n gs hs p (subst (λ (j : ℕ). AllGood (n + j) hs) (sym e) q)
 
@@ -177,7 +177,7 @@ sum-below n s m e q hs h = go (adders m e) refl
     go zero p = rw (eq-eqb (adders m e) 0 p) hs
     go (suc t) p = rw (ne-eqb (adders m e) 0 (λ z. suc-not-zero p z)) (omega arith)
 
--- a counter has bits
+-- a counter counts at least one bit
 pub countable-some : (m x r : ℕ) → Countable m x r → 0 < m
 countable-some m x zero k = omega (arith, k .0)
 countable-some m x (suc r) k = k .0

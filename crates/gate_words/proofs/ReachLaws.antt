@@ -1,4 +1,5 @@
--- What the carry out of two words says, for all widths; its length, and that it is well-formed.
+-- What the carry out of two words says, for every width; the length of its block, and that the block is
+-- well-formed.
 -- Assumes nothing.
 use mathlib.Core.Path.{_≡_, _∙_, refl, sym, ap, subst}
 use mathlib.Core.Bool.{Bool, true, false, cond}
@@ -83,7 +84,7 @@ unfolding reach reachLast
 length-reach n x y e zero = length-carry-bit x y e
 length-reach n x y e (suc r) = omega (arith, length-reach-halves n x y e (r / 2) (r - r / 2))
 
--- the first digits, and the rest
+-- the first digit, and the rest
 
 pub carries-step : (n x y c i w : ℕ) → i < w → carries n (x + i) (y + i) c (w - i)
     ≡ (xorOf (x + i) (y + i) ∷ muxOf n c (x + i) ∷ [])
@@ -198,21 +199,21 @@ unfolding reach
 reach-good n x y e zero hx hy = carry-bit-good n x y e (omega arith) (omega arith)
 reach-good n x y e (suc r) hx hy = reach-halves-good n x y e (r / 2) (r - r / 2) (omega arith) (omega arith)
 
--- what they say
+-- what the carries say
 
--- one digit: if two bits are equal, the carry is that bit, and else the carry in
+-- one digit: if the two bits are equal, the carry out is that bit; if not, it is the carry in
 one-carry : (x y s t k : ℕ) → x ≤ 1 → y ≤ 1 → s ≤ 1 → t ≡ (x + y) % 2 → (t ≡ 0 → k ≡ x) → (t ≡ 1 → k ≡ s) → (k ≤ 1)
     × (2 * k ≤ x + y + s) × (x + y + s ≤ 2 * k + 1)
 one-carry x y s t k hx hy hs e k₀ k₁ =
     ⊎-elim (λ (z : t ≡ 0). let p = k₀ z in (omega arith, omega arith, omega arith))
     (λ (z : t ≡ 1). let p = k₁ z in (omega arith, omega arith, omega arith)) (bit-cases t (omega arith))
 
--- a bit says that a sum reaches a limit
+-- a bit says whether a sum reaches a limit
 pub record Reaches (bit limit sum : ℕ) : Type 0 where
   pub reached : limit ≤ sum → bit ≡ 1
   pub missed : sum < limit → bit ≡ 0
 
--- so it does with one more digit: twice the limit, and twice the sum and the lowest digits
+-- with one more digit below, the same bit says whether the sum of all digits reaches twice the limit
 one-more : (sum k low : ℕ) {bit limit twice whole : ℕ} → Reaches bit limit (sum + k) → twice ≡ 2 * limit → whole
     ≡ low + 2 * sum → 2 * k ≤ low → low ≤ 2 * k + 1 → Reaches bit twice whole
 one-more sum k low r e f g h = record { reached = λ q. r .reached (omega arith); missed = λ q. r .missed (omega arith) }
@@ -226,7 +227,8 @@ module _ (W : ℕ → ℕ) (b : Binary W) where
       (omega (arith, b x, b y), omega (arith, b x, b y))
   carry-bit-law n x y (suc (suc e)) l h = absurd (omega arith)
 
-  -- a chain of carries above a part for which a bit is known to say it
+  -- w digits below h others: if a bit is right for the high ones and the carry out of the low ones, it is right for
+  -- all
   carries-law : (n x y c w h bit : ℕ) → Holds W n (carries n x y c w)
       → ((k : ℕ) → (w ≡ 0 → k ≡ c) → (0 < w → k + 1 ≡ n + 2 * w) → Reaches bit (2 ^ h) (number W (x + w) 1 h + number W (y + w) 1 h + W k))
       → Reaches bit (2 ^ (w + h)) (number W x 1 (w + h) + number W y 1 (w + h) + W c)

@@ -1,5 +1,5 @@
--- Rows of sums modulo 2, and counts whose digits are copied or complemented: what they spell, their lengths, and that they
--- are well-formed.
+-- Rows of sums modulo 2, and counts whose digits are copied or complemented: what they compute, their lengths, and
+-- that they are well-formed.
 -- Assumes nothing.
 use mathlib.Core.Path.{_≡_, _∙_, refl, sym, ap, subst}
 use mathlib.Core.List.{[], _∷_, _++_}
@@ -60,7 +60,7 @@ module _ (W : ℕ → ℕ) (b : Binary W) where
       rw (pn, px, py) (rows-law (n + 1) (x + dx) dx (y + dy) dy m i (omega arith)
       (holds-rest W n (xorOf x y) (xorRows (x + dx) dx (y + dy) dy m) h))
 
-  -- rows that have no 1 in common have as many ones as both together
+  -- if two rows have no 1 in common, their sum has as many ones as both together
   pub ones-both : (z x dx y dy m : ℕ) → ((i : ℕ) → i < m → W (z + i * 1) ≡ W (x + i * dx) + W (y + i * dy))
       → onesAt W z 1 m ≡ onesAt W x dx m + onesAt W y dy m
   ones-both z x dx y dy zero h = omega (arith, ones-none W z 1, ones-none W x dx, ones-none W y dy)
@@ -76,7 +76,7 @@ module _ (W : ℕ → ℕ) (b : Binary W) where
       rw (qz, qx, qy) (h (suc i) (omega arith))) in
       omega (arith, first, ap W px, ap W py, rest, ones-more W z 1 m, ones-more W x dx m, ones-more W y dy m)
 
-  -- one digit more
+  -- one level: its sum is the lowest digit of the count, and the other levels count its carries
   carried : (n at d m x r : ℕ) → 0 < m → Holds W n (countLevels n at d m x (suc r))
       → (W (levelSum n at (m - 1) (x % 2)) + 2 * (onesAt W (n + 2) 3 (adders (m - 1) (x % 2)) + x / 2) ≡ onesAt W at d m + x)
       × Holds W (n + 3 * adders (m - 1) (x % 2)) (countLevels (n + 3 * adders (m - 1) (x % 2)) (n + 2) 3 (adders (m - 1) (x % 2)) (x / 2) r)
@@ -94,12 +94,12 @@ module _ (W : ℕ → ℕ) (b : Binary W) where
             (ap (λ (z : ℕ). n + z) (length-level n at (at + d) d e (m - 1) (omega arith))) (p .1),
       )
 
-  -- the digits of a total at q, its top digit complemented: if that is 1, the total has no top digit
+  -- The low digits of a total are at q, and the complement of its top digit is at q + r.
   pub record Told (q r total : ℕ) : Type 0 where
     pub short : W (q + r) ≡ 1 → number W q 1 r ≡ total
     pub long : W (q + r) ≡ 0 → number W q 1 r + 2 ^ r ≡ total
 
-  -- a count's low digits are copied and its top digit is complemented: they describe the count
+  -- a count whose low digits are copied and whose top digit is complemented
   pub copied-law : (n at d m x r q : ℕ) → Countable m x r → Holds W n (countLevels n at d m x r)
       → Holds W q (countDigitsAs 2 3 n at m x r) → Told q r (onesAt W at d m + x)
   unfolding countDigitsAs
@@ -129,8 +129,8 @@ module _ (W : ℕ → ℕ) (b : Binary W) where
             λ i. omega (arith, e, c .0, a .long (sym w ∙ i), number-more W q 1 r, pow-succ' 2 r);
       }
 
-  -- its low digits are complemented and its top digit is copied: they describe what the count plus one lacks to the
-  -- next power
+  -- a count whose low digits are complemented and whose top digit is copied: the total is then 2 ^ (r + 1) - 1 -
+  -- count
   pub complemented-law : (n at d m x r q total : ℕ) → Countable m x r → total + 1 + (onesAt W at d m + x) ≡ 2 ^ suc r
       → Holds W n (countLevels n at d m x r) → Holds W q (countDigitsAs 3 2 n at m x r)
       → Told q r total

@@ -1,4 +1,4 @@
--- Blocks of several gates a digit: the first digit, and the rest. Their lengths.
+-- Blocks with several gates for each digit, as a first digit and the rest; and their lengths.
 -- Assumes nothing.
 use mathlib.Core.Path.{_≡_, refl, ap}
 use mathlib.Core.Bool.{Bool, true, false, cond}

@@ -19,7 +19,7 @@ use Rattle.gate_words.specs.Writing.{Room, Wrote}
 use Rattle.gate_words.specs.declared.writer.Writer.{Writer}
 use Rattle.basics.proofs.Tables.{sets-append}
 
--- nothing is written
+-- a block of no gates
 pub wrote-nothing : (w : Writer) (t : List ℕ) → Wrote w t [] t w
 wrote-nothing w t =
     record {
@@ -48,11 +48,11 @@ wrote-both w t gs t₁ w₁ hs t₂ w₂ a b =
       conditionals = omega (arith, a .conditionals, b .conditionals, count-append gs hs);
     }
 
--- the same block under another name
+-- equal blocks
 pub wrote-as : (w : Writer) (t : List ℕ) (gs hs : List Gate) (t₁ : List ℕ) (w₁ : Writer) → gs ≡ hs → Wrote w t gs t₁ w₁ → Wrote w t hs t₁ w₁
 wrote-as w t gs hs t₁ w₁ e a = rw (← e) a
 
--- room for a part, and for the rest once a part is written
+-- room for a part of a block, and for the rest after a part is written
 pub room-less : (w : Writer) (m n : ℕ) → m ≤ n → Room w n → Room w m
 room-less w m n h r = record { few = omega (arith, r .few); small = omega (arith, r .small); counted = r .counted }
 
@@ -74,7 +74,7 @@ pub sets-four : (t : List ℕ) (at k a b c : ℕ) → sets t at (k ∷ a ∷ b �
     ≡ set (set (set (set t at k) (at + 1) a) (at + 2) b) (at + 3) c
 sets-four t at k a b c = rw (add-one at, add-two at, add-three at)
 
--- a store that may not be made keeps the length
+-- the length stays, whether or not the store is made
 kept-long : (done : Bool) (t : List ℕ) (i : ℕ) (vs : List ℕ) → length (cond done (sets t i vs) t) ≡ length t
 kept-long true t i vs = length-sets t i vs
 kept-long false t i vs = refl

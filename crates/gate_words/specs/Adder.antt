@@ -1,4 +1,4 @@
--- Adders. Each digit takes three gates, the first at wire n: the sum is at n + 1 and the carry at n + 2.
+-- Adders of one digit. Each has three gates from wire n on: the sum is at n + 1, the carry at n + 2.
 use mathlib.Core.Bool.{cond}
 use mathlib.Core.List.{List, [], _∷_}
 use Prim.Native.Nat.{ℕ}

@@ -1,4 +1,4 @@
--- Blocks of one gate a wire: one of two words, a word or 0; whether one of some wires is 1, and their sum modulo 2.
+-- Blocks with one gate for each wire: choosing between words, masking a word, and chains that join wires.
 use mathlib.Core.List.{List, [], _∷_}
 use Prim.Native.Nat.{ℕ, zero, suc, _+_}
 use Rattle.gates.specs.Gate.{Gate}
@@ -9,30 +9,30 @@ unfoldable pub choose : ℕ → ℕ → ℕ → ℕ → List Gate
 choose f x y zero = []
 choose f x y (suc w) = muxOf f x y ∷ choose f (x + 1) (y + 1) w
 
--- The word at x if wire f is 1, else 0.
+-- The word of w digits at x if wire f is 1, else 0.
 unfoldable pub masked : ℕ → ℕ → ℕ → List Gate
 masked f x zero = []
 masked f x (suc w) = andOf f x ∷ masked f (x + 1) w
 
--- A chain of m gates of a kind with two operands, the first being wire n. It takes the wires s and `at`; each next
--- gate takes the wire of the gate before and the next of the wires, d apart.
+-- A chain of m gates of a kind with two operands. The first is wire n and joins the wires s and `at`. Each later
+-- gate joins the gate before it and the next operand, d wires further on.
 unfoldable pub chainOf : ℕ → ℕ → ℕ → ℕ → ℕ → ℕ → List Gate
 chainOf kind n s at d zero = []
 chainOf kind n s at d (suc m) = gate kind s at 0 ∷ chainOf kind (n + 1) n (at + d) d m
 
--- The last wire of a chain: s itself if it has no gate.
+-- The last wire of a chain of m gates from wire n on; if m is 0, it is s.
 unfoldable pub chainEnd : ℕ → ℕ → ℕ → ℕ
 chainEnd n s zero = s
 chainEnd n s (suc m) = n + m
 
--- Whether the wire s or one of m wires is 1.
+-- Whether wire s or one of the m wires from `at` on, d apart, is 1.
 abbrev pub anyOf : ℕ → ℕ → ℕ → ℕ → ℕ → List Gate
 anyOf n s at d m = chainOf 5 n s at d m
 
--- Whether the wire s and all of m wires are 1.
+-- Whether wire s and all of the m wires from `at` on, d apart, are 1.
 abbrev pub allOf : ℕ → ℕ → ℕ → ℕ → ℕ → List Gate
 allOf n s at d m = chainOf 4 n s at d m
 
--- The sum modulo 2 of the wire s and m wires.
+-- The sum modulo 2 of wire s and the m wires from `at` on, d apart.
 abbrev pub parity : ℕ → ℕ → ℕ → ℕ → ℕ → List Gate
 parity n s at d m = chainOf 6 n s at d m

@@ -8,7 +8,7 @@ use Rattle.gates.specs.Gate.{Gate}
 use Rattle.gate_words.specs.Gates.{gate}
 use Rattle.gate_words.specs.Adder.{fullAdder, halfAdder, increment}
 
--- One level: adds to the wire s the m bits at `at`, at + d, and so on, two at a time, and at the end the public bit e.
+-- One level: adds to wire s the m bits at `at`, at + d, and so on, two at a time, and at the end the public bit e.
 -- Each adder passes its sum on to the next.
 unfoldable pub level : ℕ → ℕ → ℕ → ℕ → ℕ → ℕ → List Gate
 level n s at d e zero = cond (eqb e 0) [] (increment n s)
@@ -23,22 +23,23 @@ adders m e = (m + e + 1) / 2
 unfoldable pub levelSum : ℕ → ℕ → ℕ → ℕ → ℕ
 levelSum n s m e = cond (eqb (adders m e) 0) s (n + 3 * adders m e - 2)
 
--- r levels that count m bits and the public number `extra`: a level's sum starts at its first bit.
+-- r levels of adders that count the m bits from `at` on, d apart, and the public number `extra`: each level adds one
+-- of its binary digits. A level's sum starts with its first bit.
 unfoldable pub countLevels : ℕ → ℕ → ℕ → ℕ → ℕ → ℕ → List Gate
 countLevels n at d m extra zero = []
 countLevels n at d m extra (suc r) =
     level n at (at + d) d (extra % 2) (m - 1)
     ++ countLevels (n + 3 * adders (m - 1) (extra % 2)) (n + 2) 3 (adders (m - 1) (extra % 2)) (extra / 2) r
 
--- A gate with one operand for each level's sum, of kind `low`, and one for the single bit that is left, of kind `top`.
--- They are the digits of the count, side by side, copied or complemented. The levels start at wire n.
+-- The digits of the count, side by side: a gate of kind `low` for the sum of each of r levels, and one of kind
+-- `top` for the single bit that is left. Either kind copies or complements. The levels start at wire n.
 unfoldable pub countDigitsAs : ℕ → ℕ → ℕ → ℕ → ℕ → ℕ → ℕ → List Gate
 countDigitsAs low top n at m extra zero = gate top at 0 0 ∷ []
 countDigitsAs low top n at m extra (suc r) =
     gate low (levelSum n at (m - 1) (extra % 2)) 0 0
     ∷ countDigitsAs low top (n + 3 * adders (m - 1) (extra % 2)) (n + 2) (adders (m - 1) (extra % 2)) (extra / 2) r
 
--- All of them copied.
+-- The digits of the count, all copied.
 abbrev pub countDigits : ℕ → ℕ → ℕ → ℕ → ℕ → List Gate
 countDigits n at m extra r = countDigitsAs 2 2 n at m extra r
 
@@ -46,7 +47,7 @@ countDigits n at m extra r = countDigitsAs 2 2 n at m extra r
 unfoldable pub counter : ℕ → ℕ → ℕ → ℕ → ℕ → ℕ → List Gate
 counter n at d m extra r = countLevels n at d m extra r ++ countDigits n at m extra r
 
--- The number of gates of the levels.
+-- The number of gates of r levels that count m bits and the number `extra`.
 unfoldable pub countSize : ℕ → ℕ → ℕ → ℕ
 countSize m extra zero = 0
 countSize m extra (suc r) = 3 * adders (m - 1) (extra % 2) + countSize (adders (m - 1) (extra % 2)) (extra / 2) r

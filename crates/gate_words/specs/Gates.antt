@@ -1,7 +1,8 @@
--- The gates that the blocks are made of, one constructor a kind. Operands that a kind does not use are 0.
+-- The gates that the blocks are made of, one constructor for each kind. Operands that a kind does not use are 0.
 use Prim.Native.Nat.{ℕ, _%_}
 use Rattle.gates.specs.Gate.{Gate}
 
+-- A gate of any kind, from its kind and its three operands.
 abbrev pub gate : ℕ → ℕ → ℕ → ℕ → Gate
 gate kind a b c = record { kind = kind; a = a; b = b; c = c }
 

@@ -1,6 +1,6 @@
--- Words compared in two halves, both at the same time, in half as many rounds. The low half has l digits above its
--- lowest one, the high half h digits; if h is 0 there is one half. Where a word is cut changes neither the number of
--- gates nor that of conditional gates.
+-- Words compared in two halves, side by side, in half as many rounds. The low half has l + 1 digits, the high half h;
+-- if h is 0, the low half is the whole word. The cut changes neither the number of gates nor that of conditional
+-- ones.
 use mathlib.Core.List.{List, [], _∷_, _++_}
 use Prim.Native.Nat.{ℕ, zero, suc, _+_, _-_}
 use Rattle.gates.specs.Gate.{Gate}
@@ -8,7 +8,8 @@ use Rattle.gate_words.specs.Gates.{orOf, muxOf}
 use Rattle.gate_words.specs.Choice.{anyOf, chainEnd}
 use Rattle.gate_words.specs.Comparison.{differences, above}
 
--- Whether the wire s or one of l + h wires from `at` on is 1: the first l of them with s, the others on their own.
+-- Whether wire s or one of l + h wires from `at` on is 1: one chain joins s and the first l wires, another the h
+-- wires after them, and an "or" joins the two.
 unfoldable pub anyOfHalves : ℕ → ℕ → ℕ → ℕ → ℕ → List Gate
 anyOfHalves n s at l zero = anyOf n s at 1 l
 anyOfHalves n s at l (suc h) =
@@ -20,15 +21,15 @@ anyOfHalves n s at l (suc h) =
 unfoldable pub unequalHalves : ℕ → ℕ → ℕ → ℕ → ℕ → List Gate
 unequalHalves n x y l h = differences x y (suc (l + h)) ++ anyOfHalves (n + suc (l + h)) n (n + 1) l h
 
--- The number of gates for words of w + 1 digits, and the wire that says it.
+-- For words of w + 1 digits: the number of gates of this block, and the wire that says whether the words differ.
 abbrev pub unequalSpan : ℕ → ℕ
 unequalSpan w = suc w + w
 
 abbrev pub unequalAt : ℕ → ℕ → ℕ
 unequalAt n w = chainEnd (n + suc w) n w
 
--- Which of two words is above, if they differ: wire f and the next ones say in which digits they do, and wire e that
--- they do in the high half. In the lowest digit of a half, x's own digit says it.
+-- Whether the word at x is above another that differs from it. The wires from f on say in which digits they differ,
+-- wire e whether they differ in the high half. The chain of each half starts with x's lowest digit there.
 unfoldable pub aboveHalves : ℕ → ℕ → ℕ → ℕ → ℕ → ℕ → List Gate
 aboveHalves n f x e l zero = above n (f + 1) (x + 1) x l
 aboveHalves n f x e l (suc h) =
@@ -36,7 +37,7 @@ aboveHalves n f x e l (suc h) =
     ++ above (n + l) (f + 1 + l + 1) (x + 1 + l + 1) (x + 1 + l) h
     ++ (muxOf e (chainEnd (n + l) (x + 1 + l) h) (chainEnd n x l) ∷ [])
 
--- The wire that says that the high halves differ; any wire if there is no high half.
+-- The wire that says whether the high halves differ. If there is no high half, nothing uses it.
 unfoldable pub highUnequalAt : ℕ → ℕ → ℕ → ℕ
 highUnequalAt n l zero = n
 highUnequalAt n l (suc h) = chainEnd (n + suc (l + suc h) + l) (n + 1 + l) h
@@ -46,13 +47,15 @@ unfoldable pub compareHalves : ℕ → ℕ → ℕ → ℕ → ℕ → List Gate
 compareHalves n x y l h =
     unequalHalves n x y l h ++ aboveHalves (n + unequalSpan (l + h)) n x (highUnequalAt n l h) l h
 
+-- For words of w + 1 digits: the number of gates of this block, and the wire that says, if they differ, whether x is
+-- above.
 abbrev pub compareSpan : ℕ → ℕ
 compareSpan w = unequalSpan w + w
 
 abbrev pub aboveAt : ℕ → ℕ → ℕ → ℕ
 aboveAt n x w = chainEnd (n + unequalSpan w) x w
 
--- Words of w + 1 digits, of which the h highest are the high half. There are at most w.
+-- The same for words of w + 1 digits, of which the h highest, at most w, are the high half.
 abbrev pub unequalCut : ℕ → ℕ → ℕ → ℕ → ℕ → List Gate
 unequalCut n x y w h = unequalHalves n x y (w - h) h
 

@@ -1,5 +1,5 @@
--- Whether the sum of two words and a public bit needs one more digit than they have: the carry out of their top
--- digits, without the sum. Both halves are done at the same time.
+-- Whether the sum of two words and a public bit needs one more digit than the words have: the carry out of their
+-- top digits, without the sum. Two halves are computed side by side.
 use mathlib.Core.Bool.{cond}
 use mathlib.Core.List.{List, [], _∷_, _++_}
 use Prim.Native.Nat.{ℕ, zero, suc, _+_, _-_, _*_, _/_}
@@ -9,7 +9,7 @@ use Rattle.gate_words.specs.Gates.{andOf, orOf, xorOf, muxOf}
 use Rattle.gate_words.specs.Choice.{allOf, chainEnd}
 use Rattle.gate_words.specs.Comparison.{differences}
 
--- The carry out of one digit and the public bit e.
+-- The carry out of one digit of each word and the public bit e.
 unfoldable pub carryBit : ℕ → ℕ → ℕ → List Gate
 carryBit x y e = cond (eqb e 0) (andOf x y ∷ []) (orOf x y ∷ [])
 
@@ -19,13 +19,14 @@ unfoldable pub carries : ℕ → ℕ → ℕ → ℕ → ℕ → List Gate
 carries n x y c zero = []
 carries n x y c (suc w) = xorOf x y ∷ muxOf n c x ∷ carries (n + 2) (x + 1) (y + 1) (n + 1) w
 
--- The same, if the wires from f on say in which digits the words differ.
+-- The same, but the wires from f on already say in which digits the words differ.
 unfoldable pub carriesBy : ℕ → ℕ → ℕ → ℕ → ℕ → List Gate
 carriesBy n f x c zero = []
 carriesBy n f x c (suc w) = muxOf f c x ∷ carriesBy (n + 1) (f + 1) (x + 1) n w
 
--- The high half, of h + 1 digits, with the carry in at wire c: that is carried through if all digits differ. Else the
--- highest equal digits decide, whatever comes from below; the chain starts at x's lowest digit.
+-- The carry out of the high half, of h + 1 digits, with the carry in at wire c. If all digits differ, the carry in
+-- passes. Otherwise the highest equal digits decide, so their chain does not wait for c and starts with x's lowest
+-- digit.
 unfoldable pub highReach : ℕ → ℕ → ℕ → ℕ → ℕ → List Gate
 highReach n x y c h =
     differences x y (suc h)
@@ -33,22 +34,23 @@ highReach n x y c h =
     ++ allOf (n + suc h + h) n (n + 1) 1 h
     ++ (muxOf (chainEnd (n + suc h + h) n h) c (chainEnd (n + suc h) x h) ∷ [])
 
--- A low half of l + 1 digits, whose carry is at n + 2 l, and a high one of h + 1 digits.
+-- The carry out of both halves: a low one of l + 1 digits, whose carry is at wire n + 2 l, and a high one of h + 1.
 unfoldable pub reachHalves : ℕ → ℕ → ℕ → ℕ → ℕ → ℕ → List Gate
 reachHalves n x y e l h =
     carryBit x y e
     ++ carries (n + 1) (x + 1) (y + 1) n l
     ++ highReach (n + 1 + 2 * l) (x + 1 + l) (y + 1 + l) (n + 2 * l) h
 
--- Words of r + 1 digits: the last wire says it.
+-- The carry out of words of r + 1 digits and the public bit e. The last wire has it.
 unfoldable pub reach : ℕ → ℕ → ℕ → ℕ → ℕ → List Gate
 reach n x y e zero = carryBit x y e
 reach n x y e (suc r) = reachHalves n x y e (r / 2) (r - r / 2)
 
--- How far after the first wire it is.
+-- How far the wire of the carry is from wire n.
 unfoldable pub reachLast : ℕ → ℕ
 reachLast zero = 0
 reachLast (suc r) = 2 * (r / 2) + 3 * (r - r / 2) + 2
 
+-- The number of gates of the block.
 abbrev pub reachSpan : ℕ → ℕ
 reachSpan r = suc (reachLast r)

@@ -1,12 +1,12 @@
--- Words: what the wires from a place on, a stride apart, spell. W gives each wire its value.
+-- Words: numbers held by wires. W gives each wire its value, `at` is the first wire, and d is the stride.
 use Prim.Native.Nat.{ℕ, zero, suc, _+_, _*_, _<_}
 
--- The number of ones among m wires: at, at + d, at + 2 d, and so on.
+-- The number of ones among the m wires at, at + d, at + 2 d, and so on.
 unfoldable pub onesAt : (ℕ → ℕ) → ℕ → ℕ → ℕ → ℕ
 onesAt W at d zero = 0
 onesAt W at d (suc m) = W at + onesAt W (at + d) d m
 
--- What w wires are as a binary number, lowest digit first.
+-- The binary number of w wires, lowest digit first.
 unfoldable pub number : (ℕ → ℕ) → ℕ → ℕ → ℕ → ℕ
 number W at d zero = 0
 number W at d (suc w) = W at + 2 * number W (at + d) d w

@@ -1,4 +1,4 @@
--- What writing a block into a lent table asks and does, alike for every block.
+-- What the writing of every block asks, and what it does to the lent table.
 use mathlib.Core.Path.{_≡_}
 use mathlib.Core.List.{List}
 use Prim.Native.Nat.{ℕ, _+_, _*_, _≤_, _<_}
@@ -9,15 +9,15 @@ use Rattle.gates.specs.Board.{conditionalCount}
 use Rattle.gate_words.specs.Limits.{writerLimit}
 use Rattle.gate_words.specs.declared.writer.Writer.{Writer}
 
--- There is room for `gates` more gates: they are few enough to be counted, their wires are small enough to be added
--- up, and no more conditional gates were counted than gates. The table may be shorter.
+-- The writer can count `gates` more gates: the numbers of gates and of wires stay below the limit, and no more
+-- conditional gates were counted than gates. The table itself may be too short.
 pub record Room (w : Writer) (gates : ℕ) : Type 0 where
   pub few : w .gate + gates < writerLimit
   pub small : w .wire + gates < writerLimit
   pub counted : w .conditional ≤ w .gate
 
--- The table keeps its length; if it has room for the block, it has the block's numbers from the writer's place on and
--- is unchanged elsewhere. The next writer is after the block and has counted its conditional gates.
+-- The table keeps its length. If it has room for the block, it holds the block's numbers from the writer's place on
+-- and is unchanged elsewhere. The next writer is after the block and has counted its conditional gates.
 pub record Wrote (w : Writer) (table : List ℕ) (block : List Gate) (table′ : List ℕ) (next : Writer) : Type 0 where
   pub long : length table′ ≡ length table
   pub numbers : 4 * (w .gate + length block) ≤ length table → table′ ≡ sets table (4 * w .gate) (numbersOf block)

@@ -1,4 +1,4 @@
-// Words made digit by digit.
+// Choosing and masking words, and chains of gates.
 use crate::writer::Writer;
 use gates::kind;
 ghost use mathlib.Core.Path.{_≡_};
@@ -9,7 +9,7 @@ ghost use Rattle.gate_words.specs.Choice.{choose, masked, chainOf};
 ghost use Rattle.gate_words.specs.Choice.{chainEnd, anyOf, allOf, parity};
 ghost use Rattle.gate_words.specs.inner.Ready.{WordReady, WordsReady, WiresReady, ChainReady};
 
-// The last wire of a chain of `count` gates.
+// The last wire of a chain of `count` gates from wire n on; if there is no gate, it is s.
 pub fn chain_end(n: u32, s: u32, count: u32) -> u32
     requires { ⌜ n + count < writerLimit ⌝ }
     ensures { λ r. ⌜ r ≡ chainEnd n s count ⌝ }
@@ -46,7 +46,7 @@ impl Writer {
         w
     }
 
-    // A chain of gates of a kind with two operands.
+    // A chain of gates whose kind has two operands: joins wire s and `count` wires from `first` on, a stride apart.
     fn chain(
         self,
         table: &mut [u32],
@@ -75,7 +75,7 @@ impl Writer {
         w
     }
 
-    // Whether wire s or one of `count` wires, a stride apart, is 1.
+    // Whether wire s or one of `count` wires from `first` on, a stride apart, is 1.
     pub fn any_of(self, table: &mut [u32], s: u32, first: u32, stride: u32, count: u32) -> Writer
         requires { ⌜ WiresReady self count first stride count ⌝ }
         ensures { λ r. ⌜
@@ -85,7 +85,7 @@ impl Writer {
         self.chain(table, kind::OR, s, first, stride, count)
     }
 
-    // Whether wire s and all of `count` wires, a stride apart, are 1.
+    // Whether wire s and all of `count` wires from `first` on, a stride apart, are 1.
     pub fn all_of(self, table: &mut [u32], s: u32, first: u32, stride: u32, count: u32) -> Writer
         requires { ⌜ WiresReady self count first stride count ⌝ }
         ensures { λ r. ⌜
@@ -95,7 +95,7 @@ impl Writer {
         self.chain(table, kind::AND, s, first, stride, count)
     }
 
-    // The sum modulo 2 of wire s and `count` wires, a stride apart.
+    // The sum modulo 2 of wire s and `count` wires from `first` on, a stride apart.
     pub fn parity(self, table: &mut [u32], s: u32, first: u32, stride: u32, count: u32) -> Writer
         requires { ⌜ WiresReady self count first stride count ⌝ }
         ensures { λ r. ⌜

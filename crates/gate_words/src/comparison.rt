@@ -1,4 +1,4 @@
-// Comparisons.
+// Comparing words, from the lowest digit up.
 use crate::writer::Writer;
 use gates::kind;
 ghost use lib.ListN.{length};
@@ -7,7 +7,7 @@ ghost use Rattle.gate_words.specs.Comparison.{firstDigit, compareWords, 
 ghost use Rattle.gate_words.specs.inner.Ready.{WordsReady};
 
 impl Writer {
-    // Two digits compared both ways, with one conditional gate.
+    // Compares two digits both ways, with one conditional gate.
     pub fn first_digit(self, table: &mut [u32], x: u32, y: u32) -> Writer
         requires { ⌜ Room self 3 ⌝ }
         ensures { λ r. ⌜ Wrote self (now (table .entry)) (firstDigit (self .wire) x y) (now (table .exit)) r ⌝ }
@@ -18,7 +18,7 @@ impl Writer {
         second.emit(table, kind::XOR, n, n + 1, 0)
     }
 
-    // One digit more of a comparison both ways.
+    // Compares one more digit both ways. The wires up and down have the results for the lower digits.
     fn compare_next(self, table: &mut [u32], x: u32, y: u32, up: u32, down: u32) -> Writer
         requires { ⌜ Room self 3 ⌝ }
         ensures { λ r. ⌜
@@ -31,7 +31,8 @@ impl Writer {
         second.emit(table, kind::CHOICE, n, y, down)
     }
 
-    // Two words compared both ways, after lower digits about which the wires up and down say who is above.
+    // Compares two words both ways. The wires up and down have the results for lower digits: whether x is above y,
+    // and whether it is below.
     pub fn compare_words(
         self,
         table: &mut [u32],
@@ -74,8 +75,8 @@ impl Writer {
         w
     }
 
-    // A word compared one way with another; the wires from `differ` on say in which digits they differ, and wire s
-    // what the digits before them say.
+    // Whether the word at x is above another. The wires from `differ` on say in which digits the two differ, and
+    // wire s has the result for lower digits.
     pub fn above(self, table: &mut [u32], differ: u32, x: u32, s: u32, digits: u32) -> Writer
         requires { ⌜ WordsReady self digits differ x digits ⌝ }
         ensures { λ r. ⌜

@@ -1,5 +1,4 @@
-// Words compared in two halves, both at the same time: the low half has `low` digits above its lowest one, the high
-// half has `high` digits.
+// Words compared in two halves, side by side. The low half has low + 1 digits, the high half `high` digits.
 use crate::choice::chain_end;
 use crate::writer::Writer;
 use gates::kind;
@@ -11,7 +10,7 @@ ghost use Rattle.gate_words.specs.Halves.{anyOfHalves, unequalHalves, un
 ghost use Rattle.gate_words.specs.Halves.{highUnequalAt, compareHalves, compareSpan, aboveAt};
 ghost use Rattle.gate_words.specs.inner.Ready.{WordReady, WordsReady};
 
-// The wire that says that words of above + 1 digits differ, in a comparison from wire n on.
+// The wire that says whether words of above + 1 digits differ, if their comparison starts at wire n.
 pub fn unequal_at(n: u32, above: u32) -> u32
     requires { ⌜ n + unequalSpan above < writerLimit ⌝ }
     ensures { λ r. ⌜ r ≡ unequalAt n above ⌝ }
@@ -19,7 +18,7 @@ pub fn unequal_at(n: u32, above: u32) -> u32
     chain_end(n + above + 1, n, above)
 }
 
-// The wire that says that the word at x is above.
+// The wire that says, if the words differ, whether the word at x is above.
 pub fn above_at(n: u32, x: u32, above: u32) -> u32
     requires { ⌜ n + compareSpan above < writerLimit ⌝ }
     ensures { λ r. ⌜ r ≡ aboveAt n x above ⌝ }
@@ -27,7 +26,7 @@ pub fn above_at(n: u32, x: u32, above: u32) -> u32
     chain_end(n + above + 1 + above, x, above)
 }
 
-// The wire that says that the high halves differ.
+// The wire that says whether the high halves differ.
 fn high_unequal_at(n: u32, low: u32, high: u32) -> u32
     requires { ⌜ n + unequalSpan (low + high) < writerLimit ⌝ }
     ensures { λ r. ⌜ r ≡ highUnequalAt n low high ⌝ }
@@ -39,7 +38,7 @@ fn high_unequal_at(n: u32, low: u32, high: u32) -> u32
 }
 
 impl Writer {
-    // Whether wire s or one of low + high wires from `first` on is 1.
+    // Whether wire s or one of low + high wires from `first` on is 1, by two chains side by side.
     fn any_of_halves(self, table: &mut [u32], s: u32, first: u32, low: u32, high: u32) -> Writer
         requires { ⌜ WordReady self (low + high) first (low + high) ⌝ }
         ensures { λ r. ⌜
@@ -57,8 +56,8 @@ impl Writer {
         upper.emit(table, kind::OR, end, chain_end(n, s, low), 0)
     }
 
-    // Which of two words is above: wires from f on say in which digits they differ, wire e that they do in the high
-    // half.
+    // Whether the word at x is above another that differs from it. The wires from f on say in which digits they
+    // differ, and wire e whether they differ in the high half.
     fn above_halves(self, table: &mut [u32], f: u32, x: u32, e: u32, low: u32, high: u32) -> Writer
         requires { ⌜ WordsReady self (low + high) f x (suc (low + high)) ⌝ }
         ensures { λ r. ⌜
@@ -88,7 +87,7 @@ impl Writer {
         differ.any_of_halves(table, n, n + 1, low, high)
     }
 
-    // Whether they differ, and, if they do, whether x is above y.
+    // Whether the words at x and y differ and, if they do, whether x is above y.
     pub fn compare_halves(self, table: &mut [u32], x: u32, y: u32, low: u32, high: u32) -> Writer
         requires { ⌜ WordsReady self (compareSpan (low + high)) x y (suc (low + high)) ⌝ }
         ensures { λ r. ⌜

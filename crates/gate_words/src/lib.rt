@@ -2,7 +2,7 @@
 // words, and nothing of shapes or juries.
 //
 // Each method of Writer writes the gates of one block of specs/ and returns the next writer. Its `requires` asks for
-// room in the table, and for operands that are wires already.
+// `Room`, which bounds what the writer counts and not the table, and for operands that are wires already.
 pub mod choice;
 pub mod comparison;
 pub mod halves;

@@ -1,4 +1,5 @@
-// The list writer [forms]: where the next gate goes, by value. A step takes one and returns the next.
+// The list writer [forms]: a value that says where the next gate goes. Each writing step takes one and returns the
+// next.
 use gates::kind;
 ghost use mathlib.Core.Path.{_≡_};
 ghost use mathlib.Core.Bool.{cond};
@@ -11,7 +12,7 @@ ghost use Rattle.gate_words.specs.Limits.{writerLimit};
 ghost use Rattle.gate_words.specs.Writing.{Room, Wrote};
 ghost use Rattle.gate_words.specs.Emitted.{emitted};
 
-// The gates written so far, the wire of the next gate, and how many of those gates are conditional.
+// The number of gates written so far, the wire of the next gate, and how many of the written gates are conditional.
 pub struct Writer {
     pub gate: usize,
     pub wire: u32,
@@ -54,8 +55,8 @@ impl Writer {
         }
     }
 
-    // Writes one gate if the table has room for it, and counts it in any case: writing into an empty table measures a
-    // list. Its kind says which operands it uses; the others are written as 0.
+    // Writes one gate if the table has room for it. Counts it even if not, so that writing into an empty table
+    // measures a list. Operands that the kind does not use are written as 0.
     pub fn emit(self, table: &mut [u32], kind: u32, a: u32, b: u32, c: u32) -> Writer
         requires { ⌜ Room self 1 ⌝ }
         ensures { λ r. ⌜ Wrote self (now (table .entry)) (emitted kind a b c ∷ []) (now (table .exit)) r ⌝ }

@@ -1,4 +1,4 @@
--- A list of good gates is accepted if it is neither too short nor too long; and what the test answers for a table
+-- A list of good gates is accepted if it is neither too short nor too long. Also what the test answers for a table
 -- that ends in part of a gate, or has too many gates.
 -- Assumes nothing.
 use mathlib.Core.Path.{_≡_, _∙_, refl, sym, ap, subst}

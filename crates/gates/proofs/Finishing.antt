@@ -1,4 +1,4 @@
--- The steps of an accepted evaluation leave the wires and the board that the definitions name.
+-- An accepted evaluation leaves the wires and the board that the definitions name.
 -- Assumes nothing.
 use mathlib.Core.Path.{_≡_, _∙_, sym, ap}
 use mathlib.Core.List.{List, [], _∷_, _++_, zipWith, append-nil}
@@ -39,8 +39,7 @@ module _ (i : ℕ) (t : List ℕ) (gates k : ℕ) (tape ws board : List ℕ) (e 
       let end : drop (i + gates) ws ≡ [] = drop-of-length-le ws {i = i + gates} (omega arith) in
       rw (add-zero i, end, whole-range t gates e) (append-nil (wiresOf (take i ws) (gatesOf t)))
 
-  -- the steps in order, each from what the one before left: the wire table, board and count of the step, and the
-  -- closed board
+  -- what the two calls leave, in order: wire table, board and count of the step, then the closed board
   module _ (enough : k ≤ gates) (good : firstBad i 0 (gatesOf t) ≡ Nowhere)
       (lt : length tape ≡ conditionalCount (gatesOf t)) (lb : length board ≡ conditionalCount (gatesOf t) + k) where
     count-range : conditionalCount (rangeOf t 0 gates) ≡ conditionalCount (gatesOf t)

@@ -18,7 +18,7 @@ pub and-right : (a b : Bool) → T (a && b) → T b
 and-right true b t = t
 and-right false b t = absurd t
 
--- an operand in use is below its gate's wire, and any operand is at most that wire
+-- any good operand is at most its gate's wire, and a used one is below it
 operand-most : (used : Bool) (own x : ℕ) → T (goodOperand used own x) → x ≤ own
 unfolding goodOperand
 operand-most true own x t = let h = ltb→lt x own t in omega arith

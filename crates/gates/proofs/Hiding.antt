@@ -48,7 +48,7 @@ zip-at f (x ∷ cs) [] i c m h l = absurd (omega arith)
 zip-at f (x ∷ cs) (y ∷ ms) zero c m h l = refl
 zip-at f (x ∷ cs) (y ∷ ms) (suc i) c m h l = zip-at f cs ms i c m (omega arith) (omega arith)
 
--- a board by its bytes
+-- the board of a list is a finished board
 pub board-finished : (ws : List ℕ) (gs : List Gate) (k : ℕ) (tape : List ℕ) → k ≤ length ws → length tape
     ≡ conditionalCount gs → Finished ws gs k tape (boardOf ws gs k tape)
 unfolding boardOf shownBits shownBit

@@ -1,4 +1,4 @@
--- What the layers above use of this one. They open none of its definitions.
+-- What the layers above use of this one. They unfold none of its definitions.
 -- Assumes nothing.
 use mathlib.Core.Path.{_≡_, _∙_, refl, sym, ap, subst}
 use mathlib.Core.Bool.{Bool, true, false, cond, _&&_}
@@ -125,7 +125,7 @@ pub good-append : (n : ℕ) (gs hs : List Gate) → AllGood n gs → AllGood (n 
 good-append n [] hs p q = subst (λ (m : ℕ). AllGood m hs) (add-zero n) q
 good-append n (g ∷ gs) hs p q = (p .0, good-append (suc n) gs hs (p .1) (subst (λ (m : ℕ). AllGood m hs) (omega arith) q))
 
--- the tester's word for it: no gate is bad
+-- the test finds no bad gate in such a list
 pub none-bad : (inputs g : ℕ) (gs : List Gate) → AllGood (inputs + g) gs → firstBad inputs g gs ≡ Nowhere
 unfolding firstBad
 none-bad inputs g [] p = refl

@@ -48,7 +48,7 @@ range-all-good inputs t from to e =
     good-take (inputs + from) (to - from) (drop from (gatesOf t))
     (good-drop inputs from (gatesOf t) (subst (λ (i : ℕ). AllGood i (gatesOf t)) (add-zero inputs) (all-good inputs 0 (gatesOf t) e)))
 
--- C of the first gates, and of the first gates with a range after them
+-- C of the first gates and C of the range after them add up
 pub count-range : (t : List ℕ) (from to : ℕ) → from ≤ to → conditionalCount (take from (gatesOf t))
     + conditionalCount (rangeOf t from to) ≡ conditionalCount (take to (gatesOf t))
 count-range t from to h = sym (count-append (take from (gatesOf t)) (rangeOf t from to)) ∙ ap conditionalCount (range-append t from to h)
@@ -103,8 +103,8 @@ shown-agree vs ws own (g ∷ gs) tape p same =
         rw (same (g .a) (omega arith), rest ms)
     go rest false e ms = rest ms
 
--- What a wire table and a board hold after the first m gates, where lw and lb are their old contents, and how many
--- bits are shown.
+-- The wire table, the board and the number of shown bits after the first m gates. lw and lb are what the table and
+-- the board held before.
 pub record Stands (inputs t tape lw lb : List ℕ) (m : ℕ) (ws board : List ℕ) (shown : ℕ) : Type 0 where
   pub wiresAre : ws ≡ wiresOf inputs (take m (gatesOf t)) ++ drop (length inputs + m) lw
   pub boardIs : board ≡ shownBits (wiresOf inputs (gatesOf t)) (take m (gatesOf t)) tape ++ drop (conditionalCount (take m (gatesOf t))) lb
@@ -183,7 +183,7 @@ module _ (inputs t : List ℕ) (k : ℕ) (tape lw lb : List ℕ) (run : RunReady
           inBoard = omega (arith, s .count, count-range t from to h, count-prefix (gatesOf t) to, board-long, run .boardLength);
         }
 
-    -- the wires after it
+    -- the wires after the step
     pub step-wires : stepWires (length inputs) t from to ws ≡ wiresOf inputs (take to (gatesOf t)) ++ drop (length inputs + to) lw
     unfolding stepWires made
     step-wires =
@@ -233,7 +233,7 @@ module _ (inputs t : List ℕ) (k : ℕ) (tape lw lb : List ℕ) (run : RunReady
         length-shown-bits (wiresOf inputs (gatesOf t)) (rangeOf t from to) (drop shown tape)
         (omega (arith, s .count, count-range t from to h, count-prefix (gatesOf t) to, run .tapeLength, length-drop shown tape))
 
-    -- the board after it
+    -- the board after the step
     pub step-board : stepBoard (length inputs) t from to tape shown ws board
         ≡ shownBits (wiresOf inputs (gatesOf t)) (take to (gatesOf t)) tape ++ drop (conditionalCount (take to (gatesOf t))) lb
     unfolding stepBoard first-bits range-bits
@@ -259,7 +259,7 @@ module _ (inputs t : List ℕ) (k : ℕ) (tape lw lb : List ℕ) (run : RunReady
         ∙ ap (λ (x : List ℕ). x ++ drop n board) joined
         ∙ ap (λ (x : List ℕ). shownBits (wiresOf inputs (gatesOf t)) (take to (gatesOf t)) tape ++ x) left
 
-    -- so the step leads from m gates to more
+    -- so after the step the first `to` gates are evaluated
     pub step-stands : (ws′ board′ : List ℕ) (shown′ : ℕ) → shown′ ≡ shown + conditionalCount (rangeOf t from to)
         → ws′ ≡ stepWires (length inputs) t from to ws
         → board′ ≡ stepBoard (length inputs) t from to tape shown ws board → Stands inputs t tape lw lb to ws′ board′ shown′

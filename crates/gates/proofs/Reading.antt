@@ -1,4 +1,4 @@
--- Tables and lists read gate by gate: what the layers above use. They open none of the gate layer's definitions.
+-- Tables and lists read gate by gate: what the layers above use. They unfold none of the gate layer's definitions.
 -- Assumes nothing.
 use mathlib.Core.Path.{_≡_, _∙_, refl, sym, ap}
 use mathlib.Core.Bool.{Bool, true, false, cond, _&&_}
@@ -90,7 +90,7 @@ good-by own g pos known u =
       below-by (ltb 2 n) own (g .c) pos (u .c-zero),
     )
 
--- all operands of a good gate are below its own wire, 0 being below any
+-- all operands of a good gate are below its own wire, unless that is wire 0: an unused operand is 0
 pub record Below (own : ℕ) (g : Gate) : Type 0 where
   pub a-below : g .a < own
   pub b-below : g .b < own

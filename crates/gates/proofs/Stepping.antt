@@ -1,4 +1,5 @@
--- One turn of the evaluating step: doing a gate and then the rest is doing all that was left.
+-- One turn of the evaluating step: evaluating a gate and then the rest leaves what evaluating all that was left
+-- would.
 -- Assumes nothing.
 use mathlib.Core.Path.{_≡_, _∙_, refl, sym, ap}
 use mathlib.Core.Bool.{Bool, true, false, cond, false≢true}
@@ -40,7 +41,7 @@ first-good inputs g x xs e = go (goodGate (inputs + g) x) e
     go true p = (tt, p)
     go false p = let z : _≡_ {A = ℕ} 0 1 = cc in absurd (omega arith)
 
--- the wires from gate g on, and after gate g is done
+-- storing gate g's wire and evaluating the rest leaves the same wires as evaluating from gate g on
 pub wires-turn : (inputs : ℕ) (t : List ℕ) (g to : ℕ) (ws : List ℕ) → g < to → to ≤ length (gatesOf t) → inputs + to
     ≤ length ws → T (goodGate (inputs + g) (gateAt t g))
     → stepWires inputs t (suc g) to (set ws (inputs + g) (value ws (gateAt t g))) ≡ stepWires inputs t g to ws
@@ -69,7 +70,7 @@ uses-a k h e =
     (λ p. absurd (false≢true p)) (λ p. absurd (false≢true p)) (λ p. omega arith) (λ p. omega arith)
     (λ p. omega arith) (λ p. omega arith) (λ p. omega arith) (λ p. omega arith) k h e
 
--- wires that are there already are in the final wire table
+-- the step does not change the wires before gate g's
 pub wires-stand : (inputs : ℕ) (t : List ℕ) (g to : ℕ) (ws : List ℕ) (i : ℕ) → inputs + g ≤ length ws → i < inputs
     + g → getD (stepWires inputs t g to ws) i 0 ≡ getD ws i 0
 unfolding stepWires
@@ -81,7 +82,7 @@ wires-stand inputs t g to ws i m h =
     ∙ wires-keep (take own ws) (rangeOf t g to) i (omega arith)
     ∙ getD-take own ws i 0 h
 
--- the board from gate g on, and after gate g; the shown bits are read from the final wires
+-- storing gate g's shown bit and then the rest leaves the same board; shown bits are read from the final wires
 pub board-turn : (final ws : List ℕ) (x : Gate) (xs : List Gate) (board tape : List ℕ) (next : ℕ)
     → (conditionalOf (x .kind) ≡ true → wire final (x .a) ≡ wire ws (x .a)) → next + conditionalCount (x ∷ []) ≤ length tape
     → sets (cond (conditionalOf (x .kind)) (set board next (shownBit ws x (getD tape next 0))) board) (next + conditionalCount (x ∷ []))
@@ -102,8 +103,8 @@ board-turn final ws x xs board tape next same room = go (conditionalOf (x .kind)
         let n : next + conditionalCount (x ∷ []) ≡ next = omega (arith, count-one x, ap (λ (b : Bool). cond {A = ℕ} b 1 0) e) in
         rw (n, e)
 
--- The step's invariant: gates g to `to` are left, and with what is there they make the wires, the board and the count
--- of the whole range.
+-- The step's invariant: gates g to `to` are left. Evaluating them from here gives the wires, the board and the
+-- count of the whole range.
 pub record Left (inputs : ℕ) (t : List ℕ) (to : ℕ) (tape : List ℕ) (wiresSize boardSize total : ℕ)
     (final finalBoard ws board : List ℕ) (next g : ℕ) : Type 0 where
   pub order : g ≤ to
@@ -147,7 +148,7 @@ module _ (inputs : ℕ) (t : List ℕ) (to : ℕ) (tape : List ℕ) (wiresSize b
         inBoard = omega (arith, count-of-left ws board next g left h, left .boardLength);
       }
 
-  -- what is left after it
+  -- after gate g, the gates from g + 1 on are left
   pub left-turn : (ws board : List ℕ) (next g : ℕ)
       → Left inputs t to tape wiresSize boardSize total final finalBoard ws board next g → g < to
       → Left inputs t to tape wiresSize boardSize total final finalBoard
@@ -181,14 +182,14 @@ module _ (inputs : ℕ) (t : List ℕ) (to : ℕ) (tape : List ℕ) (wiresSize b
       stand : (i : ℕ) → inputs + g ≤ length ws → i < inputs + g → wire final i ≡ wire ws i
       stand i room k = unfold wire in (sym (ap (λ (l : List ℕ). getD l i 0) (left .wiresLeft)) ∙ wires-stand inputs t g to ws i room k)
 
-  -- the same under other names
+  -- the invariant for equal tables, boards and numbers
   pub left-as : (ws ws′ board board′ : List ℕ) (next next′ g g′ : ℕ)
       → Left inputs t to tape wiresSize boardSize total final finalBoard ws board next g
       → ws′ ≡ ws → board′ ≡ board → next′ ≡ next → g′ ≡ g
       → Left inputs t to tape wiresSize boardSize total final finalBoard ws′ board′ next′ g′
   left-as ws ws′ board board′ next next′ g g′ left e f n h = rw (e, f, n, h) left
 
-  -- nothing is left
+  -- past the last gate nothing is left: count, wires and board are final
   pub left-end : (ws board : List ℕ) (next g : ℕ)
       → Left inputs t to tape wiresSize boardSize total final finalBoard ws board next g → to ≤ g
       → (next ≡ total) × (ws ≡ final) × (board ≡ finalBoard)

@@ -19,7 +19,7 @@ length-gates (k ∷ a ∷ []) = refl
 length-gates (k ∷ a ∷ b ∷ []) = refl
 length-gates (k ∷ a ∷ b ∷ c ∷ t) = omega (arith, length-gates t)
 
--- four numbers further on
+-- the first gate's four numbers shift the places of the others by four
 further : (k a b c : ℕ) (t : List ℕ) (i j : ℕ) → j ≡ i + 4 → getD (k ∷ a ∷ b ∷ c ∷ t) j 0 ≡ getD t i 0
 further k a b c t i j e = rw (e, add-four i)
 

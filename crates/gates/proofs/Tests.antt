@@ -14,6 +14,6 @@ eqb-iff a b c d to back = go (eqb a b) refl
     go true e = e ∙ sym (eq-eqb c d (to (eqb-true a b e)))
     go false e = e ∙ sym (ne-eqb c d (λ h. eqb-false a b e (back h)))
 
--- a sum is compared without being formed: its second part is compared with what the whole has beyond the first
+-- x is compared with a + b without forming the sum: b is compared with x - a
 pub rest-eqb : (x a b : ℕ) → a ≤ x → eqb (x - a) b ≡ eqb x (a + b)
 rest-eqb x a b l = eqb-iff (x - a) b x (a + b) (λ h. omega arith) (λ h. omega arith)

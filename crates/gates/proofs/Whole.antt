@@ -1,5 +1,5 @@
--- For a second evaluator of lists, above this layer: values and shown bits by the numbers in a wire table, and a step
--- over all gates as the wires and board of the whole list.
+-- For evaluators above this layer: values and shown bits by the numbers in a wire table, and a step over all gates
+-- as the wires and board of the whole list.
 -- Assumes nothing.
 use mathlib.Core.Path.{_≡_, _∙_, refl, ap}
 use mathlib.Core.List.{List, [], _++_, append-nil}
@@ -16,7 +16,7 @@ use Rattle.gates.specs.Open.Step.{rangeOf, stepWires, stepBoard, StepRea
 use Rattle.gates.proofs.Stepping.{Left}
 use Rattle.gates.proofs.Finishing.{length-shown, whole-range}
 
--- the value of a gate and its shown bit, by the numbers of the wires
+-- the value of a gate and its shown bit, by the numbers in the wire table
 pub value-is : (ws : List ℕ) (g : Gate) → value ws g ≡ valueOf (g .kind) (getD ws (g .a) 0) (getD ws (g .b) 0) (getD ws (g .c) 0)
 unfolding value wire
 value-is ws g = refl
@@ -46,7 +46,7 @@ left-start inputs t from to tape shown ws board r =
       boardLength = refl;
     }
 
--- a step over all gates of a list, from a wire table with its inputs in front
+-- a step over all gates of a list, from a wire table with the inputs in front
 module _ (i : ℕ) (t : List ℕ) (gates : ℕ) (ws : List ℕ) (e : gates ≡ length (gatesOf t)) (w : length ws ≡ i + gates) where
   pub whole-wires : stepWires i t 0 gates ws ≡ wiresOf (take i ws) (gatesOf t)
   unfolding stepWires

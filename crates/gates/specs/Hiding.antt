@@ -7,7 +7,7 @@ use Rattle.gates.specs.Open.Gate.{Gate}
 use Rattle.gates.specs.Open.Wires.{wire, wiresOf, outputsOf}
 use Rattle.gates.specs.Open.Board.{conditionals, conditionalCount, boardOf, MaskTape}
 
--- Something has this property, and whatever else has it is equal to it.
+-- Exactly one value has the property P: some x has it, and every y that has it equals x.
 abbrev pub ExactlyOne : {A : Type 0} → (A → Type 0) → Type 0
 ExactlyOne {A} P = (x : A) × P x × ((y : A) → P y → y ≡ x)
 
@@ -23,8 +23,8 @@ pub record Finished (ws : List ℕ) (gs : List Gate) (k : ℕ) (tape board : Lis
       → getD board i 0 ≡ (wire ws (conditionalGate gs i .a) + getD tape i 0) % 2
   pub closing : drop (conditionalCount gs) board ≡ outputsOf k ws
 
--- What two boards of one list show of its inputs xs and ys. Shown bits and outputs depend on the wires, and the wires
--- on inputs and list, never on a tape.
+-- The boards of one list do not tell its inputs xs and ys apart. The wires depend on the inputs and the list, never
+-- on a tape.
 pub record InputsHidden (gs : List Gate) (k : ℕ) (xs ys : List ℕ) : Type 0 where
   -- under every mask tape both boards are finished
   pub first-board : (s : List ℕ) → MaskTape gs s → Finished (wiresOf xs gs) gs k s (boardOf (wiresOf xs gs) gs k s)
@@ -33,7 +33,7 @@ pub record InputsHidden (gs : List Gate) (k : ℕ) (xs ys : List ℕ) : Type 0 w
   pub same-board : (s : List ℕ) → MaskTape gs s
       → ExactlyOne (λ (t : List ℕ). MaskTape gs t × (boardOf (wiresOf xs gs) gs k s ≡ boardOf (wiresOf ys gs) gs k t))
 
--- For any list of at least k gates, and any two inputs whose k outputs are equal.
+-- Demand 3, for any list of at least k gates and any two inputs whose k outputs are equal.
 abbrev pub BoardHidesInputs : Type 0
 BoardHidesInputs =
     (gs : List Gate) (k : ℕ) (xs ys : List ℕ) → k ≤ length gs

@@ -1,5 +1,5 @@
--- Demand 3 on one list: different inputs, equal outputs, two tapes, one board. The list has one gate, a conditional
--- one on wire 0 and wire 1.
+-- Demand 3 on one list: different inputs, equal outputs, two tapes, one board. The list is a single gate, the
+-- conjunction of wires 0 and 1.
 use mathlib.Core.Path.{_≡_, refl}
 use mathlib.Core.List.{List, [], _∷_, zipWith}
 use Prim.Native.Nat.{ℕ}
@@ -13,7 +13,7 @@ use Rattle.gates.specs.declared.list.ListCheck.the-variants.{Accepted}
 unfoldable pub oneGate : List ℕ
 oneGate = 4 ∷ 0 ∷ 1 ∷ 0 ∷ []
 
--- Its test for two inputs and one output.
+-- The list is accepted for two inputs and one output, with G = 1 and C = 1.
 pub one-gate-tested : tested 2 1 oneGate ≡ Accepted 1 1
 unfolding oneGate tested judged firstBad goodGate goodOperand conditionalCount conditionals gatesOf conditionalOf
     operandsOf
@@ -41,7 +41,7 @@ unfolding boardUnder oneGate boardOf shownBits shownBit conditionals outputsOf w
     conditionalOf zipWith
 other-tape = refl
 
--- The wires of both.
+-- The wires of both inputs. Wire 2 is the output, 0 each time.
 pub first-wires : wiresOf (1 ∷ 0 ∷ []) (gatesOf oneGate) ≡ 1 ∷ 0 ∷ 0 ∷ []
 unfolding oneGate wiresOf value wire gatesOf valueOf
 first-wires = refl

@@ -1,5 +1,5 @@
--- The definitions of the gate layer that can be opened. Only this crate names these modules. The others get the names
--- by plain `pub use`, and with them the laws in proofs/.
+-- The definitions of the gate layer. Only this crate names these modules and can unfold them. Other crates get the
+-- names by plain `pub use`, and use the laws in proofs/.
 pub mod Kind
 pub mod Gate
 pub mod Wires

@@ -19,7 +19,7 @@ pub const XOR: u32 = 6;
 
 pub const CHOICE: u32 = 7;
 
-// How many kinds there are. The next number is no kind.
+// How many kinds there are: 0 to 7.
 pub const KINDS: u32 = 8;
 
 // The number of operands of each kind.
@@ -28,13 +28,13 @@ pub const OPERANDS: [u32; 8] = [0, 0, 1, 1, 2, 2, 2, 3];
 // The conditional mark of each kind.
 pub const CONDITIONAL: [bool; 8] = [false, false, false, false, true, true, false, true];
 
-// What a gate comes to: a value, or a refusal, because no kind above 7 has a value.
+// The result of a gate: its value, or a refusal if its kind is above 7.
 pub enum GateValue {
     Value(u8),
     NoSuchKind,
 }
 
-// The number of operands that a kind uses. The caller lends the column, so that a loop lays it out only once.
+// The number of operands that a kind uses. The caller lends `OPERANDS`, so that a loop builds this array only once.
 pub fn operands(counts: &[u32; 8], kind: u32) -> u32
     requires { ⌜ now counts ≡ operandCounts ⌝ }
     ensures { λ r. ⌜ r ≡ operandsOf kind ⌝ }

@@ -1,4 +1,4 @@
-// The test of a gate list, whoever wrote it.
+// The test of a gate list, the own one or a stranger's.
 use crate::kind;
 use crate::kind::GateValue;
 ghost use mathlib.Core.Path.{_≡_};
@@ -27,7 +27,7 @@ pub enum ListCheck {
     BadGate(usize),
 }
 
-// Whether unused operands are good: each of them 0.
+// Whether these operands, which the kind does not use, are all 0.
 fn are_zero(a: u32, b: u32, c: u32) -> bool
     ensures { λ r. ⌜ r ≡ (eqb a 0 && eqb b 0 && eqb c 0) ⌝ }
 {
@@ -40,7 +40,8 @@ fn are_zero(a: u32, b: u32, c: u32) -> bool
     c == 0
 }
 
-// The bound on gate g's operands: its own wire, inputs + g. Where that sum could wrap, 2^32 bounds them as well.
+// The bound on gate g's operands: its own wire, inputs + g. From 2^32 inputs on that sum could wrap; 2^32 is then a
+// bound that accepts the same 32-bit operands.
 fn own_wire(inputs: usize, g: usize) -> usize
     requires { ⌜ g < tableGateLimit ⌝ }
     ensures { λ r. ⌜ ((x : ℕ) → x < operandLimit → ltb x r ≡ ltb x (inputs + g)) ⌝ }
@@ -88,7 +89,7 @@ fn gate_is_good(
     (c as usize) < own
 }
 
-// Tests the gates of a table one after another, and counts the conditional ones.
+// Tests the gates of a table in order, and counts the conditional ones.
 fn test_gates(inputs: usize, table: &[u32]) -> ListCheck
     ensures { λ r. ⌜
         r ≡ judged (firstBad inputs 0 (gatesOf (now (table .entry)))) (length (gatesOf (now (table .entry))))

@@ -1,4 +1,4 @@
-// Where a search found what it looked for.
+// The place at which a search found something.
 ghost use mathlib.Core.Path.{_≡_};
 ghost use Rattle.gates.specs.Test.{firstAboveOne};
 

@@ -1,4 +1,4 @@
-// Evaluation. Nothing here is an entry point: what a `requires` asks, the tests of this crate establish.
+// Evaluation. No function here is an entry point: the tests of this crate establish what each `requires` asks.
 use crate::kind;
 ghost use mathlib.Core.Path.{_≡_};
 ghost use mathlib.Core.List.{_++_};
@@ -9,7 +9,7 @@ ghost use Rattle.gates.specs.inner.Marked.{Marked};
 ghost use Rattle.gates.specs.inner.Step.{StepReady, FinishReady, RunReady};
 ghost use Rattle.gates.specs.inner.Step.{GateReady, GateRan, Stepped, CloseReady, Evaluated};
 
-// A bit under its mask: their sum modulo 2. The sum of two bits cannot wrap.
+// A bit under its mask: their sum modulo 2. Both are reduced first, so the sum cannot wrap.
 fn masked(a: u8, m: u8) -> u8
     ensures { λ r. ⌜ r ≡ (a + m) % 2 ⌝ }
 {
@@ -17,7 +17,7 @@ fn masked(a: u8, m: u8) -> u8
 }
 
 // Evaluates gate g of the table: stores its value in wire `own` and, if it is conditional, its shown bit on the
-// board. Answers the number of shown bits after it.
+// board. Returns the number of shown bits after this gate.
 fn run_gate(
     marks: &[bool; 8],
     table: &[u32],
@@ -51,7 +51,7 @@ fn run_gate(
 }
 
 // Evaluates gates from..to of a list. The inputs and the wires of the gates before `from` are in the table already.
-// `shown` is the number of shown bits before this range; the answer is their number after it.
+// `shown` is the number of shown bits before this range; the result is their number after it.
 pub fn step(
     inputs: usize,
     table: &[u32],
@@ -78,7 +78,7 @@ pub fn step(
     next
 }
 
-// Puts the outputs after the shown bits.
+// Copies the outputs, which are the last wires, to the board after the shown bits.
 pub fn close(outputs: usize, wires: &[u8], shown: usize, board: &mut [u8])
     requires { ⌜ CloseReady outputs shown (now wires) (now board) ⌝ }
     ensures { λ _. ⌜ now (board .exit) ≡ take shown (now (board .entry)) ++ outputsOf outputs (now (wires .entry)) ⌝ }
@@ -87,8 +87,8 @@ pub fn close(outputs: usize, wires: &[u8], shown: usize, board: &mut [u8])
     bytes::copy(&wires[first..], &mut board[shown..]);
 }
 
-// Evaluates a list whose inputs are at the front of the wire table already: all gates, then the outputs at the end of
-// the board.
+// Evaluates a list whose inputs are already at the front of the wire table: all gates, then the outputs at the end
+// of the board.
 pub fn finish(
     inputs: usize,
     table: &[u32],
@@ -107,7 +107,7 @@ pub fn finish(
     close(outputs, wires, shown, board);
 }
 
-// Evaluates a whole list: copies the inputs to the front of the wire table and does the rest there.
+// Evaluates a whole list: copies the inputs to the front of the wire table, then calls `finish`.
 pub fn run(
     inputs: &[u8],
     table: &[u32],

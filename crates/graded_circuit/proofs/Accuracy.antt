@@ -44,7 +44,7 @@ use Rattle.graded_circuit.proofs.RuleLaws.{Row, upTo, row-sums, same-se
 use Rattle.graded_circuit.proofs.Columns.{column, one-grade}
 use Rattle.basics.proofs.Flags.{never-true}
 
--- wires of the circuit, for candidates with these rows of counts
+-- the wires of the circuit, for candidates with these rows of counts
 module _ (W : ℕ → ℕ) (b : Binary W) (p : Plan) (f : Planned p) (two : 1 < p .candidates) (h : Holds W (p .inputs) (circuit p))
     (rows : List (List ℕ)) (long : length rows ≡ p .candidates)
     (row-is : (c : ℕ) → c < p .candidates → Row (p .ballots) (p .grades) (getD rows c []))
@@ -53,7 +53,7 @@ module _ (W : ℕ → ℕ) (b : Binary W) (p : Plan) (f : Planned p) (two : 1 < 
   some : 0 < p .grades
   some = omega (arith, f .d-least)
 
-  -- the best candidate, and how all compare with it
+  -- the best candidate, and how each candidate compares with it
   pub record Judged : Type 0 where
     pub best : ℕ
     pub inside : best < p .candidates
@@ -67,7 +67,7 @@ module _ (W : ℕ → ℕ) (b : Binary W) (p : Plan) (f : Planned p) (two : 1 < 
   sums : (c : ℕ) → c < p .candidates → Sums (p .ballots) (p .grades) (upTo (getD rows c [])) (medianOf (getD rows c []))
   sums c l = row-sums (p .ballots) (p .grades) (getD rows c []) some (row-is c l)
 
-  -- the bits of a grade are what it adds to the sum
+  -- the number of ones among a grade's bits is what the grade adds to the sum
   first-count : (c : ℕ) → c < p .candidates → onesAt W (bitsAt p c 0) (ballotStride p) (p .ballots) ≡ upTo (getD rows c []) 0
   first-count c l = omega (arith, counted c 0 l some, running-next (getD rows c []) 0, running-start (getD rows c []))
 
@@ -122,7 +122,7 @@ module _ (W : ℕ → ℕ) (b : Binary W) (p : Plan) (f : Planned p) (two : 1 < 
       z .0 ∙ sym (byte-zero rows i (omega arith) (j .best) (omega (arith, j .inside)) (z .1)))
       (j .as-good i l)
 
--- a single candidate, and two or more
+-- the own list of a single candidate, and of two or more
 pub own-single : (s : Shape) → s .candidates ≡ 1 → ownGrading s ≡ constant 1 ∷ []
 unfolding ownGrading
 own-single s e = ap (λ (t : Bool). cond t (constant 1 ∷ []) (circuit (planOf s))) (eq-eqb (s .candidates) 1 e)
@@ -161,7 +161,7 @@ own s e = ⊎-elim many one (below-or-not 1 (s .candidates))
               omega (arith, ap length (own-circuit s l), enough-gates (planOf s) (planned s e) l);
         }
 
--- last wires that are the closing bytes, one by one
+-- the last wires are the closing bytes if each of them is
 closing-from : (s : Shape) (xs : List ℕ) (gs : List Gate) → s .candidates ≤ length gs
     → ((i : ℕ) → i < s .candidates → wire (wiresOf xs gs) (length xs + length gs - s .candidates + i)
     ≡ getD (judgmentOf (countsOf s xs)) i 0)

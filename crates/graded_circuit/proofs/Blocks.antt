@@ -1,5 +1,4 @@
--- Blocks one after the other: their lengths add up, and their operands point back if those of each do from its own
--- place.
+-- Blocks one after the other: their lengths add up, and they are well-formed if each is from its own wire on.
 -- Assumes nothing.
 use mathlib.Core.Path.{_≡_, _∙_, refl, ap, sym, subst}
 use mathlib.Core.List.{List, [], _∷_, _++_}
@@ -24,7 +23,7 @@ use Rattle.gate_words.proofs.RowLaws.{length-rows, rows-good}
 use Rattle.gate_words.proofs.CounterSteps.{length-count, length-digits}
 use Rattle.gate_words.proofs.PointsBack.{choose-good, chain-good, count-levels-good, count-digits-good}
 
--- a block of m gates, well-formed if its first gate is wire n
+-- a block of m gates that is well-formed if its first gate is wire n
 pub record Block (n : ℕ) (gs : List Gate) (m : ℕ) : Type 0 where
   pub long : length gs ≡ m
   pub good : AllGood n gs
@@ -46,7 +45,7 @@ sized {n} {l} {m} {gs} e a = subst (Block n gs) e a
 pub gate-block : {n m : ℕ} {g : Gate} {gs : List Gate} → T (goodGate n g) → Block (suc n) gs m → Block n (g ∷ gs) (suc m)
 gate-block {n} {m} {g} {gs} t a = record { long = ap suc (a .long); good = (t, a .good) }
 
--- a block from the same wire, written differently
+-- the same block, with its first wire written differently
 pub from-wire : {n k m : ℕ} {gs : List Gate} → n ≡ k → Block n gs m → Block k gs m
 from-wire {n} {k} {m} {gs} e a = subst (λ (i : ℕ). Block i gs m) e a
 

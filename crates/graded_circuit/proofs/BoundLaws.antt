@@ -34,14 +34,14 @@ pub ones-span-most : (m w : ℕ) → onesSpan m w ≤ 4 * m + 3 * w + 1
 ones-span-most m w = omega (arith, ones-span m w, later-span-most (m / 2) w)
 
 module _ (p : Plan) (f : Planned p) where
-  -- the width, and the product of the number of ballots and the width
+  -- the width w, and the product of the number of ballots and w
   w : ℕ
   w = suc (p .digits)
 
   nw : ℕ
   nw = p .ballots * suc (p .digits)
 
-  -- what the levels of a sum may take, and a grade's share in the bound
+  -- a bound for the levels of a sum, and a grade's share in the bound
   levels : ℕ
   levels = p .digits * (2 * p .ballots + 2)
 
@@ -56,12 +56,12 @@ module _ (p : Plan) (f : Planned p) where
   unfolding levels
   worst-most = count-size-most (p .ballots) (p .worst) (p .digits) (p .ballots) (omega arith) (f .n-least)
 
-  -- a row, its levels and a word of the key
+  -- a row, its levels and a word of the key take at most a grade's share
   small : p .ballots + levels + wordSpan p ≤ share
   unfolding levels share nw w
   small = omega (arith, levels-product (p .digits) (p .ballots))
 
-  -- no more for each grade
+  -- a candidate's circuit takes at most one share for each grade
   candidate-most : candidateSpan p ≤ p .grades * share
   candidate-most =
       let t = p .grades - 2 in
@@ -100,7 +100,7 @@ module _ (p : Plan) (f : Planned p) where
           let high : 2 ^ 3 ≤ 2 ^ p .places = pow-mono {i = 3} {j = p .places} three in
           omega (arith, f .median-low, f .d-most)
 
-  -- below the medians, for at most six sums
+  -- the comparison of the sums, for at most six sums
   tie-break-below-most : (digits t : ℕ) → t ≤ 5 → tieBreakBelowSpan digits t ≤ 36 * digits + 46
   unfolding tieBreakBelowSpan
   tie-break-below-most zero t h = omega arith
@@ -119,7 +119,7 @@ module _ (p : Plan) (f : Planned p) where
   key-most = let few : p .grades - 1 ≤ 6 = omega (arith, f .d-most) in
       omega (arith, mul-le-mul-right {m = p .grades - 1} {n = 6} (wordSpan p) few)
 
-  -- a merge of at most eight candidates, with the key that is kept
+  -- a bound for a merge of at most eight candidates and the key that it keeps
   merge : ℕ
   merge = 42 * w + 100
 
@@ -177,7 +177,7 @@ module _ (p : Plan) (f : Planned p) where
         add-mul h (k - h) merge,
       )
 
-  -- the bound's products, put together from a candidate's share
+  -- the products of the bound, from the shares of all candidates
   shares : p .candidates * (p .grades * share) ≡ 2 * p .candidates * p .grades * p .ballots * w + p .candidates * p .grades * (30 * w + 20)
   unfolding share nw w
   shares =
@@ -194,7 +194,7 @@ module _ (p : Plan) (f : Planned p) where
       ∙ sym (mul-assoc (2 * k * d) n v) in
       assoc ∙ split ∙ ap (λ (x : ℕ). x + k * d * (30 * v + 20)) first
 
-  -- what request 2.1 adds is more than the merges take
+  -- the merges take less than request 2.1 adds to the bound
   meets : p .candidates * merge ≤ p .candidates * p .grades * (400 * w + 400)
   unfolding merge w
   meets =
@@ -209,7 +209,7 @@ module _ (p : Plan) (f : Planned p) where
   unfolding boundOf w
   gates-most two = omega (arith, all-most two, shares, meets)
 
-  -- all of it in plain numbers
+  -- the whole circuit, bounded by plain numbers
   nw-small : nw ≤ 2040
   unfolding nw
   nw-small =
@@ -232,7 +232,7 @@ module _ (p : Plan) (f : Planned p) where
       let met : p .candidates * merge ≤ 8 * 500 = mul-le-mul (f .k-most) merge-small in
       omega (arith, all-most two)
 
-  -- and its parts
+  -- its parts, bounded by plain numbers
   pub candidate-small : candidateSpan p ≤ 35000
   candidate-small =
       let each : p .grades * share ≤ 7 * 5000 = mul-le-mul (f .d-most) share-small in

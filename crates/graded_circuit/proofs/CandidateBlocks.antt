@@ -1,4 +1,4 @@
--- A candidate's circuit is well-formed, and its length says where each part is.
+-- A candidate's circuit is well-formed, and its length says where each part starts.
 -- Assumes nothing.
 use mathlib.Core.Path.{_≡_, refl, sym, ap}
 use Prim.Native.Nat.{ℕ, zero, suc, _+_, _-_, _*_, _≤_, _<_}
@@ -23,7 +23,7 @@ pub key-of : (p : Plan) (n : ℕ) → keyOf p n + keySpan p ≡ n + candidateSpa
 unfolding candidateSpan
 key-of p n = omega arith
 
--- as many rows are written before wire m as the sums of the grades before grade t count
+-- the rows of all grades below t end before wire m
 abbrev pub RowsBefore : Plan → ℕ → ℕ → ℕ → Type 0
 RowsBefore p n m t = (g : ℕ) → g < t → n + g * p .ballots ≤ m
 
@@ -34,7 +34,7 @@ module _ (p : Plan) (f : Planned p) where
   some-grades : 0 < p .grades
   some-grades = omega (arith, f .d-least)
 
-  -- what the sum of a grade counts exists once its row does
+  -- the bits that the sum of a grade counts are wires once its row is written
   pub counted-below : (n m c g : ℕ) → p .inputs ≤ n → c < p .candidates → n + g * p .ballots ≤ m
       → Below m (rowAt p n c g) (rowStride p g) (p .ballots)
   unfolding rowAt rowStride

@@ -39,7 +39,7 @@ module _ (p : Plan) (f : Planned p) (two : 1 < p .candidates) where
       (omega arith) (omega arith) (omega arith))) (omega arith)
       (halves-merge-block p f lowLevels (levelsAt p) 0 k (omega arith) two (omega arith) (omega arith))
 
-  -- the last k wires
+  -- the first of the last k wires
   pub wonFrom : ℕ
   wonFrom = wonAt p (mergeAt p lowLevels (levelsAt p) (p .candidates))
 

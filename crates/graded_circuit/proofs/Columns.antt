@@ -1,4 +1,4 @@
--- The bits of a grade are the ones of its column, and a ballot has one of them for each candidate.
+-- The bits of a grade add up to its count. Of a candidate's bits in one ballot, exactly one is 1.
 -- Assumes nothing.
 use mathlib.Core.Path.{_≡_, _∙_, sym, ap}
 use mathlib.Core.List.{List}

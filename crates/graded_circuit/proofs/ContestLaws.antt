@@ -1,4 +1,4 @@
--- A contest of two keys is well-formed, and says which comes first.
+-- A contest of two keys is well-formed, and says which key comes first.
 -- Assumes nothing.
 use mathlib.Core.Path.{_≡_, _∙_, refl, sym, ap, subst}
 use mathlib.Core.Logic.{_⊎_, inl, inr, ⊎-elim}
@@ -34,14 +34,14 @@ use Rattle.gate_words.proofs.PointsBack.{good-copy}
 use Rattle.gate_words.proofs.PointsBack.{good-or}
 use Rattle.gate_words.proofs.PointsBack.{good-mux}
 
--- a key of t + 2 words ends where words of a stride end
+-- a key of t + 2 words, by the distance between its words
 strided : (x t r m : ℕ) → x + suc (suc t) * (suc r + 1) ≤ m → x + suc (suc t) * stride r ≤ m
 strided x t r m h = let e : suc r + 1 ≡ stride r = omega arith in subst (λ (k : ℕ). x + suc (suc t) * k ≤ m) e h
 
 single : (x r m : ℕ) → x + suc zero * (suc r + 1) ≤ m → x + suc r ≤ m
 single x r m h = omega (arith, suc-mul 0 (suc r + 1), zero-mul (suc r + 1))
 
--- a high half leaves a digit for the low one
+-- the high half leaves a digit for the low half
 abbrev pub Leaves : ℕ → ℕ → Type 0
 Leaves digits h = h ≤ digits - 1
 
@@ -72,15 +72,15 @@ module _ (p : Plan) (f : Planned p) where
   pub key-words : (x m : ℕ) → x + keySpan p ≤ m → x + suc (p .grades - 2) * (p .digits + 1) ≤ m
   key-words x m h = subst (λ (k : ℕ). x + k * (p .digits + 1) ≤ m) grades-are h
 
-  -- the last wire of a key
+  -- the flags of a key end with the key
   pub flags-end : (x m : ℕ) → x + keySpan p ≤ m → x + p .digits + (p .grades - 1) * wordSpan p < m + wordSpan p
   flags-end x m h = omega arith
 
-  -- the number of a median grade fits its digits
+  -- the number of a median grade needs `places` + 1 digits
   pub grade-fits : Fits (p .grades - 1) (suc (p .places))
   grade-fits = record { enough = f .median-high; needed = omega (arith, f .median-low, pow-succ' 2 (p .places)) }
 
-  -- a key is not empty
+  -- a key has at least one word
   pub key-some : wordSpan p ≤ keySpan p
   key-some = omega (arith, ap (λ (k : ℕ). k * wordSpan p) grades-are, suc-mul (p .grades - 2) (wordSpan p))
 
@@ -103,7 +103,7 @@ module _ (p : Plan) (f : Planned p) where
       (key-words x l (omega arith)) (key-words y l (omega arith))))
 
   module _ (W : ℕ → ℕ) (b : Binary W) where
-    -- the wires that say which grades the median is worse than
+    -- the flags that say which grades the median is worse than: exactly the first ones are 1
     unary : (x median : ℕ) (S : ℕ → ℕ) → Sums (p .ballots) (p .grades) S median → Spells W b p f x S
         → Unary W (x + p .digits) (wordSpan p) (p .grades - 1) median
     unary x median S s k =
@@ -116,13 +116,13 @@ module _ (p : Plan) (f : Planned p) where
         place : (i : ℕ) → x + p .digits + i * wordSpan p ≡ x + i * wordSpan p + p .digits
         place i = omega arith
 
-    -- a key has its words
+    -- a key ends before wire n, by the distance between its words
     key-bound : (r t n : ℕ) → p .digits ≡ suc r → p .grades - 2 ≡ suc t → (i : ℕ) → i + keySpan p ≤ n → i + suc (suc t) * stride r ≤ n
     key-bound r t n e z i l =
         let many : suc (suc t) ≡ p .grades - 1 = omega (arith, grades-are) in
         strided i t r n (subst (λ (j : ℕ). i + suc (suc t) * (j + 1) ≤ n) e (subst (λ (j : ℕ). i + j * (p .digits + 1) ≤ n) (sym many) l))
 
-    -- keys whose medians differ: they decide
+    -- if the medians differ, they decide
     tie-break-below-medians : (x y digits t n k e s : ℕ) → Leaves digits k → p .digits ≡ digits → p .grades - 2 ≡ t
         → x + keySpan p ≤ n → y + keySpan p ≤ n → W e ≡ 1 → Holds W n (tieBreakBelow p n x y e s digits k t)
         → (W (n + tieBreakBelowSpan digits t) ≡ 1) × (W (n + tieBreakBelowSpan digits t + 1) ≡ W s)
@@ -153,7 +153,7 @@ module _ (p : Plan) (f : Planned p) where
     module _ (A C : ℕ → ℕ) (x y : ℕ) (kx : Spells W b p f x A) (ky : Spells W b p f y C) where
       -- keys with equal medians
       module _ (median : ℕ) (a : Sums (p .ballots) (p .grades) A median) (c : Sums (p .ballots) (p .grades) C median) where
-        -- one ballot: its grade is the median
+        -- a single ballot: its grade is the median
         one-ballot : p .digits ≡ 0 → (g : ℕ) → A g ≡ C g
         one-ballot e g =
             let one : p .ballots ≡ 1 = omega (arith, f .n-least, f .high, ap (λ (k : ℕ). 2 ^ suc k) e) in

@@ -1,4 +1,4 @@
--- The wires of a row of blocks: those of each block, from its own place on.
+-- The wires of several blocks one after the other: those of each block, from its own place on.
 -- Assumes nothing.
 use mathlib.Core.Path.{_≡_, subst}
 use mathlib.Core.List.{List, _++_}

@@ -57,13 +57,13 @@ module _ (p : Plan) (r m : ℕ) where
     unfolding levels
     levels-more h = rw (lt-leb m 1 h)
 
--- a half has half as many
+-- each half has at least one candidate, and few enough for one level less
 halves : (r m : ℕ) → 1 < m → m ≤ 2 ^ suc r → (0 < m / 2) × (m / 2 ≤ 2 ^ r) × (0 < m - m / 2) × (m - m / 2 ≤ 2 ^ r)
     × (m / 2 + (m - m / 2) ≡ m)
 halves r m l h = let e = pow-succ' 2 r in (omega arith, omega arith, omega arith, omega arith, omega arith)
 
 module _ (p : Plan) (f : Planned p) where
-  -- the candidates' keys come before the levels
+  -- the candidates' keys are before the levels
   pub key-before : (c : ℕ) → c < p .candidates → keyAt p c + keySpan p ≤ levelsAt p
   key-before c h =
       omega (
@@ -81,7 +81,7 @@ module _ (p : Plan) (f : Planned p) where
       (both-block (candidate-block p f n c h (omega arith)) refl
       (candidates-block (n + candidateSpan p) (c + 1) m (omega arith) (omega arith)))
 
-  -- where the key of a group and its wires end
+  -- the key of a group, and its wires, end before what comes next
   pub key-place : (r n c m : ℕ) → levelsAt p ≤ n → 0 < m → c + m ≤ p .candidates → bestKey p r n c m + keySpan p ≤ n + levelsSpan p r m
   key-place zero n c m h hm hc = unfold bestKey levelsSpan in (omega (arith, key-before c (omega arith)))
   key-place (suc r) n c m h hm hc = ⊎-elim
@@ -176,7 +176,7 @@ module _ (p : Plan) (f : Planned p) (S : ℕ → ℕ → ℕ) (Before : ℕ → 
         );
       }
 
-  -- two halves that are known are merged
+  -- merging two halves whose bests are known
   pub halves-law : (r n c m : ℕ) → levelsAt p ≤ n → 1 < m → m ≤ 2 ^ suc r → c + m ≤ p .candidates
       → Group p f S Before rule W b c (m / 2) (bestKey p r n c (m / 2)) (winnerFlags p r n (m / 2))
       → Group p f S Before rule W b (c + m / 2) (m - m / 2) (bestKey p r (otherAt p r n m) (c + m / 2) (m - m / 2))

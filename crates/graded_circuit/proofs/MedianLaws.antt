@@ -1,4 +1,4 @@
--- Which of two median grades is worse: the numbers of ones among wires of which just the first ones are 1, compared.
+-- Which of two median grades is worse: compares the numbers of ones in two rows of wires whose ones come first.
 -- Assumes nothing.
 use mathlib.Core.Path.{_≡_, _∙_, refl, ap, subst, subst₂}
 use mathlib.Core.Logic.{⊎-elim}
@@ -24,7 +24,7 @@ use Rattle.basics.proofs.Arithmetic.{next-place}
 use Rattle.basics.proofs.Cases.{below-or-not}
 use Rattle.gate_words.proofs.CounterSteps.{below-stride}
 
--- so do every second of them with one digit less
+-- every second wire needs one digit less
 pub fits-half : (m w : ℕ) → Fits m (suc w) → Fits (m / 2) w
 fits-half m w f = let e = pow-succ' 2 w in record { enough = omega (arith, f .enough); needed = omega (arith, f .needed) }
 
@@ -35,14 +35,14 @@ fits-some m w f = omega (arith, f .needed, pow-succ' 2 w, positive w)
     positive zero = omega arith
     positive (suc w) = omega (arith, positive w, pow-succ' 2 w)
 
--- the last of every second wire is no further than the last
+-- the last of every second wire is no later than the last wire
 pub half-apart : (m d : ℕ) → m / 2 * (d + d) ≤ m * d
 half-apart m d =
     let k = m / 2 in
     let whole : m ≡ k + k + m % 2 = omega arith in
     omega (arith, ap (λ (x : ℕ). x * d) whole, add-mul (k + k) (m % 2) d, add-mul k k d, mul-add k d d)
 
--- the first of some wires, and the others
+-- the first of m wires is below n, and so are the others
 pub first-of : (at d m n : ℕ) → 0 < m → at + m * d < n + d → (at < n) × (at + d + (m - 1) * d < n + d)
 first-of at d m n some h =
     let one : m ≡ suc (m - 1) = omega arith in
@@ -84,7 +84,7 @@ length-later n x y d m e s (suc w) =
       length-later (q + 3) (x + d) (y + d) (d + d) (m / 2) (q + 1) (q + 2) w,
     )
 
--- both digits are there once their sums are
+-- the wires of both digits are below the wire of their difference
 pub left-below : (n x d m : ℕ) → 0 < m → x + m * d < n + d → leftDigit n x m < differAt n m
 left-below n x d m some h = chain-below n x (m - 1) (differAt n m) (omega (arith, first-of x d m n some h .0)) (omega arith)
 
@@ -134,7 +134,7 @@ ones-block n x y d m w f hx hy =
     (later-block (q + 1) (x + d) (y + d) (d + d) (m / 2) q (leftDigit n x m) w (fits-half m w f) (omega arith)
     (omega (arith, left-below n x d m some hx)) (omega (arith, half-apart m d)) (omega (arith, half-apart m d)))
 
--- the wires that say it are there
+-- the wires of the result are below the end of the block
 pub differ-below : (end e w : ℕ) → e < end → differEnd end e w < end
 unfolding differEnd
 differ-below end e zero h = h
@@ -145,7 +145,7 @@ unfolding largerEnd
 larger-below end s zero h = h
 larger-below end s (suc w) h = omega arith
 
--- one digit more, and the digits above it: the same end
+-- the block ends where the digits after its first one end
 later-more : (n m w : ℕ) → n + laterSpan m (suc w) ≡ differAt n m + 3 + laterSpan (m / 2) w
 unfolding laterSpan
 later-more n m w = omega arith
@@ -189,7 +189,7 @@ ones-unary W at d (suc m) most u =
     go zero u here r = omega (arith, ones-more W at d m, ap W here, u .rest 0 (omega arith) (omega arith))
     go (suc most) u here r = omega (arith, ones-more W at d m, ap W here, u .first 0 (omega arith))
 
--- of every second wire
+-- if exactly the first wires are 1, so are exactly the first of every second wire
 unary-half : (W : ℕ → ℕ) (at d m most : ℕ) → Unary W at d m most → Unary W (at + d) (d + d) (m / 2) (most / 2)
 unary-half W at d m most u =
     record {
@@ -209,7 +209,7 @@ module _ (W : ℕ → ℕ) (b : Binary W) where
       let all = ap (onesAt W at d) one ∙ ones-more W at d (m - 1) in
       omega (arith, parity-law W b n at (at + d) d (m - 1) h, ones-unary W at d m most u)
 
-  -- what the sums modulo 2 say
+  -- what the sums modulo 2 are
   difference-law : (n x y d m i j : ℕ) → 0 < m → Unary W x d m i → Unary W y d m j
       → Holds W n (digitDifference n x y d m) → (W (leftDigit n x m) ≡ i % 2) × (W (differAt n m) ≡ (i % 2 + j % 2) % 2)
   unfolding digitDifference
@@ -229,13 +229,13 @@ module _ (W : ℕ → ℕ) (b : Binary W) where
         ),
       )
 
-  -- wires e′ and s′ tell of the numbers i and j, where they are equal, what e and s do
+  -- Wires e′ and s′ compare i and j; if these are equal, they repeat what wires e and s say about lower digits.
   pub record Above (i j e s e′ s′ : ℕ) : Type 0 where
     pub same : i ≡ j → (W e′ ≡ W e) × (W s′ ≡ W s)
     pub over : j < i → (W e′ ≡ 1) × (W s′ ≡ 1)
     pub under : i < j → (W e′ ≡ 1) × (W s′ ≡ 0)
 
-  -- the digits above, and what wires q + 1 and q + 2 say of the digits so far
+  -- one digit, whose results are wires q + 1 and q + 2, and the digits above it
   one-more : (i j e s q left e′ s′ : ℕ) → W q ≡ (i % 2 + j % 2) % 2 → W left ≡ i % 2 → W (q + 1) ≡ max (W e) (W q)
       → W (q + 2) ≡ valueOn W (muxOf q left s)
       → Above (i / 2) (j / 2) (q + 1) (q + 2) e′ s′ → Above i j e s e′ s′
@@ -291,7 +291,7 @@ module _ (W : ℕ → ℕ) (b : Binary W) where
       (larger-next q (n + laterSpan m (suc w)) s w (m / 2) (later-more n m w))
       (one-more i j e s q left (differEnd end (q + 1) w) (largerEnd end (q + 2) w) (digits .1) (digits .0) (a ∙ or-is W b e q) g rest)
 
-  -- wires e and s tell of two numbers: whether they differ, and, where they do, that the first one is larger
+  -- Wires e and s compare two numbers: whether they differ and, if they do, whether the first one is larger.
   pub record Compared (i j e s : ℕ) : Type 0 where
     pub same : i ≡ j → W e ≡ 0
     pub over : j < i → (W e ≡ 1) × (W s ≡ 1)

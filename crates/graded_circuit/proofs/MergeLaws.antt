@@ -1,4 +1,4 @@
--- Two groups of candidates are merged: who is best of both, and who is as good as that.
+-- Merging two groups of candidates: who is the best of both, and who is as good.
 -- Assumes nothing.
 use mathlib.Core.Path.{_≡_, _∙_, refl, sym, ap, subst}
 use mathlib.Core.Logic.{_⊎_, inl, inr, ⊎-elim}
@@ -77,7 +77,7 @@ module _ (p : Plan) (f : Planned p) where
   unfolding betterKey
   better-block at n x y h hx hy = choose-block at (resultAt p n + 1) x y (keySpan p) h hx hy
 
--- the wire of candidate i of a group of m: a single candidate has none, and is the best of its group
+-- the wire of candidate i of a group of m; a single candidate has no wire and is the best of its group
 unfoldable pub wonBit : (ℕ → ℕ) → ℕ → ℕ → ℕ → ℕ
 wonBit W at zero i = 1
 wonBit W at (suc zero) i = 1
@@ -112,7 +112,7 @@ module _ (W : ℕ → ℕ) (b : Binary W) where
   keep-winners-law n at stays (suc zero) (suc i) l h = absurd (omega arith)
   keep-winners-law n at stays (suc (suc m)) i l h = and-all-law n at stays (suc (suc m)) i l h
 
-  -- what follows a contest: x first, y first, x's group stays, y's group stays
+  -- what follows a contest: x is better, y is better, x's group stays, y's group stays
   select-flags-law : (q : ℕ) → Holds W (q + 2) (selectFlags q)
       → (W (q + 2) ≡ min (W q) (W (q + 1))) × (W (q + 3) ≡ (W q + W (q + 2)) % 2) × (W (q + 4) ≡ 1 - W (q + 3))
       × (W (q + 5) ≡ 1 - W (q + 2))
@@ -193,12 +193,12 @@ module _ (W : ℕ → ℕ) (b : Binary W) where
     unfolding betterKey
     better-zero at n x y S h e k = copied-key y at S (λ i l. chosen-zero at (resultAt p n + 1) x y (keySpan p) i l e h) k
 
--- the same sums for all of d grades
+-- candidates i and j have the same sums for all d grades
 abbrev pub Same : ℕ → (ℕ → ℕ → ℕ) → ℕ → ℕ → Type 0
 Same d S i j = (g : ℕ) → g < d → S i g ≡ S j g
 
--- What the circuit needs: an order of k candidates with sums S of n grades. If some grade decides for i against j, i
--- comes before j.
+-- What the circuit needs of a rule: an order of k candidates with sums S of n ballots. If some grade decides for i
+-- against j, i comes before j.
 pub record Rule (n d k : ℕ) (S : ℕ → ℕ → ℕ) (Before : ℕ → ℕ → Type 0) : Type 0 where
   pub ahead : (i j : ℕ) → i < k → j < k → Ahead n d (S i) (S j) → Before i j
   pub chained : (h i j : ℕ) → h < k → i < k → j < k → Before h i → Before i j → Before h j
@@ -207,11 +207,11 @@ pub record Rule (n d k : ℕ) (S : ℕ → ℕ → ℕ) (Before : ℕ → ℕ �
 
 module _ (p : Plan) (f : Planned p) (S : ℕ → ℕ → ℕ) (Before : ℕ → ℕ → Type 0)
     (rule : Rule (p .ballots) (p .grades - 1) (p .candidates) S Before) where
-  -- a bit says that candidate j is as good as the candidate o, or that o comes before j
+  -- the bit is 1 and candidate j is as good as candidate o, or it is 0 and o comes before j
   abbrev pub Standing : ℕ → ℕ → ℕ → Type 0
   Standing bit j o = ((bit ≡ 1) × Same (p .grades - 1) S j o) ⊎ ((bit ≡ 0) × Before o j)
 
-  -- a candidate of a group whose best one is compared with another
+  -- a candidate compared with its group's best, and that one with another
   next-standing : (bit stays j o best : ℕ) → j < p .candidates → o < p .candidates → best < p .candidates
       → Standing bit j o → Standing stays o best → Standing (min bit stays) j best
   next-standing bit stays j o best hj ho hb a c =
@@ -229,7 +229,8 @@ module _ (p : Plan) (f : Planned p) (S : ℕ → ℕ → ℕ) (Before : ℕ → 
       a
 
   module _ (W : ℕ → ℕ) (b : Binary W) where
-    -- m candidates from candidate c on: the key describes the best one's sums, and the wires say who is as good
+    -- A group of m candidates from candidate c on: the key describes the sums of its best, and the wires say who is
+    -- as good.
     pub record Group (c m key won : ℕ) : Type 0 where
       pub best : ℕ
       pub least : c ≤ best
@@ -237,7 +238,7 @@ module _ (p : Plan) (f : Planned p) (S : ℕ → ℕ → ℕ) (Before : ℕ → 
       pub spells : Spells W b p f key (S best)
       pub standing : (i : ℕ) → i < m → Standing (wonBit W won m i) (c + i) best
 
-    -- the best of two, and how both compare with it
+    -- the best of the candidates l and r, and how both compare with it
     record Met (q l r : ℕ) : Type 0 where
       best : ℕ
       choice : ((W (q + 1) ≡ 1) × (best ≡ l)) ⊎ ((W (q + 1) ≡ 0) × (best ≡ r))
@@ -296,7 +297,8 @@ module _ (p : Plan) (f : Planned p) (S : ℕ → ℕ → ℕ) (Before : ℕ → 
         }))
         o
 
-    -- both groups together: the chosen key is the best one's, and each candidate's wire says how it compares with it
+    -- Both groups together: the chosen key is the best one's, and each candidate's wire says how it compares with the
+    -- best.
     pub record Joined (c l m q x y won : ℕ) : Type 0 where
       pub best : ℕ
       pub least : c ≤ best

@@ -1,4 +1,5 @@
--- Two rows of sums with the same median: the two nearest differences decide which row comes first. Only about numbers.
+-- Two rows of sums with the same median: the two nearest differences decide which row comes first. This is only about
+-- numbers.
 -- Assumes nothing.
 use mathlib.Core.Path.{_≡_, sym, ap}
 use mathlib.Core.Logic.{_⊎_, ⊎-elim, _≢_}
@@ -7,8 +8,8 @@ use native.Mathlib.Omega.{arith}
 use Rattle.basics.proofs.Cases.{below-or-not}
 use Rattle.graded_circuit.proofs.SumLaws.{Sums}
 
--- Of t + 2 grades, `down` is the last one below the median at which the sums differ, or the best grade; `up` is the
--- first one from the median on, or the last grade.
+-- Of t + 2 grades, `down` is the last one below the median at which the sums differ, or the best grade if there is
+-- none. `up` is the first one from the median on at which they differ, or the last grade.
 pub record Near (t median : ℕ) (A C : ℕ → ℕ) (down up : ℕ) : Type 0 where
   pub down-in : down < suc (suc t)
   pub up-in : up < suc (suc t)
@@ -28,7 +29,7 @@ near-flip near =
       up-far = λ h. (near .up-far h .0, λ e. near .up-far h .1 (sym e));
     }
 
--- grade i decides for the row A: it has more there, and if C has more, i's positions are struck sooner
+-- Grade i decides for row A: A is larger there, and wherever C is larger, the difference at i is struck sooner.
 pub record Decides (n d : ℕ) (A C : ℕ → ℕ) (i : ℕ) : Type 0 where
   pub inside : i < d
   pub larger : C i < A i

@@ -1,4 +1,4 @@
--- What the sides of some grades say, and which words are chosen by them.
+-- What the flags of some grades say, and which words they choose.
 -- Assumes nothing.
 use mathlib.Core.Path.{_≡_, _∙_, refl, sym, ap}
 use mathlib.Core.Logic.{_⊎_, inl, inr, ⊎-elim, _≢_}
@@ -100,13 +100,13 @@ right-next n v r (suc t) = omega (arith, suc-mul t (eitherSpan r))
 first-place : (a d : ℕ) → a + 0 * d ≡ a
 first-place a d = omega (arith, zero-mul d)
 
--- no wire of t is 1, and the words are those to start from
+-- none of t flags is 1, and the words u and v stay
 pub record Absent (F : ℕ → ℕ) (t u v left right : ℕ) : Type 0 where
   pub none : (i : ℕ) → i < t → F i ≡ 0
   pub stays-left : left ≡ u
   pub stays-right : right ≡ v
 
--- the last of t wires that is 1, and its words
+-- the last of t flags that is 1, and its grade's words
 pub record LastAt (F X Y : ℕ → ℕ) (t left right : ℕ) : Type 0 where
   pub place : ℕ
   pub inside : place < t
@@ -115,7 +115,7 @@ pub record LastAt (F X Y : ℕ → ℕ) (t left right : ℕ) : Type 0 where
   pub is-left : left ≡ X place
   pub is-right : right ≡ Y place
 
--- the first of them
+-- the first of t flags that is 1, and its grade's words
 pub record FirstAt (F X Y : ℕ → ℕ) (t left right : ℕ) : Type 0 where
   pub place : ℕ
   pub inside : place < t
@@ -125,11 +125,11 @@ pub record FirstAt (F X Y : ℕ → ℕ) (t left right : ℕ) : Type 0 where
   pub is-right : right ≡ Y place
 
 module _ (W : ℕ → ℕ) (b : Binary W) where
-  -- the number that a word of r + 1 digits spells
+  -- the number in a word of r + 1 digits
   abbrev pub spelled : ℕ → ℕ → ℕ
   spelled r at = number W at 1 (suc r)
 
-  -- what a side says
+  -- what the two flags of a grade say
   pub record Side (n x y r : ℕ) : Type 0 where
     pub below-one : W (belowAt n r) ≡ 1 → (spelled r x ≢ spelled r y) × (W (x + suc r) ≡ 1)
     pub below-zero : W (belowAt n r) ≡ 0 → W (x + suc r) ≡ 1 → spelled r x ≡ spelled r y
@@ -192,7 +192,7 @@ module _ (W : ℕ → ℕ) (b : Binary W) where
     either-zero : W f ≡ 0 → (spelled r n ≡ spelled r u) × (spelled r (n + suc r) ≡ spelled r v)
     either-zero e = (choose-zero W b n f x u (suc r) e (cut-either .0), choose-zero W b (n + suc r) f y v (suc r) e (cut-either .1))
 
-  -- wires and words of grade i
+  -- the flag and the words of grade i
   abbrev pub flagAt : ℕ → ℕ → ℕ → ℕ
   flagAt f r i = W (f + i * sideSpan r)
 

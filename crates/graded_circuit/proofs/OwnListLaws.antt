@@ -21,12 +21,12 @@ use Rattle.graded_circuit.proofs.Planning.{planned, top-width}
 use Rattle.graded_circuit.proofs.BoundLaws.{gates-most, gates-small}
 use Rattle.graded_circuit.proofs.Accuracy.{own-single}
 
--- else the circuit of the plan
+-- the own list of two or more candidates is the circuit of the plan
 pub circuit-list : (s : Shape) → (s .candidates ≡ 1 → ⊥) → ownGrading s ≡ circuit (planOf s)
 unfolding ownGrading
 circuit-list s e = rw (ne-eqb (s .candidates) 1 e)
 
--- what holds for the length of both the circuit and a single gate holds for the own list's
+-- a bound for the length of the circuit, and of a single gate, is one for the length of the own list
 either : (s : Shape) (bound : ℕ) → gradedLimits s ≡ true → 1 ≤ bound
     → (1 < s .candidates → length (circuit (planOf s)) ≤ bound) → length (ownGrading s) ≤ bound
 either s bound e one all = ⊎-elim
@@ -56,6 +56,6 @@ own-list-keeps-the-bound s e = either s (gradingBound s) e (least-bound s) bound
         (subst (λ (w : ℕ). length (circuit (planOf s)) ≤ boundOf (s .candidates) (s .grades) (s .ballots) w)
         (top-width (s .ballots) (within s e .n-least)) (circuit-bound s e l))
 
--- no list of that length is too long for the tester
+-- a list of that length is not too long for the test of a list
 pub own-list-short : (s : Shape) → gradedLimits s ≡ true → length (ownGrading s) ≤ 1048576
 own-list-short s e = either s 1048576 e (omega arith) (λ l. omega (arith, circuit-small s e l))

@@ -1,4 +1,4 @@
--- What follows for a plan: its bits are inputs, and both counts fit their digits.
+-- What follows for a plan: its bits are inputs, and both counts have enough digits.
 -- Assumes nothing.
 use Prim.Native.Nat.{ℕ, suc, _-_, _≤_, _<_}
 use native.Mathlib.Nat.{pow-succ', mul-assoc, suc-mul, mul-le-mul-right}

@@ -1,4 +1,4 @@
--- A shape within its limits has a plan.
+-- The plan of a shape within its limits has all the properties of `Planned`.
 -- Assumes nothing.
 use mathlib.Core.Path.{_≡_, sym, subst}
 use mathlib.Core.Bool.{true}
@@ -12,7 +12,7 @@ use Rattle.jury.proofs.Limits.{within, bytes-are}
 use Rattle.jury.proofs.WidthLaws.{width-half, below-width, least-width}
 use Rattle.graded_circuit.specs.Plan.{planOf, Planned}
 
--- a number above 0 has a top digit
+-- a positive number has a top digit
 pub top-width : (n : ℕ) → 0 < n → suc (widthOf n - 1) ≡ widthOf n
 top-width n h = omega (arith, width-half n h)
 

@@ -1,4 +1,4 @@
--- The order of candidates by full majority judgment is one that the circuit can use.
+-- Full majority judgment orders candidates as the circuit needs it.
 -- Assumes nothing.
 use mathlib.Core.Path.{_≡_, _∙_, sym, ap, subst}
 use mathlib.Core.Bool.{true}
@@ -21,12 +21,12 @@ use Rattle.graded_circuit.proofs.SumLaws.{Sums}
 use Rattle.graded_circuit.proofs.TieBreakLaws.{Ahead}
 use Rattle.graded_circuit.proofs.MergeLaws.{Same, Rule}
 
--- a row of d counts of n grades
+-- A row of d counts that add up to n.
 pub record Row (n d : ℕ) (row : List ℕ) : Type 0 where
   pub long : length row ≡ d
   pub total : sum row ≡ n
 
--- the sum up to a grade, including it
+-- the sum of the counts up to grade g, which is included
 abbrev pub upTo : List ℕ → ℕ → ℕ
 upTo row g = running row (suc g)
 
@@ -43,7 +43,7 @@ row-sums n d row some r =
     }
 
 module _ (n d : ℕ) (some : 0 < d) (a c : List ℕ) (ra : Row n d a) (rc : Row n d c) where
-  -- some grade decides for a
+  -- if some grade decides for a, a precedes c
   pub ahead-precedes : Ahead n (d - 1) (upTo a) (upTo c) → Precedes a c
   ahead-precedes h =
       sum-rule n a c (record { sum-a = ra .total; sum-b = rc .total }) (suc (h .grade))
@@ -66,7 +66,7 @@ module _ (n d : ℕ) (some : 0 < d) (a c : List ℕ) (ra : Row n d a) (rc : Row 
       below zero l m = absurd (omega (arith, running-start a, running-start c))
       below (suc j) l m = h .decides .better-later j (omega arith) m
 
-  -- rows with the same sums are the same
+  -- rows with the same sums are equal
   pub same-row : ((g : ℕ) → g < d - 1 → upTo a g ≡ upTo c g) → a ≡ c
   same-row same = ext-getD 0 a c (ra .long ∙ sym (rc .long))
       (λ g l. omega (arith, running-next a g, running-next c g, equal g, equal (suc g)))

@@ -1,4 +1,4 @@
--- What the running sums of a candidate spell, and what its key says about them.
+-- What the running sums of a candidate are, and what its key says about them.
 -- Assumes nothing.
 use mathlib.Core.Path.{_≡_, _∙_, sym, ap, subst}
 use mathlib.Core.Logic.{⊎-elim}
@@ -26,7 +26,7 @@ use Rattle.graded_circuit.proofs.PlanFacts.{bits-below, first-countable
 use Rattle.graded_circuit.proofs.Cutting.{cut2, cut4}
 use Rattle.graded_circuit.proofs.CandidateBlocks.{RowsBefore, rows-before, counted-below, next-rows-block, sum-block, all-levels-block, worst-levels-block, key-word-block, key-words-block}
 
--- Sums of n grades up to each of d grades, and the median grade among them.
+-- The running sums of n ballots over d grades, and the median grade.
 pub record Sums (n d : ℕ) (S : ℕ → ℕ) (median : ℕ) : Type 0 where
   pub passed : (g : ℕ) → g < median → 2 * S g < n
   pub reached : (g : ℕ) → median ≤ g → n ≤ 2 * S g
@@ -35,7 +35,7 @@ pub record Sums (n d : ℕ) (S : ℕ → ℕ) (median : ℕ) : Type 0 where
   pub inside : median < d
   pub whole : S (d - 1) ≡ n
 
--- some of the numbers add up to no more than all
+-- the sum of the first m of n numbers is at most the sum of all
 sum-part : (v : ℕ → ℕ) (m n : ℕ) → m ≤ n → sum (tabulate m v) ≤ sum (tabulate n v)
 sum-part v m zero h = let e : m ≡ 0 = omega arith in omega (arith, ap (λ (k : ℕ). sum (tabulate k v)) e)
 sum-part v m (suc n) h = ⊎-elim
@@ -48,7 +48,7 @@ four : (gs hs is js : List Gate) → length (gs ++ hs ++ is ++ js) ≡ length gs
 four gs hs is js = omega (arith, length-append (gs ++ hs ++ is) js, length-append (gs ++ hs) is, length-append gs hs)
 
 module _ (W : ℕ → ℕ) (b : Binary W) (p : Plan) (f : Planned p) where
-  -- the word of a key at `at` describes a sum v: its r low digits, and whether twice the sum is below n
+  -- The word at `at` describes the sum v: r low digits, then a flag that says whether twice the sum is below n.
   pub record Word (r at v : ℕ) : Type 0 where
     pub worse : 2 * v < p .ballots → W (at + r) ≡ 1
     pub better : p .ballots ≤ 2 * v → W (at + r) ≡ 0
@@ -59,7 +59,7 @@ module _ (W : ℕ → ℕ) (b : Binary W) (p : Plan) (f : Planned p) where
   abbrev pub Spells : ℕ → (ℕ → ℕ) → Type 0
   Spells x S = (g : ℕ) → g < p .grades - 1 → Word (p .digits) (lowAt p x g) (S g)
 
-  -- a word that describes the offset and a sum
+  -- a word that holds the offset plus v describes the sum v
   told-word : (q v : ℕ) → Told W b q (p .digits) (p .offset + v) → Word (p .digits) q v
   told-word q v t =
       let r = p .digits in
@@ -79,7 +79,7 @@ module _ (W : ℕ → ℕ) (b : Binary W) (p : Plan) (f : Planned p) where
         low-better = λ l. omega (arith, t .long (no l), f .offset-is);
       }
 
-  -- one by one: the levels of each grade, and its word of the key
+  -- the levels and the key's words, grade by grade
   levels-parts : (n m c g t : ℕ) → p .inputs ≤ n → c < p .candidates → n + g * p .ballots ≤ m
       → Holds W (sumLevelsFrom p m g) (allLevels p n m c g (suc t))
       → Holds W (sumLevelsFrom p m g) (sumLevels p n m c g) × Holds W (sumLevelsFrom p m (suc g)) (allLevels p n m c (suc g) t)
@@ -108,7 +108,7 @@ module _ (W : ℕ → ℕ) (b : Binary W) (p : Plan) (f : Planned p) where
       cut2 W q (keyWord p n m c g) (keyWords p n m c (suc g) t) (q + wordSpan p)
       (omega (arith, key-word-block p f q n m c g h hc hm (omega (arith, add-mul (suc g) t (sumSize p))) .long)) w
 
-  -- the levels end before wire q
+  -- all levels end before wire q, in another form
   later-end : (m g t q : ℕ) → sumLevelsFrom p m (g + suc t) ≤ q → sumLevelsFrom p m (suc g + t) ≤ q
   later-end m g t q h = let e : g + suc t ≡ suc g + t = omega arith in subst (λ (k : ℕ). sumLevelsFrom p m k ≤ q) e h
 
@@ -134,7 +134,8 @@ module _ (W : ℕ → ℕ) (b : Binary W) (p : Plan) (f : Planned p) where
       (first : onesAt W (bitsAt p c 0) (ballotStride p) (p .ballots) ≡ S 0)
       (next : (g : ℕ) → suc g < p .grades → S g + onesAt W (bitsAt p c (suc g)) (ballotStride p) (p .ballots) ≡ S (suc g))
       (single : (i : ℕ) → i < p .ballots → sum (tabulate (p .grades) (λ g. W (bitsAt p c g + i * ballotStride p))) ≡ 1) where
-    -- what the sum of grade g counts: whether a ballot gives this grade or a better one, so there are as many ones as the sum
+    -- The bits that the sum of grade g counts say whether a ballot gives this grade or a better one, so their ones
+    -- are the sum.
     record Counted (n g : ℕ) : Type 0 where
       pub given : (i : ℕ) → i < p .ballots → W (rowAt p n c g + i * rowStride p g)
           ≡ sum (tabulate (suc g) (λ h. W (bitsAt p c h + i * ballotStride p)))
@@ -164,7 +165,7 @@ module _ (W : ℕ → ℕ) (b : Binary W) (p : Plan) (f : Planned p) where
           );
         }
       where
-        -- no ballot gives two grades
+        -- a ballot does not give two grades
         bit : (i : ℕ) → i < p .ballots → W (n + g * p .ballots + i * 1) ≡ W (rowAt p n c g + i * rowStride p g)
             + W (bitsAt p c (suc g) + i * ballotStride p)
         bit i l =
@@ -180,7 +181,7 @@ module _ (W : ℕ → ℕ) (b : Binary W) (p : Plan) (f : Planned p) where
               single i l,
             )
 
-    -- each of t rows after that of grade g
+    -- the bits of each of the t rows after that of grade g
     each-row : (n g t i : ℕ) → p .inputs ≤ n → g + t < p .grades → Counted n g → i ≤ t
         → Holds W (n + g * p .ballots) (rows p n c g t) → Counted n (g + i)
     unfolding rows
@@ -205,7 +206,7 @@ module _ (W : ℕ → ℕ) (b : Binary W) (p : Plan) (f : Planned p) where
         let e : onesAt W (rowAt p n c g) (rowStride p g) (p .ballots) + p .offset ≡ p .offset + S g = omega (arith, a .count) in
         told-word q (S g) (subst (Told W b q (p .digits)) e told)
 
-    -- the worst grade but one, by the count of the worst
+    -- the word of the second worst grade, by the count of the worst one
     last-word : (q m g : ℕ) → suc (suc g) ≡ p .grades → Holds W m (worstLevels p m c) → Holds W q (worstWord p m c)
         → Word (p .digits) q (S g)
     unfolding worstLevels worstWord

@@ -17,7 +17,7 @@ use Rattle.gate_words.proofs.PointsBack.{good-or}
 use Rattle.gate_words.proofs.PointsBack.{good-xor}
 use Rattle.gate_words.proofs.PointsBack.{good-mux}
 
--- a word's high half leaves a digit for the low one
+-- the high half of a word leaves a digit for the low half
 pub chosen-high : (r h t : ℕ) → h ≤ r → chosenHigh r h t ≤ r
 unfolding chosenHigh
 chosen-high r h zero q = q
@@ -45,7 +45,7 @@ compare-and-reach-block n a c u v e r h hr ha hc hu hv =
     (reach-block (n + 2 * compareSpan r) a u e r (omega arith) (omega arith))) (omega arith)
     (reach-block (n + 2 * compareSpan r + reachSpan r) c v e r (omega arith) (omega arith)))
 
--- sixteen gates
+-- the sixteen gates of `resolve`
 module _ (n : ℕ) where
   abbrev place : ℕ → ℕ
   place zero = n
@@ -86,7 +86,7 @@ resolve-block n e s e₁ s₁ e₂ s₂ j k f g he hs a₁ b₁ a₂ b₂ hj hk 
     (gate-block (good-xor (p 15) (n + 13) (n + 12) (new 13 15 (omega arith)) (new 12 15 (omega arith)))
     (none-block (p 16)))))))))))))))))
 
--- the chosen words end where the words are chosen
+-- the chosen words end before the part that compares them
 module _ (n x y r t : ℕ) (hx : x + suc (suc t) * stride r ≤ n) (hy : y + suc (suc t) * stride r ≤ n) where
   pub down-left-below : downLeft n x r t + suc r ≤ nearestEnd n r t
   down-left-below = let e = suc-mul (suc t) (stride r) in left-below (downAt n r t) x r t (nearestEnd n r t) (omega arith) (omega arith)

@@ -1,4 +1,4 @@
--- Which of two keys with equal medians comes first, as the wires say.
+-- Which of two keys with equal medians comes first, by the wires of their comparison.
 -- Assumes nothing.
 use mathlib.Core.Path.{_≡_, _∙_, sym, ap, subst}
 use mathlib.Core.Logic.{_⊎_, inl, inr, ⊎-elim, _≢_}
@@ -32,18 +32,18 @@ pub record Ahead (n d : ℕ) (A C : ℕ → ℕ) : Type 0 where
   pub grade : ℕ
   pub decides : Decides n d A C grade
 
--- e says that two rows differ; if they do, s says that A comes first
+-- e says whether two rows differ; if they do, s says whether A comes first
 abbrev pub Outcome : ℕ → ℕ → ℕ → ℕ → (ℕ → ℕ) → (ℕ → ℕ) → Type 0
 Outcome e s n d A C = ((e ≡ 0) × ((g : ℕ) → g < d → A g ≡ C g)) ⊎
     (((e ≡ 1) × (s ≡ 1) × Ahead n d A C) ⊎ ((e ≡ 1) × (s ≡ 0) × Ahead n d C A))
 
--- equal, larger, or smaller
+-- two numbers: equal, the first larger, or the second larger
 pub three-ways : (a c : ℕ) → (a ≡ c) ⊎ ((c < a) ⊎ (a < c))
 three-ways a c = ⊎-elim (λ (l : a < c). inr (inr l))
     (λ (l : c ≤ a). ⊎-elim (λ (k : c < a). inr (inl k)) (λ (k : a ≤ c). inl (omega arith)) (below-or-not c a))
     (below-or-not a c)
 
--- single gates, as numbers
+-- what single gates compute
 xor-one : (x y z : ℕ) → z ≡ (x + y) % 2 → x + y ≡ 1 → z ≡ 1
 xor-one x y z p q = omega arith
 
@@ -80,18 +80,18 @@ and-none′ x y z p q = omega arith
 and-both : (x y z : ℕ) → z ≡ min x y → x ≡ 1 → y ≡ 1 → z ≡ 1
 and-both x y z p q r = omega arith
 
--- one of two bits, by their "and" and their sum modulo 2
+-- "or" of two bits, from their "and" and their sum modulo 2
 either-of : (x y u v z : ℕ) → x ≤ 1 → y ≤ 1 → u ≡ min x y → v ≡ (x + y) % 2 → z ≡ (v + u) % 2
     → (x ≡ 0 → y ≡ 0 → z ≡ 0) × (x ≡ 1 → z ≡ 1) × (y ≡ 1 → z ≡ 1)
 either-of x y u v z hx hy p q r = ((λ i k. omega arith), (λ i. omega arith), (λ i. omega arith))
 
--- four bits, by three gates: a 0 among three of them, or all three 1
+-- the conjunction of four bits, by three gates: 0 if o, m or l is 0, otherwise c
 turns : (c o t m u l v : ℕ) → c ≤ 1 → t ≡ min c o → u ≡ min m t → v ≡ min u l → (o ≡ 0 → v ≡ 0) × (m ≡ 0 → v ≡ 0)
     × (l ≡ 0 → v ≡ 0) × (o ≡ 1 → m ≡ 1 → l ≡ 1 → v ≡ c)
 turns c o t m u l v hc p q r = ((λ i. omega arith), (λ i. omega arith), (λ i. omega arith), (λ i k h. omega arith))
 
 module _ (W : ℕ → ℕ) (b : Binary W) where
-  -- what is resolved, by the wires that it is resolved from
+  -- What `resolve` says, in terms of the wires that it is given.
   pub record Resolved (n e s e₁ s₁ e₂ s₂ j k f g : ℕ) : Type 0 where
     pub left-sum : W f + W g ≡ 1 → W s₁ ≡ 1 → W (n + 3) ≡ W j
     pub right-sum : W f + W g ≡ 1 → W s₁ ≡ 0 → W (n + 3) ≡ W k
@@ -182,7 +182,7 @@ module _ (W : ℕ → ℕ) (b : Binary W) where
         upper-first = λ o y z q. (differs o (one .1 y), stays (W s₂) (equal o ∙ upper z) (b s₂) (turn .2 q));
       }
 
-  -- its three parts
+  -- the three parts of the comparison
   tie-break-parts : (p : Plan) (r t n x y : ℕ) → x + suc (suc t) * stride r ≤ n → y + suc (suc t) * stride r ≤ n
       → (high : ℕ) → high ≤ r → (e s : ℕ) → Holds W n (tieBreak (p .ballots % 2) n x y e s r high t)
       → let m = nearestEnd n r t in Holds W n (nearest n x y r high t)
@@ -211,7 +211,7 @@ module _ (W : ℕ → ℕ) (b : Binary W) where
             (up-right-below n x y r t hx hy) .long,
       )) h
 
-  -- keys whose medians differ: they decide
+  -- if the medians differ, they decide
   pub tie-break-medians : (p : Plan) (r t n x y : ℕ) → x + suc (suc t) * stride r ≤ n → y + suc (suc t) * stride r
       ≤ n → (high : ℕ) → high ≤ r → (e s : ℕ) → Holds W n (tieBreak (p .ballots % 2) n x y e s r high t)
       → W e ≡ 1 → (W (resolveAt n r t + 14) ≡ 1) × (W (resolveAt n r t + 15) ≡ W s)
@@ -226,21 +226,21 @@ module _ (W : ℕ → ℕ) (b : Binary W) where
       (A C : ℕ → ℕ) (median : ℕ) (a : Sums (p .ballots) (p .grades) A median) (c : Sums (p .ballots) (p .grades) C median)
       (n x y : ℕ) (hx : x + suc (suc t) * stride r ≤ n) (hy : y + suc (suc t) * stride r ≤ n)
       (kx : Spells W b p f x A) (ky : Spells W b p f y C) (top : ℕ) (hr : top ≤ r) where
-    -- a word of a key, at its place
+    -- the word of grade g, at its place in the key
     word : (z : ℕ) (S : ℕ → ℕ) → Spells W b p f z S → (g : ℕ) → g < suc (suc t) → Word W b p f (suc r) (z + g * stride r) (S g)
     word z S k g l =
         let same : suc r + 1 ≡ stride r = omega arith in
         subst (λ (i : ℕ). Word W b p f (suc r) (z + g * i) (S g)) same
         (subst (λ (i : ℕ). Word W b p f i (z + g * (i + 1)) (S g)) er (k g (omega arith)))
 
-    -- the low digits of the two keys differ exactly if both sums do
+    -- the low digits of the two keys differ by as much as the sums do
     matched : (g : ℕ) → g < suc (suc t) → wordOf W b x r g + C g ≡ wordOf W b y r g + A g
     matched g l = ⊎-elim
         (λ (m : g < median). omega (arith, word x A kx g l .low-worse (a .passed g m), word y C ky g l .low-worse (c .passed g m)))
         (λ (m : median ≤ g). omega (arith, word x A kx g l .low-better (a .reached g m), word y C ky g l .low-better (c .reached g m)))
         (below-or-not g median)
 
-    -- the wire after x's word
+    -- the flag after x's word: whether the median is worse
     worse-one : (g : ℕ) → g < suc (suc t) → g < median → W (x + g * stride r + suc r) ≡ 1
     worse-one g l m = word x A kx g l .worse (a .passed g m)
 
@@ -287,7 +287,7 @@ module _ (W : ℕ → ℕ) (b : Binary W) where
       from-place : (i : ℕ) → flagAt W b (fromAt n r) r i ≡ W (fromAt (n + i * sideSpan r) r)
       from-place i = let e : fromAt n r + i * sideSpan r ≡ fromAt (n + i * sideSpan r) r = omega arith in ap W e
 
-      -- what the side of a grade says about the sums
+      -- what the flags of a grade say about the sums
       below-found : (i : ℕ) → i < t → flagAt W b (belowAt n r) r i ≡ 1 → (suc i < median) × (A (suc i) ≢ C (suc i))
       below-found i l z =
           let q = sided i l .below-one (sym (below-place i) ∙ z) in
@@ -312,7 +312,7 @@ module _ (W : ℕ → ℕ) (b : Binary W) where
         matched (suc i) (omega arith),
       )
 
-      -- the grade below the median whose words are chosen
+      -- The grade below the median whose words are chosen.
       record DownIs : Type 0 where
         down : ℕ
         down-in : down < suc t
@@ -364,7 +364,7 @@ module _ (W : ℕ → ℕ) (b : Binary W) where
               rest zero k l m = absurd (omega arith)
               rest (suc i) k l m = below-none i (omega arith) (q .later i (omega arith) (omega arith)) m
 
-      -- the grade from the median on
+      -- The grade from the median on whose words are chosen.
       record UpIs : Type 0 where
         up : ℕ
         up-in : up < suc (suc t)
@@ -413,7 +413,7 @@ module _ (W : ℕ → ℕ) (b : Binary W) where
               rest zero k l m = absurd (omega arith)
               rest (suc i) k l m = from-none i (omega (arith, q .inside)) (q .earlier i (omega arith)) m
 
-    -- the sums of a row at both grades, and the carry that says whether they reach n
+    -- the sums of a row at both grades, and the carry that says whether together they reach n
     module _ (S : ℕ → ℕ) (s : Sums (p .ballots) (p .grades) S median) (z : ℕ) (k : Spells W b p f z S) (down up : ℕ)
         (hd : down < suc (suc t)) (hu : up < suc (suc t)) where
       reach-is : (m u v : ℕ) → down < median → median ≤ up → spelled W b r u ≡ wordOf W b z r down → spelled W b r v ≡ wordOf W b z r up
@@ -426,11 +426,11 @@ module _ (W : ℕ → ℕ) (b : Binary W) where
           let power = ap (λ (i : ℕ). 2 ^ i) er in
           record { reached = λ i. q .reached (omega arith); missed = λ i. q .missed (omega arith) }
 
-    -- the wires that say on which side of the median the first and the last grade are
+    -- the flags that say whether the median is worse than the first grade, and than the last
     first-wire : x + 0 * stride r + suc r ≡ x + suc r
     first-wire = omega (arith, zero-mul (stride r))
 
-    -- a wire says that the two sums of the row S reach n: the lower grade is struck first
+    -- the bit says whether the two sums of the row S reach n, that is, whether the lower grade is struck first
     abbrev pub LowerFirst : (ℕ → ℕ) → ℕ → ℕ → ℕ → Type 0
     LowerFirst S down up bit = Reaches bit (p .ballots) (S down + S up)
 
@@ -466,7 +466,7 @@ module _ (W : ℕ → ℕ) (b : Binary W) where
         })
         (below-or-not 0 median)
 
-    -- words that differ exactly if sums do describe the sums
+    -- if words differ by as much as sums do, comparing the words compares the sums
     tells-sums : {e s i j u v : ℕ} → i + v ≡ j + u → Tells e s i j → Tells e s u v
     tells-sums q k = record {
       same = λ z. k .same (omega arith);
@@ -525,7 +525,7 @@ module _ (W : ℕ → ℕ) (b : Binary W) where
       unlike′ : (u v : ℕ) → v < u → u ≢ v
       unlike′ u v l e = omega arith
 
-      -- what the wire says, the other way round
+      -- the sum reaches the limit if the bit is 1, and does not if it is 0
       long : {bit limit sum : ℕ} → Reaches bit limit sum → bit ≡ 1 → limit ≤ sum
       long {bit} {limit} {sum} w z = let no : ¬ (sum < limit) = λ m. let y = w .missed m in omega arith in omega arith
 

@@ -1,5 +1,5 @@
--- Two groups of candidates are merged, each with the key of its best candidate and, if it has more than one, a wire
--- for each candidate that says who is as good as the best.
+-- Merges two groups of candidates. Each group has the key of its best candidate and, if it has more than one, a wire
+-- for each candidate that says whether it is as good as the best.
 use mathlib.Core.Bool.{cond}
 use mathlib.Core.List.{List, [], _∷_, _++_}
 use Prim.Native.Nat.{ℕ, zero, suc, _+_, _/_}
@@ -11,36 +11,42 @@ use Rattle.graded_circuit.specs.declared.plan.Plan.{Plan}
 use Rattle.graded_circuit.specs.Key.{keySpan}
 use Rattle.graded_circuit.specs.Contest.{contest, contestSpan, resultAt}
 
--- Who of a group's m candidates, whose wires start at `at`, stays if the wire `stays` says that the group does. A
--- group of one has no wires.
+-- Each of the m wires from `at` on, joined with wire `stays` by "and".
 unfoldable pub andAll : ℕ → ℕ → ℕ → List Gate
 andAll at stays zero = []
 andAll at stays (suc m) = andOf at stays ∷ andAll (at + 1) stays m
 
+-- The wires of a group's m candidates after a merge: a candidate stays as good as the best if its wire says so and
+-- wire `stays` says that the group's best still is the best. A group of one has no wires yet.
 unfoldable pub keepWinners : ℕ → ℕ → ℕ → List Gate
 keepWinners at stays zero = []
 keepWinners at stays (suc zero) = copyOf stays ∷ []
 keepWinners at stays (suc (suc m)) = andAll at stays (suc (suc m))
 
+-- Wires q and q + 1 say whether two keys differ and, if so, whether the left one is better. The four gates: the left
+-- group is better; the right one is; the left one stays; the right one stays.
 unfoldable pub selectFlags : ℕ → List Gate
 selectFlags q = andOf q (q + 1) ∷ xorOf q (q + 2) ∷ notOf (q + 3) ∷ notOf (q + 2) ∷ []
 
+-- The wire that says whether the left group stays, after a contest from wire n on.
 abbrev pub leftStays : Plan → ℕ → ℕ
 leftStays p n = resultAt p n + 4
 
+-- The wire that says whether the right group stays.
 abbrev pub rightStays : Plan → ℕ → ℕ
 rightStays p n = resultAt p n + 5
 
--- The merge of groups of l and m candidates, whose wires start at u and v. The wires of both groups together start at
--- `wonAt`.
+-- The first of the wires of both groups together, after a merge from wire n on.
 abbrev pub wonAt : Plan → ℕ → ℕ
 wonAt p n = resultAt p n + 6
 
--- The digits of two single candidates' words come from the counters one after the other, and are compared as they come;
--- a word that was chosen has all its digits at once, and is compared in halves.
+-- How many digits of a word are the high half, if two groups of `both` candidates together are merged. Words of two
+-- single candidates come from the counters digit by digit, and are compared in one chain. A word that was chosen has
+-- all its digits at once, and is compared in two halves.
 unfoldable pub highDigits : Plan → ℕ → ℕ
 highDigits p both = cond (leb both 2) 0 (p .digits / 2)
 
+-- The merge of groups of l and m candidates, with keys at x and y, whose wires start at u and v.
 unfoldable pub merge : Plan → ℕ → ℕ → ℕ → ℕ → ℕ → ℕ → ℕ → List Gate
 merge p n x y u v l m =
     contest p n x y (highDigits p (l + m))
@@ -48,9 +54,10 @@ merge p n x y u v l m =
     ++ keepWinners u (leftStays p n) l
     ++ keepWinners v (rightStays p n) m
 
+-- The number of gates of a merge.
 abbrev pub mergeSpan : Plan → ℕ → ℕ → ℕ
 mergeSpan p l m = contestSpan p + 4 + l + m
 
--- The better key. Of equal keys either one may be taken.
+-- The better of the keys at x and y, after their merge from wire n on. If they are equal, either one may be taken.
 unfoldable pub betterKey : Plan → ℕ → ℕ → ℕ → List Gate
 betterKey p n x y = choose (resultAt p n + 1) x y (keySpan p)

@@ -1,4 +1,4 @@
--- The public numbers that the circuit of a shape is built with.
+-- The public numbers from which the circuit of a shape is built.
 use mathlib.Core.Path.{_≡_}
 use Prim.Native.Nat.{ℕ, suc, _+_, _-_, _*_, _/_, _^_, _≤_, _<_}
 use Rattle.jury.specs.declared.shape.Shape.{Shape}
@@ -6,9 +6,9 @@ use Rattle.jury.specs.Shape.{ballotBytes}
 use Rattle.jury.specs.Width.{widthOf}
 use Rattle.graded_circuit.specs.declared.plan.Plan.{Plan}
 
--- Sums have as many digits as n, and the number of a median grade as many as d − 1: the low ones, `digits` and
--- `places`, and a top one. With `offset` added, a running sum's top digit is 1 exactly if twice the sum is at least n.
--- With `worst` added, the worst grade's count complemented is the offset plus the counts of the others.
+-- A sum has as many digits as n: `digits` low ones and a top one. A median grade's number has as many as d − 1:
+-- `places` low ones and a top one. A sum plus `offset` has the top digit 1 exactly if twice the sum is at least n.
+-- The worst grade's count plus `worst`, complemented, is the sum of all other grades plus `offset`.
 unfoldable pub planOf : Shape → Plan
 planOf s =
     record {
@@ -38,10 +38,10 @@ pub record Planned (p : Plan) : Type 0 where
   pub median-high : p .grades - 1 < 2 ^ suc (p .places)
   pub inputs-is : p .inputs ≡ p .ballots * p .candidates * p .grades
 
--- Candidate c's bits of grade g: the first is in the first ballot, which has a candidate's grades side by side; the
--- next ones are a ballot apart.
+-- Candidate c's bit of grade g in the first ballot. A ballot has each candidate's grades side by side.
 abbrev pub bitsAt : Plan → ℕ → ℕ → ℕ
 bitsAt p c g = c * p .grades + g
 
+-- How far such bits are apart: the next one is in the next ballot.
 abbrev pub ballotStride : Plan → ℕ
 ballotStride p = p .candidates * p .grades

@@ -1,5 +1,5 @@
--- Two keys compared below their medians by full majority judgment. Strikes go outward from the middle of the sorted
--- grades, so of equal medians the two grades nearest to the median at which the sums differ decide.
+-- Compares two keys with equal medians by full majority judgment. Grades are struck outward from the middle of the
+-- sorted grades. So the two grades nearest to the median at which the sums differ decide, one on either side.
 use mathlib.Core.List.{List, [], _∷_, _++_}
 use Prim.Native.Nat.{ℕ, zero, suc, _+_, _*_, _/_}
 use Rattle.gates.specs.Gate.{Gate}
@@ -9,28 +9,32 @@ use Rattle.gate_words.specs.Reach.{reach, reachLast, reachSpan}
 use Rattle.graded_circuit.specs.Nearest.{stride, sides, sideSpan, belowAt, fromAt, lastWords, firstWords, eitherSpan}
 use Rattle.graded_circuit.specs.Nearest.{leftEnd, rightEnd}
 
--- Words have r + 1 digits, the h highest of which are handled separately, and t grades lie between the best and the
--- second worst. In this order: the sides of those t grades; the words at the last one below the median, or at the best
--- grade; those at the first one from the median on, or at the last grade of the key.
+-- Words have r + 1 digits, of which the h highest are the high half. t grades lie between the best and the second
+-- worst, which is the last of the key. Their flags start at wire n, and the choice below the median at `downAt`.
 abbrev pub downAt : ℕ → ℕ → ℕ → ℕ
 downAt n r t = n + t * sideSpan r
 
+-- The wire at which the choice from the median on starts.
 abbrev pub upAt : ℕ → ℕ → ℕ → ℕ
 upAt n r t = downAt n r t + t * eitherSpan r
 
+-- The first wire after both choices.
 abbrev pub nearestEnd : ℕ → ℕ → ℕ → ℕ
 nearestEnd n r t = upAt n r t + t * eitherSpan r
 
+-- The wire at which the word of the last grade starts in the key at x.
 abbrev pub farAt : ℕ → ℕ → ℕ → ℕ
 farAt x r t = x + suc t * stride r
 
+-- The flags of the t grades. Then the words of the last one below the median that differs, or of the best grade. Then
+-- those of the first one from the median on that differs, or of the last grade.
 unfoldable pub nearest : ℕ → ℕ → ℕ → ℕ → ℕ → ℕ → List Gate
 nearest n x y r h t =
     sides n (x + stride r) (y + stride r) r h t
     ++ lastWords (downAt n r t) (belowAt n r) (x + stride r) (y + stride r) x y r t
     ++ firstWords (upAt n r t) (fromAt n r) (x + stride r) (y + stride r) (farAt x r t) (farAt y r t) r t
 
--- The words chosen on either side, for both keys.
+-- The wires at which the chosen words start: below the median (down) or from it on (up), for x (left) or y (right).
 abbrev pub downLeft : ℕ → ℕ → ℕ → ℕ → ℕ
 downLeft n x r t = leftEnd (downAt n r t) x r t
 
@@ -43,13 +47,14 @@ upLeft n x r t = leftEnd (upAt n r t) (farAt x r t) r t
 abbrev pub upRight : ℕ → ℕ → ℕ → ℕ → ℕ
 upRight n y r t = rightEnd (upAt n r t) (farAt y r t) r t
 
--- Chosen words have all their digits at once, and are compared in halves.
+-- How many digits of the chosen words are the high half. They have all their digits at once, and are compared in two
+-- halves. If t is 0, nothing was chosen.
 unfoldable pub chosenHigh : ℕ → ℕ → ℕ → ℕ
 chosenHigh r h zero = h
 chosenHigh r h (suc t) = suc r / 2
 
--- The words at a and c, below the median, and those at u and v, from it on, are compared; for each key both are added,
--- with the bit e, which says whether the two sums reach n.
+-- Compares the words at a and c, below the median, and those at u and v, from it on. Then says for each key whether
+-- its two sums together reach n: the carry of its two words and the public bit e.
 unfoldable pub compareAndReach : ℕ → ℕ → ℕ → ℕ → ℕ → ℕ → ℕ → ℕ → List Gate
 compareAndReach n a c u v e r h =
     compareCut n a c r h
@@ -57,23 +62,24 @@ compareAndReach n a c u v e r h =
     ++ reach (n + 2 * compareSpan r) a u e r
     ++ reach (n + 2 * compareSpan r + reachSpan r) c v e r
 
+-- The number of gates of this block.
 abbrev pub compareAndReachSpan : ℕ → ℕ
 compareAndReachSpan r = 2 * compareSpan r + reachSpan r + reachSpan r
 
--- The wires of the two carries.
+-- The wires of the two carries: x's and y's.
 abbrev pub leftCarry : ℕ → ℕ → ℕ
 leftCarry n r = n + 2 * compareSpan r + reachLast r
 
 abbrev pub rightCarry : ℕ → ℕ → ℕ
 rightCarry n r = n + 2 * compareSpan r + reachSpan r + reachLast r
 
--- Which decides. Wires e and s say whether the medians differ and whether x comes first; e₁ and s₁ say it for the
--- grade below the median, e₂ and s₂ for the other one. j and k are the carries of x and y. The median is worse than
--- the best grade if wire f is 1, and than the last if g is.
+-- Which comparison decides. Wires e and s say whether the medians differ and, if so, whether x comes first; e₁ and s₁
+-- say this for the lower grade, below the median, e₂ and s₂ for the upper one. j and k are the carries of x and y. f
+-- and g say whether the median is worse than the best grade, and than the last.
 unfoldable pub resolve : ℕ → ℕ → ℕ → ℕ → ℕ → ℕ → ℕ → ℕ → ℕ → ℕ → ℕ → List Gate
--- Wire n: the sums of the key that is larger below the median reach n; n + 2: the grades are on both sides of it; n +
--- 3: the lower one is struck first; n + 4, n + 6: both differ, any does; n + 7: x comes first by the upper one; n +
--- 12: the lower one decides; n + 14: the keys differ; n + 15: x comes first, if they do.
+-- Wire n: the two sums of the key that is larger at the lower grade reach n. n + 2: grades lie on both sides of the
+-- median. n + 3: the lower one is struck first. n + 4, n + 6: both differ, one does. n + 7: x is first by the upper
+-- or, if that is equal, the lower. n + 12: the lower overrules it. n + 14: the keys differ. n + 15: x is first.
 resolve n e s e₁ s₁ e₂ s₂ j k f g =
     muxOf s₁ j k
     ∷ notOf f
@@ -93,13 +99,15 @@ resolve n e s e₁ s₁ e₂ s₂ j k f g =
     ∷ xorOf (n + 13) (n + 12)
     ∷ []
 
+-- The number of gates of `resolve`.
 abbrev pub resolveSpan : ℕ
 resolveSpan = 16
 
--- All of it, from wire n on, with the medians' wires e and s; `bit` is 1 if the number of ballots is odd.
+-- The wire at which `resolve` starts.
 abbrev pub resolveAt : ℕ → ℕ → ℕ → ℕ
 resolveAt n r t = nearestEnd n r t + compareAndReachSpan r
 
+-- The whole comparison from wire n on. e and s compare the medians; `bit` is 1 if the number of ballots is odd.
 unfoldable pub tieBreak : ℕ → ℕ → ℕ → ℕ → ℕ → ℕ → ℕ → ℕ → ℕ → List Gate
 tieBreak bit n x y e s r h t =
     nearest n x y r h t
@@ -111,5 +119,6 @@ tieBreak bit n x y e s r h t =
     (leftCarry (nearestEnd n r t) r) (rightCarry (nearestEnd n r t) r)
     (x + suc r) (farAt x r t + suc r)
 
+-- The number of gates of the whole comparison.
 abbrev pub tieBreakSpan : ℕ → ℕ → ℕ
 tieBreakSpan r t = t * sideSpan r + t * eitherSpan r + t * eitherSpan r + compareAndReachSpan r + resolveSpan

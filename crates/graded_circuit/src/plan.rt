@@ -1,4 +1,4 @@
-// The public numbers that the circuit of a shape is built with.
+// The public numbers from which the circuit of a shape is built.
 use jury::shape::Shape;
 ghost use mathlib.Core.Path.{_≡_};
 ghost use Prim.Native.Nat.{_^_, _≤_};
@@ -6,8 +6,8 @@ ghost use lib.Dec.{T};
 ghost use Rattle.jury.specs.Shape.{gradedLimits};
 ghost use Rattle.graded_circuit.specs.Plan.{planOf};
 
-// A sum of grades has `digits` low digits and a top one, and the number of a median grade `places` low digits and a
-// top one; `offset` and `worst` are added to sums, as their definition says.
+// A sum has `digits` low digits and a top one; the number of a median grade has `places` low digits and a top one.
+// `offset` is added to each sum, and `worst` to the count of the worst grade: `planOf` says why.
 pub struct Plan {
     pub candidates: u32,
     pub grades: u32,

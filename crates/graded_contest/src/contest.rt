@@ -18,7 +18,7 @@ ghost use Rattle.graded_circuit.specs.Median.{compareOnes};
 ghost use Rattle.graded_circuit.specs.Contest.{tieBreakBelow, tieBreakBelowSpan, contest, contestSpan};
 ghost use Rattle.graded_contest.specs.inner.Ready.{KeysReady, MediansReady, SumReady};
 
-// What the medians say, as it is.
+// The result of the medians, copied. Without low digits nothing else decides.
 fn medians_alone(w: Writer, table: &mut [u32], e: u32, s: u32) -> Writer
     requires { ⌜ Room w 2 ⌝ }
     ensures { λ r. ⌜ Wrote w (now (table .entry)) (copyOf e ∷ copyOf s ∷ []) (now (table .exit)) r ⌝ }
@@ -27,7 +27,8 @@ fn medians_alone(w: Writer, table: &mut [u32], e: u32, s: u32) -> Writer
     differ.emit(table, kind::COPY, s, 0, 0)
 }
 
-// A single sum, of above + 1 digits.
+// Which key comes first by a single sum, of above + 1 digits, if the medians are equal. Wires e and s have the result
+// of the medians.
 fn one_sum(
     w: Writer,
     table: &mut [u32],
@@ -51,7 +52,8 @@ fn one_sum(
     either.emit(table, kind::CHOICE, e, s, first)
 }
 
-// What the medians, by wires e and s, and the sums say.
+// Which of the keys at x and y comes first. Wires e and s have the result of the medians; if they are equal, the sums
+// decide.
 fn tie_break_below(
     w: Writer,
     table: &mut [u32],
@@ -81,7 +83,7 @@ fn tie_break_below(
     tie_break(w, table, bit, x, y, e, s, above, high, grades - 3)
 }
 
-// Which of the medians that the keys at x and y tell of is worse.
+// Compares the medians of the keys at x and y, y's first, because a larger number is a worse grade.
 fn compare_medians(w: Writer, table: &mut [u32], p: Plan, x: u32, y: u32) -> Writer
     requires { ⌜ MediansReady w p x y ⌝ }
     ensures { λ r. ⌜
@@ -100,7 +102,7 @@ fn compare_medians(w: Writer, table: &mut [u32], p: Plan, x: u32, y: u32) -> Wri
     )
 }
 
-// The contest of the keys at x and y, whose words' highest `high` digits are handled separately.
+// The contest of the keys at x and y. The `high` highest digits of their words are the high half.
 pub fn contest(w: Writer, table: &mut [u32], p: Plan, x: u32, y: u32, high: u32) -> Writer
     requires { ⌜ KeysReady w (contestSpan p) p x y high ⌝ }
     ensures { λ r. ⌜ Wrote w (now (table .entry)) (contest p (w .wire) x y high) (now (table .exit)) r ⌝ }

@@ -1,3 +1,3 @@
-// Two keys compared by full majority judgment, written into a table.
+// Writes the comparison of two keys by full majority judgment into a table.
 pub mod contest;
 mod tie_break;

@@ -1,5 +1,5 @@
-// Two keys compared below their medians. Words have `above` digits above the lowest, the highest `high` of which are
-// handled separately; `between` grades lie between the first and the last of a key.
+// Compares two keys with equal medians. Words have above + 1 digits, of which the `high` highest are the high half;
+// `between` grades lie between the first and the last of a key.
 use gate_adders::reach::reach;
 use gate_words::halves::above_at;
 use gate_words::halves::unequal_at;
@@ -21,7 +21,7 @@ ghost use Rattle.graded_circuit.specs.TieBreak.{nearest, chosenHigh, compareAnd
 ghost use Rattle.graded_circuit.specs.TieBreak.{leftCarry, rightCarry, resolve, resolveSpan, tieBreak, tieBreakSpan};
 ghost use Rattle.graded_contest.specs.inner.Ready.{TieBreakReady, ReachReady, PartReady, ResolveReady};
 
-// The words at the nearest grades on either side of the median.
+// Chooses the words at the nearest grades, on either side of the median, at which the keys differ.
 fn nearest(
     w: Writer,
     table: &mut [u32],
@@ -57,7 +57,7 @@ fn nearest(
     )
 }
 
-// How many digits of the chosen words are handled separately: half of them, if there was a choice.
+// How many digits of the chosen words are the high half: half of them, if there was a choice.
 fn chosen_high(above: u32, high: u32, between: u32) -> u32
     requires { ⌜ above ≤ 7 ⌝ }
     ensures { λ r. ⌜ r ≡ chosenHigh above high between ⌝ }
@@ -68,7 +68,8 @@ fn chosen_high(above: u32, high: u32, between: u32) -> u32
     (above + 1) / 2
 }
 
-// The words on either side compared, and added for each key.
+// Compares the words at a and c, below the median, and those at u and v, from it on. Then says for each key whether
+// its two sums together reach n.
 fn compare_and_reach(
     w: Writer,
     table: &mut [u32],
@@ -92,8 +93,9 @@ fn compare_and_reach(
     reach(left, table, c, v, bit, above)
 }
 
-// Whether the lower grade is struck first, from wire q on. Wires j and k are the carries of x and y, of which s says
-// that x is above at the lower grade; f and g say on which side of the median the first and the last grade are.
+// Whether the lower grade is struck first; `resolve` starts at wire q. Wires j and k are the carries of x and y. Wire
+// s says whether x is larger at the lower grade; f and g say whether the median is worse than the first grade, and
+// than the last.
 fn lower_first(
     w: Writer,
     table: &mut [u32],
@@ -116,7 +118,7 @@ fn lower_first(
     apart.emit(table, kind::CHOICE, q + 2, q, q + 1)
 }
 
-// What both grades say: e₁ and s₁ are about the lower one, e₂ and s₂ about the upper one.
+// Joins the results of both grades: e1 and s1 are those of the lower one, e2 and s2 those of the upper one.
 fn both_say(w: Writer, table: &mut [u32], q: u32, e1: u32, s1: u32, e2: u32, s2: u32) -> Writer
     requires { ⌜ PartReady w 5 q ⌝ }
     ensures { λ r. ⌜
@@ -131,7 +133,7 @@ fn both_say(w: Writer, table: &mut [u32], q: u32, e1: u32, s1: u32, e2: u32, s2:
     upper.emit(table, kind::XOR, s1, s2, 0)
 }
 
-// Whether the lower grade decides against the upper one; wire e says whether the medians differ.
+// Whether the lower grade overrules the upper one; wire e says whether the medians differ.
 fn lower_decides(w: Writer, table: &mut [u32], q: u32, e: u32) -> Writer
     requires { ⌜ PartReady w 4 q ⌝ }
     ensures { λ r. ⌜
@@ -145,7 +147,7 @@ fn lower_decides(w: Writer, table: &mut [u32], q: u32, e: u32) -> Writer
     clash.emit(table, kind::AND, q + 11, q + 3, 0)
 }
 
-// Whether the keys differ, and which comes first.
+// Whether the keys differ and, if they do, whether x comes first.
 fn answer(w: Writer, table: &mut [u32], q: u32, e: u32, s: u32) -> Writer
     requires { ⌜ PartReady w 3 q ⌝ }
     ensures { λ r. ⌜
@@ -158,7 +160,8 @@ fn answer(w: Writer, table: &mut [u32], q: u32, e: u32, s: u32) -> Writer
     differ.emit(table, kind::XOR, q + 13, q + 12, 0)
 }
 
-// Which decides: the medians, by wires e and s, the lower grade or the upper one.
+// Which comparison decides: that of the medians, with the result at wires e and s, of the lower grade, or of the
+// upper one. The other wires are explained at the parts above.
 fn resolve(
     w: Writer,
     table: &mut [u32],
@@ -183,7 +186,8 @@ fn resolve(
     answer(lower, table, q, e, s)
 }
 
-// What the comparisons and sums from wire m on, of words a and u of the first key, decide.
+// Resolves the comparisons and carries from wire m on. The first key's chosen words are at a and u; `span` is the
+// number of gates of one comparison.
 fn resolve_at(
     w: Writer,
     table: &mut [u32],
@@ -216,7 +220,8 @@ fn resolve_at(
     resolve(w, table, e, s, e1, s1, e2, s2, left, right, f, g)
 }
 
-// All of it, with the medians' wires e and s.
+// The whole comparison of the keys at x and y. Wires e and s compare the medians; `bit` is 1 if the number of ballots
+// is odd.
 pub(crate) fn tie_break(
     w: Writer,
     table: &mut [u32],

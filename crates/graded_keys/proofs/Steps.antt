@@ -1,4 +1,4 @@
--- Loops that write the blocks of a contest: one piece, and what is left.
+-- Loops that write the blocks of a contest: one piece, and the pieces left.
 -- Assumes nothing.
 use mathlib.Core.Path.{_≡_, _∙_, refl, sym, ap, subst}
 use mathlib.Core.List.{[], _∷_, _++_}
@@ -40,7 +40,7 @@ pub first-none : (n f x y u v r t : ℕ) → t ≤ 0 → firstWords n f x y u v 
 unfolding firstWords
 first-none n f x y u v r t h = let e : t ≡ 0 = omega arith in rw e
 
--- one digit more of a comparison of medians, and those above it
+-- one more digit of the comparison of two medians, and the digits above it
 pub later-step : (n x y d m e s w : ℕ) → 0 < w
     → laterDigits n x y d m e s w ≡ nextDigit n x y d m e s
     ++ laterDigits (differAt n m + 3) (x + d) (y + d) (d + d) (m / 2) (differAt n m + 1) (differAt n m + 2) (w - 1)
@@ -71,24 +71,24 @@ unfolding largerEnd
 larger-several end s zero h = absurd (h refl)
 larger-several end s (suc w) h = refl
 
--- digits above the lowest one have gates
+-- a comparison of more than one digit has at least four gates
 pub some-later : (m w : ℕ) → (w ≡ 0 → ⊥) → 4 ≤ onesSpan m w
 some-later m zero h = absurd (h refl)
 some-later m (suc w) h = omega (arith, ones-span m (suc w), later-span-step (m / 2) (suc w) (omega arith))
 
--- of some wires that do not reach far, two stand close together
+-- if m wires span at most 2,000, their stride is at most 2,000
 pub stride-most : (m d : ℕ) → 0 < m → m * d ≤ 2000 → d ≤ 2000
 stride-most m d some h = omega (arith, one-less m d some)
 
--- one digit or more: there are wires, and half of them fit one digit less
+-- if a digit is left, there are wires, and half of them need one digit less
 pub fits-step : (m w : ℕ) → 0 < w → Fits m w → (0 < m) × Fits (m / 2) (w - 1)
 fits-step m w h f = let g = subst (Fits m) (count-down w h) f in (fits-some m (w - 1) g, fits-half m (w - 1) g)
 
--- fewer of them end no later
+-- fewer entries of the same size take no more room
 pub fewer : (t c k : ℕ) → t ≤ c → t * k ≤ c * k
 fewer t c k h = mul-le-mul-right {m = t} {n = c} k h
 
--- a product of small numbers
+-- a product of bounded numbers is bounded
 pub product-most : (i k a b : ℕ) → i ≤ a → k ≤ b → i * k ≤ a * b
 product-most i k a b h g = mul-le-mul {n₁ = i} {m₁ = k} {n₂ = a} {m₂ = b} h g
 
@@ -106,7 +106,7 @@ pub right-none : (n v r t : ℕ) → t ≡ 0 → v ≡ rightEnd n v r t
 unfolding rightEnd
 right-none n v r t e = rw e
 
--- the part below the medians, by its cases
+-- the comparison of the sums, case by case
 module _ (p : Plan) (n x y e s digits h t : ℕ) where
   pub tie-break-below-zero : digits ≡ 0 → copyOf e ∷ copyOf s ∷ [] ≡ tieBreakBelow p n x y e s digits h t
   unfolding tieBreakBelow

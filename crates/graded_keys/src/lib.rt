@@ -1,3 +1,3 @@
-// Parts of a contest of two keys: words compared, the number of a median grade, the nearest differences.
+// Parts of a contest of two keys: which median is worse, and the nearest grades at which the keys differ.
 pub mod median;
 pub mod nearest;

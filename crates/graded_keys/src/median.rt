@@ -1,4 +1,5 @@
-// Which of two median grades is worse, by the wires that say which grades each of them is worse than.
+// Which of two median grades is worse. Each has a row of flags that say which grades it is worse than. The number of
+// ones in this row is the number of the median grade.
 use gate_words::choice::chain_end;
 use gate_words::writer::Writer;
 use gates::kind;
@@ -9,7 +10,8 @@ ghost use Rattle.graded_circuit.specs.Median.{digitDifference, differenceSpan, 
 ghost use Rattle.graded_circuit.specs.Median.{compareOnes, onesSpan, onesDiffer, onesLarger};
 ghost use Rattle.graded_keys.specs.inner.Ready.{DigitReady, DigitsReady, EndReady};
 
-// Whether the numbers of ones among so many wires at x and at y differ in their lowest digits.
+// The lowest digits of two numbers of ones, among `many` wires from x and from y on, a step apart, and whether they
+// differ.
 fn digit_difference(w: Writer, table: &mut [u32], x: u32, y: u32, step: u32, many: u32) -> Writer
     requires { ⌜ DigitReady w (differenceSpan many) x y step many ⌝ }
     ensures { λ r. ⌜ Wrote w (now (table .entry)) (digitDifference (w .wire) x y step many) (now (table .exit)) r ⌝ }
@@ -22,7 +24,8 @@ fn digit_difference(w: Writer, table: &mut [u32], x: u32, y: u32, step: u32, man
     second.emit(table, kind::XOR, left, right, 0)
 }
 
-// One digit more, and what it and the digits before say, of which wires e and s say it.
+// Compares one more digit. Wires e and s have the result for the lower digits: whether they differ and, if they do,
+// whether the first number is larger.
 fn next_digit(
     w: Writer,
     table: &mut [u32],
@@ -43,7 +46,7 @@ fn next_digit(
     either.emit(table, kind::CHOICE, q, left, s)
 }
 
-// So many digits more.
+// Compares `digits` more digits. Each takes every second wire of the digit before, from the second on.
 fn later_digits(
     w: Writer,
     table: &mut [u32],
@@ -81,7 +84,7 @@ fn later_digits(
     next
 }
 
-// Both numbers of ones compared in above + 1 digits.
+// Compares the numbers of ones among `count` wires from x and from y on, a stride apart, in above + 1 digits.
 pub fn compare_ones(
     w: Writer,
     table: &mut [u32],
@@ -111,7 +114,8 @@ pub fn compare_ones(
     )
 }
 
-// The wire that says that they differ, of a comparison from wire n to before wire end.
+// The wire that says whether the numbers of ones differ. Their comparison starts at wire n and ends just before wire
+// `end`.
 pub fn ones_differ(n: u32, end: u32, count: u32, above: u32) -> u32
     requires { ⌜ EndReady n end count above ⌝ }
     ensures { λ r. ⌜ r ≡ onesDiffer n count above ⌝ }
@@ -122,7 +126,7 @@ pub fn ones_differ(n: u32, end: u32, count: u32, above: u32) -> u32
     end - 2
 }
 
-// The wire that says that the first one is larger.
+// The wire that says, if they differ, whether the number of ones at x is larger.
 pub fn ones_larger(n: u32, end: u32, x: u32, count: u32, above: u32) -> u32
     requires { ⌜ EndReady n end count above ⌝ }
     ensures { λ r. ⌜ r ≡ onesLarger n x count above ⌝ }

@@ -1,5 +1,5 @@
-// The words of two keys at the grades nearest to the median at which they differ. Words have `above` digits above the
-// lowest.
+// Chooses the words of two keys at the grades nearest to the median at which they differ. A word has above + 1
+// digits.
 use gate_words::halves::unequal_at;
 use gate_words::writer::Writer;
 use gates::kind;
@@ -11,8 +11,8 @@ ghost use Rattle.graded_circuit.specs.Nearest.{sideFlags, sides, either, either
 ghost use Rattle.graded_circuit.specs.Nearest.{leftEnd, rightEnd};
 ghost use Rattle.graded_keys.specs.inner.Nearest.{SideReady, SidesReady, EitherReady, LastReady, FirstReady};
 
-// For one grade: whether the words, whose highest `high` digits are handled separately, differ on either side of the
-// median.
+// Two flags for one grade: the words differ and the grade is below the median; they differ and it is not. The `high`
+// highest digits of a word are the high half.
 fn side_flags(w: Writer, table: &mut [u32], x: u32, y: u32, above: u32, high: u32) -> Writer
     requires { ⌜ SideReady w x y above high ⌝ }
     ensures { λ r. ⌜ Wrote w (now (table .entry)) (sideFlags (w .wire) x y above high) (now (table .exit)) r ⌝ }
@@ -23,7 +23,7 @@ fn side_flags(w: Writer, table: &mut [u32], x: u32, y: u32, above: u32, high: u3
     below.emit(table, kind::XOR, differ, compared.wire, 0)
 }
 
-// For `count` grades.
+// The flags of `count` grades. The words of the first one are at x and y.
 pub fn sides(
     w: Writer,
     table: &mut [u32],
@@ -67,7 +67,8 @@ fn either(
     left.choose(table, f, y, v, above + 1)
 }
 
-// The words of the last of `count` grades whose wire, the first being f, is 1; else those at u and v.
+// The words of the last of `count` grades whose flag is 1, or those at u and v if there is none. The first grade's
+// flag is wire f, and its words are at x and y.
 pub fn last_of(
     w: Writer,
     table: &mut [u32],
@@ -102,7 +103,7 @@ pub fn last_of(
     next
 }
 
-// The words of the first such grade.
+// The words of the first such grade: the grades are visited from the last to the first.
 pub fn first_of(
     w: Writer,
     table: &mut [u32],
@@ -142,7 +143,7 @@ pub fn first_of(
     next
 }
 
-// Where the chosen words are.
+// The wire at which the chosen word of the first key starts; u itself if there is no grade to choose from.
 pub fn left_end(n: u32, u: u32, above: u32, count: u32) -> u32
     requires { ⌜ (n + count * eitherSpan above < writerLimit) × (above ≤ 7) × (count ≤ 6) ⌝ }
     ensures { λ r. ⌜ r ≡ leftEnd n u above count ⌝ }
@@ -153,6 +154,7 @@ pub fn left_end(n: u32, u: u32, above: u32, count: u32) -> u32
     n + (count - 1) * (2 * above + 2)
 }
 
+// The same for the second key, with v.
 pub fn right_end(n: u32, v: u32, above: u32, count: u32) -> u32
     requires { ⌜ (n + count * eitherSpan above < writerLimit) × (above ≤ 7) × (count ≤ 6) ⌝ }
     ensures { λ r. ⌜ r ≡ rightEnd n v above count ⌝ }

@@ -20,7 +20,7 @@ use Rattle.graded_circuit.proofs.BoundLaws.{merge-few, candidate-small}
 use Rattle.graded_circuit.proofs.CandidateBlocks.{candidate-span}
 use Rattle.basics.proofs.Cases.{below-or-not}
 
--- below the medians
+-- the comparison of the sums
 pub tie-break-below-none : (r t : ℕ) → r ≡ 0 → tieBreakBelowSpan r t ≡ 0
 unfolding tieBreakBelowSpan
 tie-break-below-none r t e = rw e
@@ -50,7 +50,7 @@ tie-break-below-more (suc r) (suc t) h z =
     span : tieBreakBelowSpan (suc r) (suc t) ≡ t * sideSpan r + t * eitherSpan r + t * eitherSpan r + (6 * r + 2 + 2 * reachSpan r) + 14
     span = unfold tieBreakBelowSpan in (omega arith)
 
--- a digit of the medians' comparison, and the digits left
+-- one digit of the comparison of the medians, and the digits left
 pub later-turn : (m w : ℕ) → 0 < w → Fits m w → Fits (m / 2) (w - 1) × (laterSpan m w ≡ 2 * m + 1 + laterSpan (m / 2) (w - 1))
 later-turn m zero h f = absurd (omega arith)
 later-turn m (suc w) h f =
@@ -65,7 +65,7 @@ unfolding laterSpan
 later-none m zero h = refl
 later-none m (suc w) h = absurd (omega arith)
 
--- the levels
+-- the levels of merges
 module _ (p : Plan) where
   pub pair-one : (m : ℕ) → m ≤ 1 → levelsSpan p 1 m ≡ 0
   pair-one m h = span-one p 0 m h
@@ -99,7 +99,7 @@ module _ (p : Plan) where
         (λ (l : m ≤ 1). omega (arith, four-one m l))
         (below-or-not 1 m)
 
-    -- a candidate's parts
+    -- a candidate's parts have at most 35,000 gates
     pub parts-small : (p .grades - 3) * p .ballots + (p .grades - 2) * sumSize p + worstSize p + keySpan p ≤ 35000
     parts-small = omega (arith, candidate-span p, candidate-small p f)
 

@@ -1,4 +1,4 @@
-// The span of a candidate's circuit.
+// The span of a candidate's circuit. A span is a number of gates.
 use gate_adders::counter::count_size;
 use graded_circuit::plan::Plan;
 ghost use mathlib.Core.Path.{_≡_};
@@ -6,7 +6,7 @@ ghost use Prim.Native.Nat.{_-_, _*_};
 ghost use Rattle.graded_circuit.specs.Plan.{Planned};
 ghost use Rattle.graded_circuit.specs.Key.{candidateSpan};
 
-// A row for each grade but the best and the two worst.
+// The span of the rows: one for each grade but the best and the two worst.
 fn rows_span(p: Plan) -> u32
     requires { ⌜ Planned p ⌝ }
     ensures { λ r. ⌜ r ≡ (p .grades - 3) * p .ballots ⌝ }
@@ -17,7 +17,7 @@ fn rows_span(p: Plan) -> u32
     (p.grades - 3) * p.ballots
 }
 
-// The rows, the levels of a sum for each grade but the worst, and the key, a word for each of these grades.
+// The rows, the levels of a sum for each grade but the worst, and the key, with a word for each of these grades.
 pub(crate) fn candidate_span(p: Plan) -> u32
     requires { ⌜ Planned p ⌝ }
     ensures { λ r. ⌜ r ≡ candidateSpan p ⌝ }

@@ -1,4 +1,4 @@
-// The span of a contest.
+// The span of a contest. A span is a number of gates.
 use graded_circuit::plan::Plan;
 ghost use mathlib.Core.Path.{_≡_};
 ghost use Prim.Native.Nat.{_-_, _≤_, _<_};
@@ -8,8 +8,8 @@ ghost use Rattle.graded_circuit.specs.Median.{onesSpan};
 ghost use Rattle.graded_circuit.specs.Contest.{tieBreakBelowSpan, contestSpan};
 ghost use Rattle.graded_size.specs.inner.Ready.{MediansReady, BelowReady};
 
-// The number of gates that compare two median grades' numbers in above + 1 digits: of each digit both sums modulo 2 and
-// whether they differ, and, but for the lowest, two gates more.
+// The comparison of two medians in above + 1 digits. Each digit takes two sums modulo 2 and a gate for whether they
+// differ. Each digit but the lowest takes two gates more.
 fn medians_span(count: u32, above: u32) -> u32
     requires { ⌜ MediansReady count above ⌝ }
     ensures { λ r. ⌜ r ≡ onesSpan count above ⌝ }
@@ -25,8 +25,8 @@ fn medians_span(count: u32, above: u32) -> u32
     gates
 }
 
-// Whether two words of `digits` digits reach a limit: one gate for one digit. Else the low half takes two gates a
-// digit less one, and the high half three a digit less one.
+// The carry out of two words of `digits` digits. A single digit takes one gate. Otherwise the low half takes 2 gates
+// a digit, less 1, and the high half 3 gates a digit, less 1.
 fn reach_span(digits: u32) -> u32
     requires { ⌜ (0 < digits) × (digits ≤ 7) ⌝ }
     ensures { λ r. ⌜ r ≡ reachSpan (digits - 1) ⌝ }
@@ -38,9 +38,9 @@ fn reach_span(digits: u32) -> u32
     2 * low + 3 * (digits - 2 - low) + 3
 }
 
-// What comes between the medians' comparison and the result: nothing without a low digit; for two grades, three gates
-// a digit less two. Else each grade between the first and the last takes two a digit and one for its side, and four a
-// digit for two choices; the chosen words are compared and tested twice to reach n, and fourteen gates follow.
+// The comparison of the sums, without the result: nothing without low digits; one comparison for two grades.
+// Otherwise each grade between the first and the last takes 2 gates a digit and 1 for its flags, and 4 a digit for
+// two choices. The chosen words take two comparisons and two carries, and 14 gates follow.
 fn tie_break_below_span(digits: u32, grades: u32) -> u32
     requires { ⌜ BelowReady digits grades ⌝ }
     ensures { λ r. ⌜ r ≡ tieBreakBelowSpan digits (grades - 2) ⌝ }
@@ -54,10 +54,10 @@ fn tie_break_below_span(digits: u32, grades: u32) -> u32
     (grades - 3) * (6 * digits + 1) + 6 * digits + 2 * reach_span(digits) + 10
 }
 
-// The gates that say whether the keys differ, and which comes first.
+// The two gates that say whether the keys differ, and which comes first.
 const RESULT: u32 = 2;
 
-// The comparison of both medians, what is below them, and the result.
+// The comparison of the medians, that of the sums, and the result.
 pub(crate) fn contest_span(p: Plan) -> u32
     requires { ⌜ Planned p ⌝ }
     ensures { λ r. ⌜ r ≡ contestSpan p ⌝ }

@@ -1,5 +1,5 @@
-// How many gates the own list of a graded shape has, without writing it. The definitions say where the parts of the
-// circuit are by their spans, so they have these numbers already: a candidate's circuit, a contest, and the levels.
+// The number of gates of the own list of a graded shape, without writing it: the spans of its parts are added up. A
+// span is a number of gates.
 mod candidate;
 mod contest;
 pub mod list;

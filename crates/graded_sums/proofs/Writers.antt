@@ -1,4 +1,4 @@
--- Numbers of a plan that do not wrap, and the parts of a candidate's circuit grade by grade.
+-- The numbers of a plan do not wrap; and the parts of a candidate's circuit, grade by grade.
 -- Assumes nothing.
 use mathlib.Core.Path.{_≡_, _∙_, refl, sym, ap}
 use mathlib.Core.List.{List, [], _++_}
@@ -22,7 +22,7 @@ less-power : (r : ℕ) → r < 2 ^ r
 less-power zero = omega arith
 less-power (suc r) = omega (arith, less-power r, pow-succ' 2 r)
 
--- what a sum counts, case by case
+-- the bits that a sum counts, case by case
 pub first-row : (p : Plan) (n c g : ℕ) → g ≡ 0 → rowAt p n c g ≡ bitsAt p c 0
 unfolding rowAt
 first-row p n c g e = rw e
@@ -41,7 +41,7 @@ unfolding rowStride
 later-apart p zero h = absurd (h refl)
 later-apart p (suc g) h = refl
 
--- one turn: a grade, and the grades left
+-- one turn: a grade, and the grades that are left
 module _ (p : Plan) (n c : ℕ) where
   pub rows-turn : (g : ℕ) → g + 3 < p .grades
       → rows p n c g (p .grades - 3 - g)

@@ -16,7 +16,7 @@ ghost use Rattle.graded_circuit.specs.RunningSums.{rowAt};
 ghost use Rattle.graded_circuit.specs.Key.{keyWords, worstWord, candidate, candidateSpan};
 ghost use Rattle.graded_sums.specs.inner.Ready.{PartReady, WordReady, WordsReady, WorstReady};
 
-// What the key has for grade g, whose levels start at wire base. The rows start at wire n.
+// The key's word of grade g, whose levels start at wire `base`. The rows of candidate c start at wire n.
 fn key_word(w: Writer, table: &mut [u32], p: Plan, n: u32, base: u32, c: u32, g: u32) -> Writer
     requires { ⌜ WordReady w p n base c g ⌝ }
     ensures { λ r. ⌜
@@ -38,7 +38,7 @@ fn key_word(w: Writer, table: &mut [u32], p: Plan, n: u32, base: u32, c: u32, g:
     )
 }
 
-// What it has for all grades but the two worst; the first one's levels start at wire m.
+// The key's words of all grades but the two worst. The levels of the best grade start at wire m.
 fn key_words(w: Writer, table: &mut [u32], p: Plan, n: u32, m: u32, c: u32) -> Writer
     requires { ⌜ WordsReady w p n m c ⌝ }
     ensures { λ r. ⌜ Wrote w (now (table .entry)) (keyWords p n m c 0 (p .grades - 2)) (now (table .exit)) r ⌝ }
@@ -55,7 +55,7 @@ fn key_words(w: Writer, table: &mut [u32], p: Plan, n: u32, m: u32, c: u32) -> W
     next
 }
 
-// What it has for the second worst grade: the opposite of what the worst grade's count says.
+// The key's word of the second worst grade: the worst grade's count, whose levels start at wire `base`, complemented.
 fn worst_word(w: Writer, table: &mut [u32], p: Plan, base: u32, c: u32) -> Writer
     requires { ⌜ WorstReady w p base c ⌝ }
     ensures { λ r. ⌜ Wrote w (now (table .entry)) (worstWord p base c) (now (table .exit)) r ⌝ }
@@ -74,7 +74,7 @@ fn worst_word(w: Writer, table: &mut [u32], p: Plan, base: u32, c: u32) -> Write
     )
 }
 
-// The circuit of candidate c: the rows, the levels of all sums, and its key.
+// The circuit of candidate c: the rows, the levels of all sums, then the key.
 pub fn candidate(w: Writer, table: &mut [u32], p: Plan, c: u32) -> Writer
     requires { ⌜ PartReady w p (w .wire) c (candidateSpan p) ⌝ }
     ensures { λ r. ⌜ Wrote w (now (table .entry)) (candidate p (w .wire) c) (now (table .exit)) r ⌝ }

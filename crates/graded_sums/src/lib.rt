@@ -1,3 +1,3 @@
-// The circuit of one candidate, written into a table.
+// Writes the circuit of one candidate into a table.
 pub mod key;
 mod sums;

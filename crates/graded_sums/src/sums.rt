@@ -1,4 +1,4 @@
-// The running sums of one candidate's grade counts.
+// The running sums of one candidate: rows of bits, and the levels of adders that count them.
 use gate_adders::counter::count_levels;
 use gate_words::writer::Writer;
 use graded_circuit::plan::Plan;
@@ -11,7 +11,7 @@ ghost use Rattle.graded_circuit.specs.Plan.{Planned, bitsAt, ballotStride};
 ghost use Rattle.graded_circuit.specs.RunningSums.{sumSize, worstSize, rowAt, rowStride, rows, allLevels, worstLevels};
 ghost use Rattle.graded_sums.specs.inner.Ready.{GradeOf, RowOf, PartReady, GradeReady, GradesReady};
 
-// The first of a candidate's bits of a grade.
+// The wire of candidate c's bit of grade g in the first ballot.
 pub(crate) fn bits_at(p: Plan, c: u32, g: u32) -> u32
     requires { ⌜ GradeOf p c g ⌝ }
     ensures { λ r. ⌜ r ≡ bitsAt p c g ⌝ }
@@ -19,7 +19,7 @@ pub(crate) fn bits_at(p: Plan, c: u32, g: u32) -> u32
     c * p.grades + g
 }
 
-// How far apart they are.
+// How far such bits are apart: the next one is in the next ballot.
 fn apart(p: Plan) -> u32
     requires { ⌜ Planned p ⌝ }
     ensures { λ r. ⌜ r ≡ ballotStride p ⌝ }
@@ -27,7 +27,8 @@ fn apart(p: Plan) -> u32
     p.candidates * p.grades
 }
 
-// What the sum of a grade counts: the best grade's bits, or a row. The rows start at wire n.
+// The first bit that the sum of grade g counts: a bit of the ballots for the best grade, otherwise a bit of a row.
+// The rows start at wire n.
 pub(crate) fn row_at(p: Plan, n: u32, c: u32, g: u32) -> u32
     requires { ⌜ RowOf p n c g ⌝ }
     ensures { λ r. ⌜ r ≡ rowAt p n c g ⌝ }
@@ -38,6 +39,7 @@ pub(crate) fn row_at(p: Plan, n: u32, c: u32, g: u32) -> u32
     n + (g - 1) * p.ballots
 }
 
+// How far these bits are apart.
 fn row_apart(p: Plan, g: u32) -> u32
     requires { ⌜ Planned p ⌝ }
     ensures { λ r. ⌜ r ≡ rowStride p g ⌝ }
@@ -48,7 +50,7 @@ fn row_apart(p: Plan, g: u32) -> u32
     1
 }
 
-// The row after that of grade g: it adds the next grade's bits.
+// The row after that of grade g: it adds the next grade's bits, modulo 2.
 fn next_row(w: Writer, table: &mut [u32], p: Plan, n: u32, c: u32, g: u32) -> Writer
     requires { ⌜ GradeReady w p n (w .wire) c g (p .ballots) ⌝ }
     ensures { λ r. ⌜
@@ -95,7 +97,7 @@ fn sum_levels(w: Writer, table: &mut [u32], p: Plan, n: u32, c: u32, g: u32) -> 
     count_levels(w, table, row, step, p.ballots, p.offset, p.digits)
 }
 
-// Those of all grades but the two worst. The rows start at wire n.
+// The levels of the sums of all grades but the two worst. The rows start at wire n.
 pub(crate) fn all_levels(w: Writer, table: &mut [u32], p: Plan, n: u32, c: u32) -> Writer
     requires { ⌜ GradesReady w p n (w .wire) c ((p .grades - 2) * sumSize p) ⌝ }
     ensures { λ r. ⌜
@@ -111,7 +113,7 @@ pub(crate) fn all_levels(w: Writer, table: &mut [u32], p: Plan, n: u32, c: u32) 
     next
 }
 
-// The levels that count the worst grade.
+// The levels that count the worst grade's bits.
 pub(crate) fn worst_levels(w: Writer, table: &mut [u32], p: Plan, c: u32) -> Writer
     requires { ⌜ PartReady w p (w .wire) c (worstSize p) ⌝ }
     ensures { λ r. ⌜ Wrote w (now (table .entry)) (worstLevels p (w .wire) c) (now (table .exit)) r ⌝ }

@@ -1,4 +1,4 @@
--- What the list's writers share: the own list by its cases, and where keys and wires of groups are.
+-- What the writers of the list share: the own list by its cases, and where the keys and wires of groups are.
 -- Assumes nothing.
 use mathlib.Core.Path.{_≡_, _∙_, refl, sym, ap, subst}
 use mathlib.Core.Bool.{Bool, cond}
@@ -40,7 +40,7 @@ pub own-more : (s : Shape) (p : Plan) → p ≡ planOf s → (s .candidates ≡ 
 unfolding ownGrading
 own-more s p e h = ap circuit e ∙ rw (ne-eqb (s .candidates) 1 h)
 
--- what comes after the candidates
+-- the levels of merges, which come after the candidates
 abbrev pub allLevels : Plan → List Gate
 allLevels p =
     levels p lowLevels (levelsAt p) 0 (p .candidates / 2)
@@ -56,11 +56,11 @@ pub circuit-parts : (p : Plan) → candidatesFrom p (p .inputs) 0 (p .candidates
 unfolding circuit
 circuit-parts p = simp append-assoc
 
--- and how long both are
+-- the length of the circuit: the candidates, and the levels
 pub circuit-long : (p : Plan) → Planned p → 1 < p .candidates → length (circuit p) ≡ p .candidates * candidateSpan p + allLevelsSpan p
 circuit-long p f h = omega (arith, circuit-block p f h .long)
 
--- before the first gate of the own list
+-- the writer before the first gate of the own list
 pub first-writer : (s : Shape) (p : Plan) (w : Writer) → p ≡ planOf s → w
     ≡ record { gate = 0; wire = p .inputs; conditional = 0 } → w
     ≡ record { gate = 0; wire = ballotBytes s; conditional = 0 }
@@ -96,7 +96,7 @@ plan-many s p l e h = subst (λ (q : Plan). 1 < q .candidates) (sym e) (two s (w
     two s k h = unfold planOf in (⊎-elim (λ (z : 1 < s .candidates). z)
         (λ (z : s .candidates ≤ 1). absurd (h (omega arith))) (below-or-not 1 (s .candidates)))
 
--- one wire, or many
+-- the first wire, and the others; one candidate, or more
 pub both-step : (at stays i m : ℕ) → i < m → andAll (at + i) stays (m - i) ≡ (andOf (at + i) stays ∷ [])
     ++ andAll (at + (i + 1)) stays (m - (i + 1))
 both-step at stays i m h =
@@ -120,7 +120,7 @@ won-many at stays zero h = absurd (omega arith)
 won-many at stays (suc zero) h = absurd (omega arith)
 won-many at stays (suc (suc m)) h = unfold keepWinners in refl
 
--- the candidates that are left
+-- the next candidate, and those that are left
 pub candidates-step : (p : Plan) (n c k : ℕ) → c < k → candidatesFrom p n c (k - c) ≡ candidate p n c
     ++ candidatesFrom p (n + candidateSpan p) (c + 1) (k - (c + 1))
 candidates-step p n c k h = let e : k - c ≡ suc (k - (c + 1)) = omega arith in ap (candidatesFrom p n c) e ∙ (unfold candidatesFrom in refl)
@@ -129,7 +129,7 @@ pub candidates-none : (p : Plan) (n c k : ℕ) → k ≤ c → candidatesFrom p 
 unfolding candidatesFrom
 candidates-none p n c k h = let e : k - c ≡ 0 = omega arith in rw e
 
--- where the key of a group and its wires are, by the end of its merges
+-- the places of a group's key and wires, from the end of its merges
 module _ (p : Plan) (r n m : ℕ) where
   pub key-is : (c : ℕ) → bestKey p (suc r) n c m ≡ cond (leb m 1) (keyAt p c) (n + levelsSpan p (suc r) m - keySpan p)
   key-is c = ⊎-elim
@@ -152,7 +152,7 @@ module _ (p : Plan) (r n m : ℕ) where
       none : m ≤ 1 → winnerFlags p (suc r) n m ≡ 0
       none l = unfold winnerFlags in (rw (le-leb m 1 l))
 
--- two candidates: no merge before theirs
+-- two candidates have no merges before their own
 pair-parts : (p : Plan) (n c : ℕ) → levels p 0 n c 1 ++ levels p 0 (otherAt p 0 n 2) (c + 1) 1
     ++ halvesMerge p 0 n c 2 ++ halvesBetter p 0 n c 2
     ≡ merge p (n + 0 + 0) (keyAt p c) (keyAt p (c + 1)) 0 0 1 1
@@ -171,7 +171,7 @@ pair-is p n c =
 pub pair-span : (p : Plan) → levelsSpan p 1 2 ≡ mergeSpan p 1 1 + keySpan p
 pair-span p = span-more p 0 2 (omega arith) ∙ (unfold levelsSpan in (omega arith))
 
--- two halves
+-- the place of a group's key, and of its wires, if its merges end just before wire `end`
 abbrev keyBy : Plan → ℕ → ℕ → ℕ → ℕ
 keyBy p c l end = cond (leb l 1) (keyAt p c) (end - keySpan p)
 
@@ -214,7 +214,7 @@ better-same p r n c m q mid end eq em ee =
     ∙ ap (λ (i : ℕ). choose at i (keyBy p (c + l) h (mergeAt p (suc r) n m)) (keySpan p)) (sym (key-is p r n l c))
     ∙ ap (λ (i : ℕ). choose at (bestKey p (suc r) n c l) i (keySpan p)) (sym (key-is p r o h (c + l)))
 
--- a choice by a number that is at most 1, or more
+-- a choice by whether a number is at most 1
 pub small-case : (m x y : ℕ) → m ≤ 1 → x ≡ cond (leb m 1) x y
 small-case m x y h = sym (ap (λ (t : Bool). cond t x y) (le-leb m 1 h))
 
@@ -226,7 +226,7 @@ unfolding andAll
 length-both at stays zero = refl
 length-both at stays (suc m) = ap suc (length-both (at + 1) stays m)
 
--- the place of a candidate's key, counted from its circuit's end
+-- the place of a candidate's key, from the end of its circuit
 pub key-from : (p : Plan) (c span : ℕ) → span ≡ candidateSpan p → p .inputs + (c + 1) * span ≡ keyAt p c + keySpan p
 key-from p c span e =
     omega (
@@ -237,7 +237,7 @@ key-from p c span e =
       key-of p (p .inputs + c * candidateSpan p),
     )
 
--- a group of more than one has its wires and its key
+-- the merges of two or more candidates end with their wires and their key
 pub span-least : (p : Plan) (r m : ℕ) → 1 < m → m + keySpan p ≤ levelsSpan p (suc r) m
 span-least p r m h = omega (arith, span-more p r m h)
 
@@ -252,7 +252,7 @@ module _ (p : Plan) (f : Planned p) where
   pub won-below : (l end n : ℕ) → end ≤ n → (1 < l → l + keySpan p ≤ end) → 1 < l → cond (leb l 1) 0 (end - keySpan p - l) + l ≤ n
   won-below l end n he k z = let q = k z in omega (arith, large-case l 0 (end - keySpan p - l) z)
 
--- a number of equal spans, divided by how many there are
+-- the span of one candidate is the span of all, divided by their number
 pub divided : (wire inputs k span : ℕ) → 0 < k → wire ≡ inputs + k * span → (wire - inputs) / k ≡ span
 divided wire inputs k span h e =
     let whole : wire - inputs ≡ span * k = omega (arith, mul-comm k span) in

@@ -1,3 +1,3 @@
-// The own list of a shape, written into a table.
+// Writes the own list of a graded shape into a table.
 pub mod list;
 mod merge;

@@ -1,4 +1,4 @@
-// The own list of a shape.
+// Writes the own list of a graded shape.
 use crate::merge::better;
 use crate::merge::key_span;
 use crate::merge::merge;
@@ -38,7 +38,7 @@ fn candidates(w: Writer, table: &mut [u32], p: Plan) -> Writer
     next
 }
 
-// Where the key of candidate c is; a candidate's circuit has `span` gates.
+// The wire at which candidate c's key starts. A candidate's circuit has `span` gates and ends with the key.
 fn key_at(p: Plan, span: u32, c: u32) -> u32
     requires { ⌜ KeyAtReady p span c ⌝ }
     ensures { λ r. ⌜ r ≡ keyAt p c ⌝ }
@@ -46,7 +46,8 @@ fn key_at(p: Plan, span: u32, c: u32) -> u32
     p.inputs + (c + 1) * span - key_span(p)
 }
 
-// The key of the best of `count` candidates from candidate c on, whose merges end before wire `end`.
+// The wire at which the key of the best of `count` candidates from candidate c on starts, if their merges end just
+// before wire `end`.
 fn best_key(p: Plan, span: u32, c: u32, count: u32, end: u32) -> u32
     requires { ⌜ BestReady p span c count end ⌝ }
     ensures { λ r. ⌜ r ≡ cond (leb count 1) (keyAt p c) (end - keySpan p) ⌝ }
@@ -57,7 +58,7 @@ fn best_key(p: Plan, span: u32, c: u32, count: u32, end: u32) -> u32
     end - key_span(p)
 }
 
-// The wires of these candidates.
+// The first of these candidates' wires. A single candidate has none; the answer is then 0, and nothing uses it.
 fn winner_flags(p: Plan, count: u32, end: u32) -> u32
     requires { ⌜ WinnersReady p count end ⌝ }
     ensures { λ r. ⌜ r ≡ cond (leb count 1) 0 (end - keySpan p - count) ⌝ }
@@ -82,8 +83,8 @@ fn pair(w: Writer, table: &mut [u32], p: Plan, span: u32, c: u32, count: u32) ->
     better(met, table, p, met.wire - 8, x, y)
 }
 
-// The merge of the best of `first` candidates from candidate c on with the best of the `second` ones after them: their
-// own merges end before the wires `middle` and the writer's.
+// Merges the best of the `first` candidates from candidate c on with the best of the `second` ones after them. Their
+// own merges end just before wire `middle`, and just before the writer's wire.
 fn halves(
     w: Writer,
     table: &mut [u32],
@@ -153,7 +154,7 @@ fn all_levels(all: Writer, table: &mut [u32], p: Plan, span: u32) -> Writer
     halves(high, table, p, span, 0, first, second, low.wire)
 }
 
-// The candidates, and all levels.
+// The circuits of all candidates, then all levels of merges.
 fn circuit(w: Writer, table: &mut [u32], p: Plan) -> Writer
     requires { ⌜ CircuitReady w p ⌝ }
     ensures { λ r. ⌜ Wrote w (now (table .entry)) (circuit p) (now (table .exit)) r ⌝ }
@@ -163,8 +164,8 @@ fn circuit(w: Writer, table: &mut [u32], p: Plan) -> Writer
     all_levels(all, table, p, span)
 }
 
-// Writes the own list of a shape from the table's first number on, as far as the table goes. The writer says how many
-// gates the list has, and how many of them are conditional, whatever the table.
+// Writes the own list of a shape from the table's first number on, as far as there is room. The writer that it
+// returns has counted all gates and all conditional ones, even if the table is too short.
 pub fn own_list(shape: Shape, table: &mut [u32]) -> Writer
     requires { ⌜ T (gradedLimits shape) ⌝ }
     ensures { λ r. ⌜

@@ -1,4 +1,4 @@
-// Two groups of candidates are merged.
+// Merges two groups of candidates.
 use gate_words::writer::Writer;
 use gates::kind;
 use graded_circuit::plan::Plan;
@@ -13,7 +13,7 @@ ghost use Rattle.graded_circuit.specs.Merge.{andAll, keepWinners, selectFlags, 
 ghost use Rattle.gate_words.specs.inner.Ready.{WordReady};
 ghost use Rattle.graded_writer.specs.inner.Ready.{KeepReady, SelectReady, MergeReady, BetterReady};
 
-// Each of `count` wires from `at` on, and the wire `stays`.
+// Each of `count` wires from `at` on, joined with wire `stays` by "and".
 fn and_all(w: Writer, table: &mut [u32], at: u32, stays: u32, count: u32) -> Writer
     requires { ⌜ WordReady w count at count ⌝ }
     ensures { λ r. ⌜ Wrote w (now (table .entry)) (andAll at stays count) (now (table .exit)) r ⌝ }
@@ -27,7 +27,8 @@ fn and_all(w: Writer, table: &mut [u32], at: u32, stays: u32, count: u32) -> Wri
     next
 }
 
-// Who of a group of `count` candidates stays.
+// The wires of a group's `count` candidates after a merge. Before it they start at `at`; a single candidate has none.
+// Wire `stays` says whether the group's best still is the best.
 fn keep_winners(w: Writer, table: &mut [u32], at: u32, stays: u32, count: u32) -> Writer
     requires { ⌜ KeepReady w at count ⌝ }
     ensures { λ r. ⌜ Wrote w (now (table .entry)) (keepWinners at stays count) (now (table .exit)) r ⌝ }
@@ -38,7 +39,7 @@ fn keep_winners(w: Writer, table: &mut [u32], at: u32, stays: u32, count: u32) -
     and_all(w, table, at, stays, count)
 }
 
-// Who comes first and which group stays, after a contest whose result is at q.
+// Which group is better, and which group stays, after a contest with its result at wires q and q + 1.
 fn select_flags(w: Writer, table: &mut [u32], q: u32) -> Writer
     requires { ⌜ SelectReady w q ⌝ }
     ensures { λ r. ⌜ Wrote w (now (table .entry)) (selectFlags q) (now (table .exit)) r ⌝ }
@@ -49,7 +50,8 @@ fn select_flags(w: Writer, table: &mut [u32], q: u32) -> Writer
     left.emit(table, kind::NOT, q + 2, 0, 0)
 }
 
-// How many digits of two keys' words are handled separately: half of them, if a key was chosen.
+// How many digits of the keys' words are the high half, if two groups of `both` candidates together are merged: half
+// of them, if one of the keys was chosen.
 fn high_digits(p: Plan, both: u32) -> u32
     ensures { λ r. ⌜ r ≡ highDigits p both ⌝ }
 {
@@ -59,7 +61,7 @@ fn high_digits(p: Plan, both: u32) -> u32
     p.digits / 2
 }
 
-// The merge of groups of l and m candidates with keys x and y and wires at u and v.
+// The merge of groups of l and m candidates, with keys at x and y, whose wires start at u and v.
 pub(crate) fn merge(
     w: Writer,
     table: &mut [u32],
@@ -81,7 +83,7 @@ pub(crate) fn merge(
     keep_winners(first, table, v, q + 5, m)
 }
 
-// The better of two keys, by a contest whose result is at q.
+// The better of the keys at x and y, by a contest with its result at wires q and q + 1.
 pub(crate) fn better(w: Writer, table: &mut [u32], p: Plan, q: u32, x: u32, y: u32) -> Writer
     requires { ⌜ BetterReady w p q x y ⌝ }
     ensures { λ r. ⌜ Wrote w (now (table .entry)) (choose (q + 1) x y (keySpan p)) (now (table .exit)) r ⌝ }

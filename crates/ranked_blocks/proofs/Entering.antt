@@ -1,4 +1,4 @@
--- The entries of the tables, as they are written: numbers and places, stages, and what is kept.
+-- The blocks of the tables, as they are written: numbers and places, stages, and what is kept.
 -- Assumes nothing.
 use mathlib.Core.Path.{_≡_, _∙_, refl, sym, ap}
 use mathlib.Core.Bool.{Bool, true, false, cond, _&&_, _||_, not}
@@ -24,14 +24,14 @@ use Rattle.ranked_circuit.proofs.TableLaws.{row-low, column-low, number-of}
 use Rattle.ranked_circuit.proofs.StageLaws.{apart-all, stagePad, stage-length}
 use Rattle.ranked_blocks.specs.Ranked.{keepLinks}
 
--- the number of each two candidates is small
+-- at most eight candidates have at most 64 places
 pub square-small : (k : ℕ) → k ≤ 8 → k * k ≤ 64
 square-small k h = mul-le-mul {n₁ = k} {m₁ = k} {n₂ = 8} {m₂ = 8} h h
 
 pub index-small : (k i j : ℕ) → k ≤ 8 → i < k → j < k → i * k + j < 64
 index-small k i j h hi hj = omega (arith, row-within i k k hi, square-small k h)
 
--- row and column of number e
+-- The row and the column of block e are below k.
 pub record Place (k e : ℕ) : Type 0 where
   pub row : e / k < k
   pub column : e % k < k
@@ -41,7 +41,7 @@ pub record Place (k e : ℕ) : Type 0 where
 pub place : (k e : ℕ) → k ≤ 8 → e < k * k → Place k e
 place k e h l = record { row = row-low k e l; column = column-low k e l; number = number-of k e; small = omega (arith, square-small k h) }
 
--- stages
+-- which words a stage leaves
 pub diagonal-stays : (m i j : ℕ) → i ≡ j → stays m i j ≡ true
 unfolding stays
 diagonal-stays zero i j e = or-second (not (eqb i 0 || eqb j 0)) (eqb i j) (eq-eqb i j e)
@@ -77,7 +77,7 @@ column-stays m i j n ne r = later-stays m i j n ∙ rw (ne-eqb i (m - 1) r, ne-e
     only true = refl
     only false = refl
 
--- the words of a stage that moves them
+-- if a detour changes the word of i and j, it goes over neither
 pub apart-later : (m i j : ℕ) → m ≢ 0 → stays m i j ≡ false → (i ≢ m - 1) × (j ≢ m - 1) × (i ≢ j)
 apart-later zero i j n e = absurd (n refl)
 apart-later (suc l) i j n e = let q : suc l - 1 ≡ l = omega arith in rw q (apart-all l i j e)
@@ -117,7 +117,7 @@ module _ (links words : ℕ → ℕ → ℕ) (w h at i j : ℕ) where
         pads (suc zero) n p = absurd (p refl)
         pads (suc (suc l)) n p = unfold stagePad in (omega arith)
 
-    -- at least a word
+    -- the block has at least as many gates as a word
     pub long-word : (m : ℕ) → suc w ≤ length (newWord links words w h m at i j)
     long-word m = omega (arith, stage-length links words w h m at i j q)
 
@@ -130,7 +130,7 @@ module _ (k : ℕ) (links words : ℕ → ℕ → ℕ) (w at i j : ℕ) where
   unfolding pathBlock
   path-moved m e = sym (ap (λ (c : Bool). cond c [] (newWord links words w (cutAt k w m i j) m at i j)) e)
 
--- where a word is cut
+-- how many digits are the high half, case by case
 module _ (k w m i j : ℕ) where
   pub cut-last : k - 1 ≤ m → cutAt k w m i j ≡ 0
   unfolding cutAt
@@ -149,7 +149,7 @@ module _ (k w m i j : ℕ) where
     unfolding cutAt
     cut-none n p = rw (lt-ltb m (k - 1) l, ne-eqb i m n, ne-eqb j m p)
 
--- counters
+-- the block of a counter, case by case
 module _ (k n w at i j : ℕ) where
   pub votes-kept : i ≡ j → [] ≡ votesBlock k n w at i j
   unfolding votesBlock
@@ -160,7 +160,7 @@ module _ (k n w at i j : ℕ) where
   votes-moved e q ne = ap (λ (x : ℕ). counter at x (k * k) n 0 w) (sym q)
       ∙ sym (ap (λ (c : Bool). cond c [] (counter at (i * k + j) (k * k) n 0 w)) (ne-eqb i j ne))
 
--- blocks once for two candidates: none unless the row is the later one and has blocks
+-- one block for each pair of candidates: there is none unless the row is the later candidate's and has blocks
 pub not-later : (rows : ℕ → Bool) (i j : ℕ) → i ≤ j → (ltb j i && rows i) ≡ false
 not-later rows i j l = ap (λ (c : Bool). c && rows i) (le-ltb j i l)
 
@@ -174,7 +174,7 @@ no-row rows i j e = ap (λ (c : Bool). ltb j i && c) e ∙ none (ltb j i)
 pub a-row : (rows : ℕ → Bool) (i j : ℕ) → j < i → rows i ≡ true → (ltb j i && rows i) ≡ true
 a-row rows i j l e = and-both (ltb j i) (rows i) (lt-ltb j i l) e
 
--- the wires about them are kept
+-- which wires about two candidates are kept, case by case
 pub same-links : (rows : ℕ → Bool) (ls : List ℕ) (k i j wire : ℕ) → (ltb j i && rows i) ≡ false → ls ≡ keepLinks rows ls k i j wire
 same-links rows ls k i j wire e = sym (ap (λ (t : Bool). cond t (set (set ls (i * k + j) (wire - 2)) (j * k + i) (wire - 1)) ls) e)
 
@@ -182,7 +182,7 @@ pub new-links : (rows : ℕ → Bool) (ls : List ℕ) (k i j wire : ℕ) → (lt
     → set (set ls (i * k + j) (wire - 2)) (j * k + i) (wire - 1) ≡ keepLinks rows ls k i j wire
 new-links rows ls k i j wire e = sym (ap (λ (t : Bool). cond t (set (set ls (i * k + j) (wire - 2)) (j * k + i) (wire - 1)) ls) e)
 
--- comparisons
+-- the block of a comparison, case by case
 module _ (first : ℕ) (words : ℕ → ℕ → ℕ) (w at i j : ℕ) where
   pub links-kept : (ltb j i && leb first i) ≡ false → [] ≡ linksBlock first words w at i j
   unfolding linksBlock laterOf
@@ -196,7 +196,7 @@ module _ (first : ℕ) (words : ℕ → ℕ → ℕ) (w at i j : ℕ) where
   pub links-long : (ltb j i && leb first i) ≡ true → length (linksBlock first words w at i j) ≡ 3 + 3 * w
   links-long e = ap length (sym (links-moved e (words i j) (words j i) refl refl)) ∙ length-whole at (words i j) (words j i) w
 
--- meetings
+-- the block of a meeting, case by case
 module _ (l : ℕ) (words met : ℕ → ℕ → ℕ) (w at i j : ℕ) where
   pub meetings-kept : (ltb j i && ltb i l) ≡ false → [] ≡ meetingsBlock l words met w at i j
   unfolding meetingsBlock laterOf
@@ -212,7 +212,7 @@ module _ (l : ℕ) (words met : ℕ → ℕ → ℕ) (w at i j : ℕ) where
   pub meetings-long : (ltb j i && ltb i l) ≡ true → length (meetingsBlock l words met w at i j) ≡ 10 * w + 14
   meetings-long e = ap length (sym (meetings-moved e)) ∙ meeting-long
 
--- what is kept: a test that holds leaves everything as it was
+-- if the test holds, nothing that is kept changes
 pub keeps : {A : Type 0} (t : Bool) (a b : A) → t ≡ true → a ≡ cond t a b
 keeps t a b e = sym (ap (λ (c : Bool). cond c a b) e)
 

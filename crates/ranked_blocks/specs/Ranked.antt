@@ -1,4 +1,4 @@
--- The public numbers that a ranked tasting's own list is written with, and where its words are.
+-- The public numbers from which a ranked tasting's own list is written, and what is kept for each pair of candidates.
 use mathlib.Core.Bool.{Bool, cond, _&&_}
 use mathlib.Core.Logic.{_≢_}
 use mathlib.Core.List.{List}
@@ -21,16 +21,16 @@ pub record Ranked (p : Ranks) : Type 0 where
 abbrev pub keptOf : List ℕ → ℕ → ℕ → ℕ → ℕ
 keptOf wires k i j = getD wires (i * k + j) 0
 
--- Such wires after x is kept for number e too, unless it stays as it was.
+-- The kept wires after block e: x is kept at place e, unless `stays` says that nothing changes.
 abbrev pub keep : Bool → List ℕ → ℕ → ℕ → List ℕ
 keep stays wires e x = cond stays wires (set wires e x)
 
--- After the block of i and an earlier j, in one of these rows, which ends before `wire`: its last wire but one says
--- that i is above, its last that it is below.
+-- The kept wires after the block of i and j, which ends just before `wire`. If j is earlier than i and `rows` holds
+-- for i, there is such a block: its last wire but one is kept for i and j, its last for j and i.
 abbrev pub keepLinks : (ℕ → Bool) → List ℕ → ℕ → ℕ → ℕ → ℕ → List ℕ
 keepLinks rows wires k i j wire =
     cond (ltb j i && rows i) (set (set wires (i * k + j) (wire - 2)) (j * k + i) (wire - 1)) wires
 
--- The words kept for each two candidates end before a wire; a word has one digit and w more.
+-- The words kept for each pair of candidates, of w + 1 digits, end before the wire `wire`.
 abbrev pub WordsBelow : List ℕ → ℕ → ℕ → ℕ → Type 0
 WordsBelow words k w wire = (i j : ℕ) → i < k → j < k → i ≢ j → keptOf words k i j + suc w ≤ wire

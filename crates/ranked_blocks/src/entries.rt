@@ -1,4 +1,4 @@
-// The blocks of the tables: number e is that of row e / k and column e % k.
+// The blocks of the tables. Block e is that of row i = e / k and column j = e % k.
 use crate::kept::cut_at;
 use crate::kept::kept;
 use crate::kept::stays;
@@ -18,14 +18,14 @@ ghost use Rattle.ranked_blocks.specs.Ranked.{keptOf};
 ghost use Rattle.ranked_blocks.specs.inner.Entries.{Entry, VotesReady, PathReady, Meets, WordReady};
 ghost use Rattle.ranked_blocks.specs.inner.Entries.{Entered, WordEntered};
 
-// The public numbers that the list is written with: k, n, and the digits of a word besides the lowest.
+// The public numbers from which the list is written: k, n, and the number of digits that a word has above its lowest.
 pub struct Ranks {
     pub candidates: u32,
     pub ballots: u32,
     pub digits: u32,
 }
 
-// The number of ballots that put one candidate before another: its word is kept.
+// Block e of the votes: the number of ballots that put i before j. The first wire of its word is kept in `words`.
 pub fn votes_entry(w: Writer, table: &mut [u32], words: &mut [u32], p: Ranks, e: u32) -> Writer
     requires { ⌜ VotesReady w (now words) p e ⌝ }
     ensures { λ r. ⌜
@@ -43,8 +43,8 @@ pub fn votes_entry(w: Writer, table: &mut [u32], words: &mut [u32], p: Ranks, e:
     next
 }
 
-// The words of two candidates compared, once for both, if the later one is no earlier than `first`: the wires that say
-// which is larger are kept.
+// Block e of the links: compares the words of i and j, once for both, if i is the later candidate and at least
+// `first`. The wires that say which word is larger are kept in `links`.
 pub fn links_entry(
     w: Writer,
     table: &mut [u32],
@@ -84,7 +84,7 @@ pub fn links_entry(
     next
 }
 
-// Candidate i meets an earlier one, both before the last.
+// The meeting of candidate i and an earlier j, neither of whom is the last.
 fn meet(
     w: Writer,
     table: &mut [u32],
@@ -115,7 +115,7 @@ fn meet(
     )
 }
 
-// The same for number e, if there is such a meeting: the wires that say who beats whom are kept.
+// Block e of the meetings, if there is one. The wires that say who beats whom are kept in `met`.
 pub fn meetings_entry(
     w: Writer,
     table: &mut [u32],
@@ -150,7 +150,7 @@ pub fn meetings_entry(
     next
 }
 
-// The word of i and j after stage m of the paths.
+// The word of i and j after stage m of the paths, if the stage changes it.
 fn new_word(
     w: Writer,
     table: &mut [u32],
@@ -183,7 +183,8 @@ fn new_word(
     path_or_way(w, table, word, to, from, p.digits, cut)
 }
 
-// The same, kept: a word that the stage leaves stays where it is.
+// Block e of stage m: a new word, whose first wire is kept in `words`. If the stage leaves the word, there is no
+// block.
 pub fn path_entry(
     w: Writer,
     table: &mut [u32],

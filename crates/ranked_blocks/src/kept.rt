@@ -1,5 +1,5 @@
-// What is kept for each two of k candidates: where their word is, or a wire about them. That of i and j has number i k
-// + j.
+// What is kept for each pair of k candidates: the first wire of their word, or a wire about them. For i and j it is
+// at place i * k + j.
 ghost use mathlib.Core.Path.{_≡_};
 ghost use Rattle.ranked_circuit.specs.Stages as spec;
 ghost use Rattle.ranked_blocks.specs.Ranked.{keptOf};
@@ -35,8 +35,8 @@ pub(crate) fn stays(m: u32, i: u32, j: u32) -> bool
     j == m - 1
 }
 
-// How many of the highest of so many digits stage m compares apart: half of them where the next stage waits for the
-// word of i and j.
+// How many of a word's highest digits are the high half in stage m: half of its digits if the next stage waits for
+// the word of i and j, otherwise none.
 pub(crate) fn cut_at(k: u32, digits: u32, m: u32, i: u32, j: u32) -> u32
     requires { ⌜ CutReady k digits ⌝ }
     ensures { λ r. ⌜ r ≡ spec.cutAt k digits m i j ⌝ }

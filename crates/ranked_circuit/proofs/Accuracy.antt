@@ -36,7 +36,7 @@ use Rattle.ranked_circuit.proofs.GoodLaws.{WordsBelow, WiresBelow, link
 use Rattle.ranked_circuit.proofs.ContestLaws.{Above, TellsSix, same-six, meetings-good, meetings-below, meeting-told}
 use Rattle.ranked_circuit.proofs.LoserLaws.{other-apart, other-low, other-found, row-length, item-before, row-good, lost-zero, lost-one}
 
--- Rows and output gates from wire n on, for r + 2 candidates.
+-- Rows and output gates for r + 2 candidates, from wire n on.
 module _ (beats : ℕ → ℕ → ℕ) (r n : ℕ) where
   abbrev k : ℕ
   k = suc (suc r)
@@ -179,7 +179,7 @@ module _ (r n w : ℕ) where
     outputs-length (beatsAt k₂ n w) (suc r) (losersFrom k₂ n w),
   )
 
-  -- the paths' words, and the last candidate
+  -- the places of the paths' words, and the last candidate
   abbrev words₂ : ℕ → ℕ → ℕ
   words₂ = pathsTo k₂ n w k₂ .words
 
@@ -266,7 +266,7 @@ module _ (r n w : ℕ) where
         let p = holds-append W (n * k₂ * k₂) pathGates duelGates (before-meetings .0) in
         (p .0, subst (λ (l : ℕ). Holds W l duelGates) paths-end (p .1))
 
-    -- the strengths of the strongest paths, and of those that do not pass the last candidate
+    -- the strengths of the strongest paths, and of those that avoid the last candidate
     abbrev all : ℕ → ℕ → ℕ
     all = strongest (link v) k₂
 
@@ -281,12 +281,12 @@ module _ (r n w : ℕ) where
     spelled i j hi hj ne = paths-spelled k₂ n w W b v countable counted k₂ (omega arith) (before-duels .0) i j hi hj
         ne ∙ after-detours v (suc r) i j
 
-    -- whether one of two beats the other, if one is the last
+    -- what a duel says: whether i beats j, if one of them is the last
     duel-told : (i j : ℕ) → i < k₂ → j < k₂ → i ≢ j → l₂ ≤ max i j → Above (W (duelAt k₂ n w i j)) (spelt i j) (spelt j i)
     unfolding duelGates duels duelAt
     duel-told = link-told W b words₂ spelt k₂ w (λ i j hi hj ne. refl) (k₂ - 1) (duelsFrom k₂ n w) (before-duels .1)
 
-    -- to and from the last candidate the strongest paths do not pass it
+    -- a strongest path to or from the last candidate does not pass through it in between
     part-all : (i j : ℕ) → i < k₂ → j < k₂ → i ≢ j → l₂ ≤ max i j → part i j ≡ all i j
     part-all i j hi hj ne row = ⊎-elim to from (below-or-not i (suc (suc r)))
       where
@@ -307,7 +307,7 @@ module _ (r n w : ℕ) where
         (sym (le-ltb (max i j) l₂ row))
         ((λ q. t .0 (omega arith)), (λ q. t .1 (omega arith)))
 
-    -- whether i beats j, if neither is the last
+    -- what a meeting says: whether i beats j, if neither is the last
     abbrev L : ℕ
     L = suc (suc r)
 
@@ -335,7 +335,7 @@ module _ (r n w : ℕ) where
             (subst (λ (c : Bool). TellsSix (W (cond c (meetingAt k₂ n w i j) (duelAt k₂ n w i j))) (spelt j i)
             (spelt i j) (spelt l₂ j) (spelt i l₂) (spelt l₂ i)) (sym (lt-ltb (max i j) l₂ (omega arith))) met)
 
-    -- who is not beaten by the last candidate is beaten by another exactly as six strengths say
+    -- if the last candidate does not beat i, six strengths say whether j beats i
     by-six : (i j : ℕ) → i < L → j < L → i ≢ j → all L i ≤ all i L
         → (all i j < all j i) ↔ BeatsBySix (part i j) (part j i) (part L i) (part j L) (part L j)
     by-six i j hi hj ne u = beats-by-six (link v) L i j hi hj ne (omega (arith, last-to (link v) L i hi, last-from (link v) L i hi))
@@ -383,7 +383,7 @@ module _ (r n w : ℕ) where
         output-law (beatsAt k₂ n w) (suc r) (losersFrom k₂ n w) W b v (before-rows .1) (before-outputs .1) i hi
         (winner i hi) (unbeaten-wins-here i hi)
 
--- two candidates: of each the strongest path is its link
+-- between two candidates the strongest path is the link
 one-link : (s : ℕ → ℕ → ℕ) (i j : ℕ) → i < 2 → j < 2 → i ≢ j → strongest s 2 i j ≡ s i j
 one-link s i j hi hj ne =
     sym (closure-strongest s 2 i j ne) ∙ opened ∙ ⊎-elim first second (same-or-not i 0)
@@ -475,7 +475,7 @@ module _ (n w : ℕ) where
             ⊎-elim (λ (l : v i j < v j i). absurd (omega (arith, told j hj ne .0 l, none j hj ne)))
             (λ (l : v j i ≤ v i j). omega (arith, one-link (link v) j i hj hi ne, link-lost v j i l)) (below-or-not (v i j) (v j i)))
 
--- Two candidates or more: where the output gates start, and what holds.
+-- the wire at which the output gates of two or more candidates start
 pub outputsFrom : ℕ → ℕ → ℕ → ℕ
 outputsFrom zero n w = pairFrom n w + 2 * 0
 outputsFrom (suc r) n w = losersFrom (suc (suc (suc r))) n w + suc (suc (suc r)) * suc r

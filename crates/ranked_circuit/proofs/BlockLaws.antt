@@ -1,4 +1,4 @@
--- What the wires of the blocks spell, for every width; their lengths, and that their operands point back.
+-- What the wires of the blocks say, for every width; the lengths of the blocks, and that they are well-formed.
 -- Assumes nothing.
 use mathlib.Core.Path.{_≡_, _∙_, refl, sym, ap, subst}
 use mathlib.Core.Logic.{⊎-elim}
@@ -23,7 +23,7 @@ use Rattle.gate_words.proofs.ComparisonLaws.{not-zero}
 use Rattle.gate_words.proofs.PointsBack.{behind, good-mux}
 use Rattle.basics.proofs.Cases.{below-or-not}
 
--- numbers of gates, the word of the answer being the last of them
+-- the numbers of gates of the blocks
 pub length-whole : (n x y w : ℕ) → length (compare n x y w) ≡ 3 + 3 * w
 unfolding compare
 length-whole n x y w =
@@ -46,7 +46,7 @@ length-order n x y w =
     length-append (differences (x + 1) (y + 1) w) (above (n + w) n (x + 1) x w)
     ∙ omega (arith, length-differences (x + 1) (y + 1) w, length-above (n + w) n (x + 1) x w)
 
--- the high digits of a word that is cut: the block, and where it stands
+-- the high half of a word that is cut: its block, and where this starts
 module _ (n x y l h : ℕ) where
   abbrev highAt : ℕ
   highAt = n + 2 * l
@@ -172,7 +172,7 @@ unfolding chainEnd
 chain-last n s zero l = absurd (omega arith)
 chain-last n s (suc m) l = omega arith
 
--- the words compared are those of the low digits where the high ones are equal
+-- if the high digits differ, they decide, whatever the low ones are
 unequal-parts : (p lx ly hx hy : ℕ) → lx < p → hx < hy → lx + p * hx ≤ ly + p * hy
 unequal-parts p lx ly hx hy q l = omega (arith, mul-le-mul-left {m = suc hx} {n = hy} p (omega arith), mul-suc p hx)
 
@@ -185,7 +185,7 @@ module _ (W : ℕ → ℕ) (b : Binary W) where
         let p = holds-append W n (firstDigit n x y) rest h in
         (p .0, subst (λ (l : ℕ). Holds W (n + l) rest) (length-first-digit n x y) (p .1))
 
-    -- the wire up says whether the word at x is above the word at y, the wire down whether it is below
+    -- the wire up says whether the word at x is above the word at y, and the wire down whether it is below
     pub compare-up : (number W y 1 (suc w) < number W x 1 (suc w) → W (upEnd (n + 3) (n + 1) w) ≡ 1)
         × (number W x 1 (suc w) ≤ number W y 1 (suc w) → W (upEnd (n + 3) (n + 1) w) ≡ 0)
     compare-up =
@@ -260,7 +260,7 @@ module _ (W : ℕ → ℕ) (b : Binary W) where
         let s = lowest-is in
         ((λ l. sym e ∙ r .0 (omega (arith, b x, b y))), (λ l. sym e ∙ r .1 (omega (arith, b x, b y))))
 
-  -- which of two words is not above the other
+  -- what the answer of an order says: 1 that x is at least y, 0 that it is at most y
   order-law : (n x y w : ℕ) → Holds W n (order n x y w)
       → (W (orderEnd n x w) ≡ 1 → number W y 1 (suc w) ≤ number W x 1 (suc w))
       × (W (orderEnd n x w) ≡ 0 → number W x 1 (suc w) ≤ number W y 1 (suc w))
@@ -270,7 +270,7 @@ module _ (W : ℕ → ℕ) (b : Binary W) where
       let q = subst (λ (l : ℕ). Holds W (n + l) (above (n + w) n (x + 1) x w)) (length-differences (x + 1) (y + 1) w) (p .1) in
       (above-one W b (n + w) n x y w (p .0) q, above-zero W b (n + w) n x y w (p .0) q)
 
-  -- the same of words that are cut
+  -- the same for words that are cut
   module _ (n x y l h : ℕ) (g : Holds W n (order n x y l ++ highPart n x y l h ++ decision n x y l h)) where
     decided : Holds W n (order n x y l ++ highPart n x y l h) × Holds W (n + (2 * l + (3 * h + 1))) (decision n x y l h)
     decided =
@@ -384,7 +384,7 @@ module _ (W : ℕ → ℕ) (b : Binary W) where
       last : n + (2 * (w - suc h) + (3 * h + 1)) ≡ cutEnd n x w (suc h)
       last = unfold cutEnd in sym (chain-last n x (orderSize w (suc h)) (omega arith) ∙ omega arith)
 
-  -- a list that begins with an order
+  -- the order at the front of a list, and the rest
   ordered : (n x y w h : ℕ) (gs : List Gate) → h ≤ w → Holds W n (orderCut n x y w h ++ gs)
       → Holds W n (orderCut n x y w h) × Holds W (n + orderSize w h) gs
   ordered n x y w h gs q g =

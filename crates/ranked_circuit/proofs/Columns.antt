@@ -1,4 +1,5 @@
--- The bits that a counter of the circuit counts are the ballots that put one candidate before another.
+-- The number of ones that a counter of the circuit counts is the number of ballots that put one candidate before
+-- another.
 -- Assumes nothing.
 use mathlib.Core.Path.{_≡_, _∙_, ap}
 use mathlib.Core.List.{List}
@@ -13,7 +14,7 @@ use Rattle.rule_schulze.specs.Votes.{votes}
 use Rattle.rule_schulze.proofs.Tables.{place-within}
 use Rattle.jury.proofs.CountLaws.{bit-added}
 
--- the last of the wires counted
+-- the last of the wires that are counted
 ones-last : (W : ℕ → ℕ) (at d m : ℕ) → onesAt W at d (suc m) ≡ onesAt W at d m + W (at + m * d)
 ones-last W at d zero =
     let e : at + 0 * d ≡ at = omega (arith, zero-mul d) in
@@ -22,7 +23,7 @@ ones-last W at d (suc m) =
     let e : at + d + m * d ≡ at + suc m * d = omega (arith, suc-mul m d) in
     omega (arith, ones-more W at d (suc m), ones-more W at d m, ones-last W (at + d) d m, ap W e)
 
--- the first wires being the ballots
+-- if the first wires are the ballots
 pub column : (W : ℕ → ℕ) (xs : List ℕ) (k n i j : ℕ) → i < k → j < k → ((p : ℕ) → getD xs p 0 ≤ 1)
     → ((p : ℕ) → p < n * k * k → W p ≡ getD xs p 0) → onesAt W (i * k + j) (k * k) n ≡ votes k n xs i j
 unfolding votes before rankPlace

@@ -1,4 +1,4 @@
--- What the contests of candidates before the last one say: who beats whom, by six strengths each.
+-- What the meetings of candidates before the last one say: who beats whom, by the strengths of the paths among three.
 -- Assumes nothing.
 use mathlib.Core.Path.{_≡_, _∙_, refl, sym, ap, subst}
 use mathlib.Core.Bool.{Bool, true}
@@ -28,11 +28,11 @@ use Rattle.ranked_circuit.proofs.TableLaws.{entryStart}
 use Rattle.ranked_circuit.proofs.GoodLaws.{WordsBelow}
 use Rattle.ranked_circuit.proofs.StageLaws.{up-last, down-last}
 
--- a bit that says whether x is above y
+-- the bit says whether x is above y
 abbrev pub Above : ℕ → ℕ → ℕ → Type 0
 Above bit x y = (y < x → bit ≡ 1) × (x ≤ y → bit ≡ 0)
 
--- a bit that says whether somebody beats another, given the six strengths
+-- the bit says whether somebody beats another, by the strengths of `beats-by-six`
 abbrev pub TellsSix : ℕ → ℕ → ℕ → ℕ → ℕ → ℕ → Type 0
 TellsSix bit a b β α′ β′ = (BeatsBySix a b β α′ β′ → bit ≡ 1) × ((BeatsBySix a b β α′ β′ → ⊥) → bit ≡ 0)
 
@@ -44,7 +44,7 @@ same-six bit a b β α′ β′ a₁ b₁ β₁ α₁ β₂ ea eb eβ eα eβ′
     (subst (λ (x : ℕ). TellsSix bit a₁ b₁ x α′ β′) eβ
     (subst (λ (x : ℕ). TellsSix bit a₁ x β α′ β′) eb (subst (λ (x : ℕ). TellsSix bit x b β α′ β′) ea t))))
 
--- one way: the last gates are an AND and a choice
+-- one way: the last gates are an "and" and a choice
 choice-law : (a b β α′ β′ near met back far both bit : ℕ) → Above near β β′ → Above met α′ β′ → Above back b a
     → Above far b β → both ≡ min back far
     → (near ≡ 1 → bit ≡ met) → (near ≡ 0 → bit ≡ both) → TellsSix bit a b β α′ β′
@@ -87,7 +87,7 @@ module _ (li lj ij ji mi mj w at : ℕ) where
   abbrev fourth : List Gate
   fourth = strictly (at + c + c + s) ji li w
 
-  -- where the last four gates start
+  -- the wire at which the last four gates start
   abbrev e : ℕ
   e = at + c + c + s + s
 
@@ -166,7 +166,7 @@ module _ (li lj ij ji mi mj w at : ℕ) where
         let p = holds-append W at first second (cut₂ .0) in
         (p .0, subst (λ (x : ℕ). Holds W (at + x) second) (length-whole at li lj w) (p .1))
 
-    -- the number that a word spells
+    -- the number in the word at x
     abbrev spelt : ℕ → ℕ
     spelt x = number W x 1 (suc w)
 

@@ -21,7 +21,7 @@ use Rattle.ranked_circuit.specs.Contests.{meeting}
 use Rattle.ranked_circuit.specs.RankedList.{rankedList}
 use Rattle.ranked_circuit.proofs.Figures.{Each, moreOf, figure-is}
 
--- a gate that counts, and one that does not
+-- a conditional gate counts 1, any other 0
 marked : (g : Gate) (gs : List Gate) → conditionalOf (g .kind) ≡ true → conditionalCount (g ∷ gs) ≡ suc (conditionalCount gs)
 marked g gs e = let m : cond {A = ℕ} (conditionalOf (g .kind)) 1 0 ≡ 1 = ap (λ (t : Bool). cond {A = ℕ} t 1 0) e in
     omega (arith, count-cons g gs)
@@ -30,7 +30,7 @@ free : (g : Gate) (gs : List Gate) → conditionalOf (g .kind) ≡ false → con
 free g gs e = let m : cond {A = ℕ} (conditionalOf (g .kind)) 1 0 ≡ 0 = ap (λ (t : Bool). cond {A = ℕ} t 1 0) e in
     omega (arith, count-cons g gs)
 
--- the blocks of words
+-- the blocks that `gate_words` has
 choose-cost : (f x y w : ℕ) → conditionalCount (choose f x y w) ≡ w
 unfolding choose
 choose-cost f x y zero = count-nil
@@ -70,7 +70,7 @@ first-digit-cost n x y =
     let c = free (xorOf n (n + 1)) [] (marks .6) in
     omega (arith, a, b, c, count-nil)
 
--- each adder of a counter has one, and three gates
+-- each adder of a counter has three gates, one of them conditional
 full-cost : (n s u v : ℕ) → conditionalCount (fullAdder n s u v) ≡ 1
 unfolding fullAdder
 full-cost n s u v =
@@ -127,7 +127,7 @@ counter-cost n at d m r = omega (
   digits-cost n at m r,
 )
 
--- two words
+-- the blocks that compare two words
 whole-cost : (n x y w : ℕ) → conditionalCount (compare n x y w) ≡ 2 * w + 1
 unfolding compare
 whole-cost n x y w =
@@ -167,7 +167,7 @@ unfolding chainOf
 chain-cost n s at d zero = count-nil
 chain-cost n s at d (suc m) = marked (orOf s at) (chainOf 5 (n + 1) n (at + d) d m) (marks .5) ∙ ap suc (chain-cost (n + 1) n (at + d) d m)
 
--- words of h + 1 digits, told in one chain
+-- comparing words of h + 1 digits in one chain
 tells-cost : (n x y h : ℕ) → conditionalCount (compareHalves n x y h 0) ≡ 2 * h
 unfolding compareHalves unequalHalves anyOfHalves aboveHalves
 tells-cost n x y h =
@@ -264,7 +264,7 @@ meeting-cost li lj ij ji mi mj w at =
       count-nil,
     )
 
--- each block's
+-- the conditional gates of each block
 costs : (n w : ℕ) → Each conditionalCount n w (countSize n 0 w / 3) (2 * w + 1) (suc w) (4 * w + 3) (4 * w + 2) (6 * w + 8) 1 0
 costs n w =
     record {
@@ -290,7 +290,7 @@ costs n w =
       lasts = λ a. free (notOf a) [] (marks .3) ∙ count-nil;
     }
 
--- C: each counter has a third of its adders' gates, each two candidates are compared both ways, and so on
+-- C: a conditional gate for each adder of the counters, 2 w + 1 for each comparison of two candidates, and so on
 pub conditional-are : (r n w : ℕ) → r ≤ 5 → conditionalCount (rankedList (suc (suc (suc r))) n w) ≡
     suc (suc (suc r)) * suc (suc r) * (countSize n 0 w / 3) + suc (suc (suc r)) * suc (suc r) / 2 * (2 * w + 1) + 2
     * suc (suc r) * suc w + suc (suc r) * suc r * (4 * w + 3) + suc r * (suc (suc r) * suc r) * (4 * w + 2)

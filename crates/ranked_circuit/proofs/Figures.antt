@@ -1,4 +1,4 @@
--- How many gates a ranked tasting's own list has, and how many of them are conditional: both by the sums of its tables.
+-- The numbers of gates and of conditional gates of a ranked tasting's own list, both as sums over its tables.
 -- Assumes nothing.
 use mathlib.Core.Path.{_≡_, _∙_, refl, sym, ap}
 use mathlib.Core.Bool.{Bool, true, false, cond, _&&_, _||_}
@@ -22,7 +22,7 @@ use Rattle.ranked_circuit.proofs.TableLaws.{startOf}
 use Rattle.ranked_circuit.proofs.StageLaws.{cut-most}
 use Rattle.ranked_circuit.proofs.Accuracy.{pathGates, duelGates, meetingGates, rowGates, lastGates, list-is, pair-is}
 
--- the sum of m numbers, and of the numbers of a table
+-- the sum of the first m values of f, and the sum over a table of k rows and columns
 pub sumBelow : (ℕ → ℕ) → ℕ → ℕ
 sumBelow f zero = 0
 sumBelow f (suc m) = sumBelow f m + f m
@@ -39,13 +39,13 @@ unfolding sumBelow
 same-sum x zero = sym (zero-mul x)
 same-sum x (suc m) = omega (arith, same-sum x m, suc-mul m x)
 
--- what is counted of a list: nothing of an empty one, and of two lists the sum
+-- A number that is counted in a list: 0 in an empty list, and in two lists the sum of both.
 pub record Figure (f : List Gate → ℕ) : Type 0 where
   pub none : f [] ≡ 0
   pub both : (gs hs : List Gate) → f (gs ++ hs) ≡ f gs + f hs
 
--- what is counted for each block: a counter, two words compared, a link's strength, the first and a further detour,
--- two candidates that meet; and for each gate that joins and each last one
+-- What f counts in each block: c in a counter, p in a comparison, s in a link's strength, d in the first detour and e
+-- in a later one, q in a meeting, o in a gate that joins, x in a last gate. Words that are cut count more.
 pub record Each (f : List Gate → ℕ) (n w c p s d e q o x : ℕ) : Type 0 where
   pub counters : (at from step : ℕ) → f (counter at from step n 0 w) ≡ c
   pub compares : (at a b : ℕ) → f (compare at a b w) ≡ p
@@ -56,14 +56,14 @@ pub record Each (f : List Gate → ℕ) (n w c p s d e q o x : ℕ) : Type 0 whe
   pub joins : (a b : ℕ) → f (orOf a b ∷ []) ≡ o
   pub lasts : (a : ℕ) → f (notOf a ∷ []) ≡ x
 
--- for a table's entries
+-- what is counted at row i and column j of a table: c off the diagonal; p for the later candidate, if it has a block
 pub apartOf : ℕ → ℕ → ℕ → ℕ
 apartOf c i j = cond (eqb i j) 0 c
 
 pub laterOnes : (ℕ → Bool) → ℕ → ℕ → ℕ → ℕ
 laterOnes rows p i j = cond (ltb j i && rows i) p 0
 
--- of the blocks of each stage, those of words that are cut having z more
+-- what is counted in a block of stage m, with z more if its words are cut
 pub stageFigure : ℕ → ℕ → ℕ → ℕ → ℕ → ℕ
 stageFigure s d e z zero = s
 stageFigure s d e z (suc zero) = d + z
@@ -72,7 +72,7 @@ stageFigure s d e z (suc (suc l)) = e + z
 pub stageOf : ℕ → ℕ → ℕ → ℕ → ℕ → ℕ → ℕ → ℕ → ℕ
 stageOf k s d e y m i j = cond (stays m i j) 0 (stageFigure s d e (cond (ltb m (k - 1) && (eqb i m || eqb j m)) y 0) m)
 
--- what two orders cost more in halves
+-- how many gates more two orders take if their words are cut in halves
 abbrev pub moreOf : ℕ → ℕ
 moreOf w = 2 * (suc w / 2 - 1)
 
@@ -181,7 +181,7 @@ module _ (f : List Gate → ℕ) (g : Figure f) where
         blocks-figure (λ wire i. notOf (joinedWire beats (suc r) (from + i * r) i (2 * r)) ∷ []) (λ i. x)
         (λ wire i. a .lasts (joinedWire beats (suc r) (from + i * r) i (2 * r))) (from + k * r) k ∙ same-sum x k
 
-    -- all of the list
+    -- what is counted in the whole list
     pub by-tables : (r : ℕ) → f (rankedList (suc (suc (suc r))) n w) ≡
         tableSum (apartOf c) (suc (suc (suc r))) + tableSum (laterOnes (leb 0) p) (suc (suc (suc r)))
         + sumBelow (λ l. tableSum (stageOf (suc (suc (suc r))) s d e (moreOf w) l) (suc (suc (suc r))))
@@ -208,7 +208,7 @@ module _ (f : List Gate → ℕ) (g : Figure f) where
           outputs-figure (beatsAt k n w) (suc r) (losersFrom k n w) k,
         )
 
-    -- for the list of two candidates
+    -- the same for two candidates
     pub pair-figure : f (rankedList 2 n w) ≡ tableSum (apartOf c) 2 + tableSum (laterOnes (leb 0) p) 2 + 2 * x
     pair-figure =
         omega (
@@ -220,7 +220,7 @@ module _ (f : List Gate → ℕ) (g : Figure f) where
           outputs-figure (linkWire 2 n w) 0 (pairFrom n w) 2,
         )
 
--- the sums of the tables of r + 3 candidates
+-- the sums over the tables of r + 3 candidates
 abbrev Sums : ℕ → ℕ → ℕ → ℕ → ℕ → ℕ → ℕ → ℕ → Type 0
 Sums r c p s d e q y =
     tableSum (apartOf c) (suc (suc (suc r))) + tableSum (laterOnes (leb 0) p) (suc (suc (suc r)))
@@ -264,7 +264,7 @@ sums (suc (suc (suc (suc zero)))) c p s d e q y h = sums-seven c p s d e q y
 sums (suc (suc (suc (suc (suc zero))))) c p s d e q y h = sums-eight c p s d e q y
 sums (suc (suc (suc (suc (suc (suc r)))))) c p s d e q y h = absurd (omega arith)
 
--- what is counted of the list of r + 3 candidates, and of two
+-- what is counted in the lists of r + 3 candidates, and of two
 pub figure-is : (f : List Gate → ℕ) → Figure f → (n w c p s d e q o x : ℕ) → Each f n w c p s d e q o x → (r : ℕ)
     → r ≤ 5 → f (rankedList (suc (suc (suc r))) n w) ≡
     suc (suc (suc r)) * suc (suc r) * c + suc (suc (suc r)) * suc (suc r) / 2 * p + 2 * suc (suc r) * s

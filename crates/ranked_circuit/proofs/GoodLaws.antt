@@ -1,4 +1,4 @@
--- The own list of a ranked tasting is well-formed: every operand points back.
+-- The own list of a ranked tasting is well-formed: every operand is an earlier wire.
 -- Assumes nothing.
 use mathlib.Core.Path.{_≡_, _∙_, refl, sym, ap, subst}
 use mathlib.Core.Bool.{Bool, true, false, cond}
@@ -27,7 +27,7 @@ use Rattle.ranked_circuit.proofs.PathLaws.{bool-cases}
 use Rattle.gate_words.proofs.PointsBack.{behind}
 use Rattle.gate_words.proofs.CounterSteps.{below-stride}
 
--- a choice between no gate and a well-formed list
+-- a choice between two well-formed lists
 either-good : (n : ℕ) (t : Bool) (gs hs : List Gate) → AllGood n gs → (t ≡ false → AllGood n hs) → AllGood n (cond t gs hs)
 either-good n true gs hs p q = p
 either-good n false gs hs p q = q refl
@@ -44,7 +44,7 @@ votes-good k n w at i j hi hj h c =
     either-good at (eqb i j) [] (counter at (i * k + j) (k * k) n 0 w) tt
     (λ e. counter-good at (i * k + j) (k * k) n 0 w (bytes-below k n at i j hi hj h) c)
 
--- the words of each two candidates end before a wire
+-- the words of each pair of candidates end before the wire `wire`
 abbrev pub WordsBelow : ℕ → ℕ → (ℕ → ℕ → ℕ) → ℕ → Type 0
 WordsBelow k w words wire = (i j : ℕ) → i < k → j < k → i ≢ j → words i j + suc w ≤ wire
 
@@ -68,7 +68,7 @@ module _ (k w : ℕ) where
       (later-below (leb first) (comparing words w) n k
       (λ at i j l. omega (arith, length-whole at (words i j) (words j i) w)) i j hi hj ne (le-leb first (max i j) f))
 
-  -- a list behind the weaker part of a way
+  -- a list after the weaker part of a way
   behind-way : (at x y h : ℕ) → h ≤ w → x + suc w ≤ at → y + suc w ≤ at → (gs : List Gate)
       → AllGood (at + orderSize w h + suc w) gs → AllGood at (smaller at x y w h ++ gs)
   behind-way at x y h hw hx hy gs good =
@@ -117,7 +117,7 @@ module _ (k n w : ℕ) where
         end-within (n * k * k) k (votesBlock k n w) i j hj hi,
       )
 
-  -- where the list of m stages ends
+  -- the first wire after the list of m stages
   abbrev pub endOf : ℕ → ℕ
   endOf m = n * k * k + length (pathsTo k n w m .gates)
 

@@ -1,4 +1,4 @@
--- Tables with one block for each two candidates, whose last two wires are about them: where these are.
+-- Tables with one block for each pair of candidates, whose last two wires are about the two: where these wires are.
 -- Assumes nothing.
 use mathlib.Core.Path.{_≡_, _∙_, refl, ap, subst}
 use mathlib.Core.Bool.{Bool, true, false, cond, _&&_}
@@ -17,7 +17,7 @@ use Rattle.ranked_circuit.specs.Table.{table, entryEnd}
 use Rattle.ranked_circuit.specs.Stages.{laterOf, linkAt}
 use Rattle.ranked_circuit.proofs.TableLaws.{entryStart, entry-end, entry-holds, table-good, end-within}
 
--- the later of two
+-- the larger number is the later candidate
 pub later-is : (i j : ℕ) → j < i → max i j ≡ i
 later-is i j l = omega arith
 
@@ -82,7 +82,7 @@ module _ (rows : ℕ → Bool) (block : ℕ → ℕ → ℕ → List Gate) where
           let f = end-within n k (laterOf rows block) i j hj hi in
           (omega (arith, up-at), omega (arith, down-at))
 
-    -- they are wires of the table
+    -- these wires are in the table
     pub later-below : ((at i j : ℕ) → j < i → 2 ≤ length (block at i j)) → (i j : ℕ) → i < k → j < k → i ≢ j → rows (max i j) ≡ true
         → linkAt n k (laterOf rows block) i j < n + length (table n k (laterOf rows block))
     later-below long i j hi hj ne row =

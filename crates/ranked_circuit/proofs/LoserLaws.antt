@@ -17,7 +17,7 @@ use Rattle.basics.proofs.Cases.{below-or-not}
 use Rattle.ranked_circuit.specs.RankedList.{other, joinedWire, loserRow}
 use Rattle.ranked_circuit.proofs.TableLaws.{startOf, length-same, block-holds, blocks-good}
 
--- the others are exactly those who are not i
+-- the others are exactly the candidates that are not i
 other-below : (i s : ℕ) → s < i → other i s ≡ s
 unfolding other
 other-below i s h = ap (λ (t : Bool). cond t s (suc s)) (lt-ltb s i h)
@@ -41,7 +41,7 @@ other-found i j m hi hj ne =
     (below-or-not j i)
 
 module _ (beats : ℕ → ℕ → ℕ) (r at i : ℕ) where
-  -- number s of what the row joins
+  -- operand s of the row
   abbrev item : ℕ → ℕ
   item s = joinedWire beats (suc r) at i s
 
@@ -64,7 +64,7 @@ module _ (beats : ℕ → ℕ → ℕ) (r at i : ℕ) where
   row-start : (t : ℕ) → startOf at rowGate t ≡ at + t
   row-start t = omega (arith, length-same at rowGate 1 (λ wire t. refl) t)
 
-  -- what a row joins comes before its gate
+  -- the operands of a gate are before it
   pub item-before : (wire t s : ℕ) → s < suc r + t → at + t ≤ wire → ((s : ℕ) → s ≤ r → beats (other i s) i < wire) → item s < wire
   item-before wire t s h l below =
       ⊎-elim (λ (q : s < suc r). omega (arith, item-other s (omega arith), below s (omega arith)))
@@ -91,7 +91,7 @@ module _ (beats : ℕ → ℕ → ℕ) (r at i : ℕ) where
     gate-is t l =
         ap W (item-own t ∙ sym (row-start t)) ∙ block-holds at rowGate W r t l h .0 ∙ or-is W b (item (2 * t)) (item (2 * t + 1))
 
-    -- nobody beats i: fuel bounds the number
+    -- if nobody beats i, all operands are 0; `fuel` bounds s
     none-joined : ((s : ℕ) → s ≤ r → W (beats (other i s) i) ≡ 0) → (fuel s : ℕ) → s < fuel → s ≤ 2 * r → W (item s) ≡ 0
     none-joined none zero s f l = absurd (omega arith)
     none-joined none (suc fuel) s f l =
@@ -112,7 +112,7 @@ module _ (beats : ℕ → ℕ → ℕ) (r at i : ℕ) where
     pub lost-zero : ((s : ℕ) → s ≤ r → W (beats (other i s) i) ≡ 0) → W (item (2 * r)) ≡ 0
     lost-zero none = none-joined none (suc (2 * r)) (2 * r) (omega arith) (omega arith)
 
-    -- somebody does: each number is joined into a later one
+    -- if somebody beats i, the result is 1: each operand is joined into a later one
     some-joined : (fuel s : ℕ) → 2 * r ≤ s + fuel → s ≤ 2 * r → W (item s) ≡ 1 → W (item (2 * r)) ≡ 1
     some-joined zero s f l e = let q : s ≡ 2 * r = omega arith in ap (λ (x : ℕ). W (item x)) (sym q) ∙ e
     some-joined (suc fuel) s f l e =

@@ -1,5 +1,5 @@
--- What holds for the own list of a ranking shape: the tester accepts it, it keeps its bound, and its closing bytes are
--- Schulze's.
+-- What holds for the own list of a ranking shape: the test accepts it, it is within its bound, and its closing bytes
+-- are those of Schulze's rule.
 -- Assumes nothing.
 use mathlib.Core.Path.{_≡_, _∙_, sym, ap, subst}
 use mathlib.Core.Bool.{Bool, true, cond}
@@ -32,7 +32,7 @@ use Rattle.ranked_circuit.proofs.Columns.{column}
 use Rattle.ranked_circuit.proofs.Accuracy.{outputsFrom, list-end, inputs-before, circuit-good, closing-law}
 use Rattle.ranked_circuit.proofs.SizeLaws.{gates-most, bound-small}
 
--- n ballots can be counted in words as wide as n
+-- n ballots can be counted in words that are as wide as n
 pub ranking-countable : (n : ℕ) → 0 < n → Countable n 0 (widthOf n - 1)
 ranking-countable n h =
     let low = least-width n h in
@@ -40,7 +40,7 @@ ranking-countable n h =
     let high : n < 2 ^ suc (widthOf n - 1) = subst (λ (k : ℕ). n < 2 ^ k) top (below-width n) in
     countable n 0 (widthOf n - 1) (omega arith) (omega arith) (omega arith)
 
--- a list of gates whose last k wires say who wins, one by one
+-- the outputs are the closing bytes if each of the last k wires is
 closing-from : (k n : ℕ) (xs : List ℕ) (gs : List Gate) → k ≤ length gs
     → ((i : ℕ) → i < k → wire (wiresOf xs gs) (length xs + length gs - k + i) ≡ cond (wins (votes k n xs) k i) 1 0)
     → outputsOf k (wiresOf xs gs) ≡ schulzeOf (votes k n xs) k
@@ -73,7 +73,7 @@ single n xs bits =
 outputs-in : (m n w : ℕ) → suc (suc m) ≤ length (rankedList (suc (suc m)) n w)
 outputs-in m n w = omega (arith, list-end m n w, inputs-before m n w)
 
--- two or more
+-- two candidates or more
 several : (m n w : ℕ) (xs : List ℕ) → Countable n 0 w → length xs ≡ n * suc (suc m) * suc (suc m) → ((p : ℕ) → getD xs p 0 ≤ 1) →
     outputsOf (suc (suc m)) (wiresOf xs (rankedList (suc (suc m)) n w)) ≡ schulzeOf (votes (suc (suc m)) n xs) (suc (suc m))
 several m n w xs count size bits =
@@ -116,7 +116,7 @@ several-holds m n hk ln hn =
       closing = λ xs size bits. several m n w xs count size bits;
     }
 
--- all k from 1 to 8 and n from 1 to 255 at once
+-- for all k from 1 to 8 and n from 1 to 255
 pub own-ranking-holds : (k n : ℕ) → 1 ≤ k → k ≤ 8 → 1 ≤ n → n ≤ 255 → OwnRankingHolds k n
 own-ranking-holds zero n lk hk ln hn = absurd (omega arith)
 own-ranking-holds (suc zero) n lk hk ln hn = single-holds n

@@ -1,4 +1,4 @@
--- The tables of the circuit spell the strengths of the strongest paths.
+-- The words in the tables of the circuit are the strengths of the strongest paths.
 -- Assumes nothing.
 use mathlib.Core.Path.{_≡_, _∙_, refl, sym, ap, subst}
 use mathlib.Core.Bool.{Bool, true, false, cond, _||_, true≢false}
@@ -32,7 +32,7 @@ pub bool-cases : {A : Type 0} (c : Bool) → (c ≡ true → A) → (c ≡ false
 bool-cases true p q = p refl
 bool-cases false p q = q refl
 
--- off the diagonal stage 0 leaves the words of those who are not candidate 0, and no others
+-- off the diagonal, stage 0 leaves exactly the words of i and j if neither is candidate 0
 zero-stays : (i j : ℕ) → i ≢ 0 → j ≢ 0 → stays 0 i j ≡ true
 unfolding stays
 zero-stays i j i0 j0 = rw (ne-eqb i 0 i0, ne-eqb j 0 j0)
@@ -75,7 +75,7 @@ module _ (k n w : ℕ) (W : ℕ → ℕ) (b : Binary W) (v : ℕ → ℕ → ℕ
       ∙ votes-law W b k n w at i j ne countable (entry-holds (n * k * k) k (votesBlock k n w) i j hj W hi h)
       ∙ counted i j hi hj ne
 
-  -- of any number of stages, those before the first
+  -- whatever the number of stages, the tables before the first stage hold
   first-holds : (m : ℕ) → Holds W (n * k * k) (pathsTo k n w m .gates) → Holds W (n * k * k) (votesTable k n w)
       × Holds W (linksFrom k n w) (linksTable k n w)
   unfolding pathsTo nextPaths linksFrom
@@ -182,7 +182,7 @@ module _ (k n w : ℕ) (W : ℕ → ℕ) (b : Binary W) (v : ℕ → ℕ → ℕ
       let p = pathsTo k n w m in
       holds-append W (n * k * k) (p .gates) (table (n * k * k + length (p .gates)) k (pathBlock k (linkWire k n w) (p .words) w m)) h
 
-  -- after m stages the words spell their strengths
+  -- after m stages the words are the strengths after m stages
   pub paths-spelled : (m : ℕ) → m ≤ suc k → Holds W (n * k * k) (pathsTo k n w m .gates)
       → Spelled (pathsTo k n w m .words) (strengthAfter v m)
   unfolding pathsTo strengthAfter
@@ -192,7 +192,7 @@ module _ (k n w : ℕ) (W : ℕ → ℕ) (b : Binary W) (v : ℕ → ℕ → ℕ
       let q = stages-hold m h in
       next-spelled p m (omega arith) (links-told m (q .0)) (paths-spelled m (omega arith) (q .0)) (q .1)
 
--- after the first detours, those over the candidates below l + 1
+-- after the first l + 1 detours, which go over the candidates below l + 1
 pub after-detours : (v : ℕ → ℕ → ℕ) (l i j : ℕ) → strengthAfter v (suc (suc l)) i j ≡ closure (suc l) (link v) i j
 unfolding strengthAfter
 after-detours v l i j = refl

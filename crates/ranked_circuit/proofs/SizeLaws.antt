@@ -18,7 +18,7 @@ use Rattle.ranked_circuit.proofs.Figures.{Each, moreOf, figure-is, pair
 counter-most : (n w : ℕ) → 0 < n → countSize n 0 w + suc w ≤ 2 * (n * suc w) + 3 * suc w
 counter-most n w h = omega (arith, count-size-most n 0 w n (omega arith) h, levels-product w n)
 
--- each block's
+-- the number of gates of each block
 sizes : (n w : ℕ) → Each length n w (countSize n 0 w + suc w) (3 + 3 * w) (suc w) (6 * w + 3) (6 * w + 2) (10 * w + 14) 1 1
 sizes n w =
     record {
@@ -44,7 +44,8 @@ sizes n w =
       lasts = λ a. refl;
     }
 
--- G: a counter for each two candidates either way, a comparison for both, a word for each link to or from the first, and so on
+-- G: two counters and a comparison for each pair of candidates, a word for each link to or from candidate 0, and so
+-- on
 pub gates-are : (r n w : ℕ) → r ≤ 5 → length (rankedList (suc (suc (suc r))) n w) ≡
     suc (suc (suc r)) * suc (suc r) * (countSize n 0 w + suc w) + suc (suc (suc r)) * suc (suc r) / 2 * (3 + 3 * w)
     + 2 * suc (suc r) * suc w + suc (suc r) * suc r * (6 * w + 3) + suc r * (suc (suc r) * suc r) * (6 * w + 2)
@@ -99,7 +100,7 @@ module _ (n w : ℕ) (h : 0 < n) where
   gates-most (suc (suc (suc (suc (suc (suc zero)))))) l = bounded-eight
   gates-most (suc (suc (suc (suc (suc (suc (suc r))))))) l = absurd (omega arith)
 
--- in plain numbers
+-- the bound is at most 400,000
 pub bound-small : (c n v : ℕ) → c ≤ 8 → n ≤ 255 → v ≤ 8 → rankingBound c n v ≤ 400000
 unfolding rankingBound
 bound-small c n v hk hn hv =

@@ -1,4 +1,4 @@
--- What the words of the circuit's blocks spell: numbers of ballots, links, and the strengths of paths.
+-- What the words of the circuit's blocks are: numbers of ballots, links, and the strengths of paths.
 -- Assumes nothing.
 use mathlib.Core.Path.{_≡_, _∙_, refl, sym, ap, subst}
 use mathlib.Core.Bool.{Bool, true, false, cond, _&&_, _||_, not}
@@ -26,12 +26,12 @@ use Rattle.ranked_circuit.specs.Stages.{votesBlock, laterOf, linksBlock,
 use Rattle.ranked_circuit.proofs.BlockLaws.{compare-up, compare-down, smaller-law, larger-law, larger-if, larger-if-not, length-whole, length-smaller, length-larger, length-larger-if}
 use Rattle.ranked_circuit.proofs.LinkLaws.{laterStart, later-holds, up-at, down-at}
 
--- none of some tests holds
+-- if the "or" of two tests fails, both tests fail
 pub neither : (a b : Bool) → (a || b) ≡ false → (a ≡ false) × (b ≡ false)
 neither true b e = let z : _≡_ {A = ℕ} 0 1 = cc in absurd (omega arith)
 neither false b e = (refl, e)
 
--- a detour over l that does not leave the word as it is
+-- if the detour over l changes the word of i and j, all three candidates are different
 pub apart-all : (l i j : ℕ) → stays (suc l) i j ≡ false → (i ≢ l) × (j ≢ l) × (i ≢ j)
 unfolding stays
 apart-all l i j e =
@@ -52,7 +52,7 @@ pub stage-stays : (k : ℕ) (links words : ℕ → ℕ → ℕ) (w m at i j : �
 unfolding pathBlock
 stage-stays k links words w m at i j e = ap (λ (c : Bool). cond c [] (newWord links words w (cutAt k w m i j) m at i j)) e
 
--- a word is never cut below its lowest digit
+-- the high half of a word leaves a digit for the low half
 pub cut-most : (k w m i j : ℕ) → cutAt k w m i j ≤ w
 unfolding cutAt
 cut-most k w m i j = either (ltb m (k - 1) && (eqb i m || eqb j m))
@@ -61,7 +61,7 @@ cut-most k w m i j = either (ltb m (k - 1) && (eqb i m || eqb j m))
     either true = omega arith
     either false = omega arith
 
--- the gates before its word
+-- the number of gates of a stage's block before its word
 unfoldable pub stagePad : ℕ → ℕ → ℕ → ℕ
 stagePad w h zero = 0
 stagePad w h (suc zero) = orderSize w h + suc w + (orderSize w h + 1)
@@ -91,7 +91,7 @@ stage-length links words w h (suc (suc l)) at i j q =
       length-larger (to + suc w) (words i j) to w h q,
     )
 
--- a counter's block
+-- off the diagonal the block is a counter
 pub votes-moves : (k n w at i j : ℕ) → i ≢ j → votesBlock k n w at i j ≡ counter at (i * k + j) (k * k) n 0 w
 unfolding votesBlock
 votes-moves k n w at i j ne = ap (λ (c : Bool). cond c [] (counter at (i * k + j) (k * k) n 0 w)) (ne-eqb i j ne)
@@ -99,7 +99,7 @@ votes-moves k n w at i j ne = ap (λ (c : Bool). cond c [] (counter at (i * k + 
 pub votes-length : (k n w at i j : ℕ) → i ≢ j → length (votesBlock k n w at i j) ≡ countSize n 0 w + suc w
 votes-length k n w at i j ne = ap length (votes-moves k n w at i j ne) ∙ omega (arith, length-counter at (i * k + j) (k * k) n 0 w)
 
--- words compared, from a first row on
+-- the block that compares the words of i and j
 abbrev pub comparing : (ℕ → ℕ → ℕ) → ℕ → ℕ → ℕ → ℕ → List Gate
 comparing words w at i j = compare at (words i j) (words j i) w
 
@@ -119,7 +119,7 @@ down-last at zero = omega arith
 down-last at (suc w) = omega arith
 
 module _ (W : ℕ → ℕ) (b : Binary W) where
-  -- a smaller word, and what comes after it
+  -- a block that makes the smaller word, and the gates after it
   behind-smaller : (at x y w h : ℕ) (gs : List Gate) → h ≤ w → Holds W at (smaller at x y w h ++ gs)
       → Holds W at (smaller at x y w h) × Holds W (at + orderSize w h + suc w) gs
   behind-smaller at x y w h gs q g =
@@ -127,7 +127,7 @@ module _ (W : ℕ → ℕ) (b : Binary W) where
       let place : at + length (smaller at x y w h) ≡ at + orderSize w h + suc w = omega (arith, length-smaller at x y w h q) in
       (p .0, subst (λ (l : ℕ). Holds W l gs) place (p .1))
 
-  -- the number of the ballots whose byte is 1
+  -- the word is the number of ballots whose byte is 1
   pub votes-law : (k n w at i j : ℕ) → i ≢ j → Countable n 0 w → Holds W at (votesBlock k n w at i j)
       → number W (at + countSize n 0 w) 1 (suc w) ≡ onesAt W (i * k + j) (k * k) n
   votes-law k n w at i j ne c h =
@@ -135,7 +135,7 @@ module _ (W : ℕ → ℕ) (b : Binary W) where
       (subst (λ (gs : List Gate). Holds W at gs) (votes-moves k n w at i j ne) h)
       ∙ add-zero (onesAt W (i * k + j) (k * k) n)
 
-  -- words that are compared; a wire says whether one is larger
+  -- words that are compared: a wire says whether one is larger than the other
   module _ (words t : ℕ → ℕ → ℕ) (k w : ℕ) (spelled : (i j : ℕ) → i < k → j < k → i ≢ j → number W (words i j) 1 (suc w) ≡ t i j) where
     abbrev pub Tells : (ℕ → ℕ → ℕ) → ℕ → ℕ → Type 0
     Tells wires i j = (t j i < t i j → W (wires i j) ≡ 1) × (t i j ≤ t j i → W (wires i j) ≡ 0)
@@ -192,14 +192,14 @@ module _ (W : ℕ → ℕ) (b : Binary W) where
         held : Holds W n (table n k (laterOf (leb first) (comparing words w)))
         held = rw (links-are first words w) at h
 
-  -- a link's strength: the number of ballots if there is a link
+  -- a link's strength: the number of ballots if there is a link, else 0
   pub strength-law : (f x w at v v′ : ℕ) → number W x 1 (suc w) ≡ v → (v′ < v → W f ≡ 1) × (v ≤ v′ → W f ≡ 0)
       → Holds W at (masked f x (suc w))
       → (v′ < v → number W (at + 0) 1 (suc w) ≡ v) × (v ≤ v′ → number W (at + 0) 1 (suc w) ≡ 0)
   strength-law f x w at v v′ e told h =
       rw (add-zero at) ((λ l. masked-one W b at f x (suc w) (told .0 l) h ∙ e), (λ l. masked-zero W b at f x (suc w) (told .1 l) h))
 
-  -- the stronger of the path so far and a way
+  -- the stronger of the path so far and a way over another candidate
   pub way-law : (words : ℕ → ℕ → ℕ) (w h l at i j a c d : ℕ) → h ≤ w → number W (words i j) 1 (suc w) ≡ a
       → number W (words i (suc l)) 1 (suc w) ≡ c → number W (words (suc l) j) 1 (suc w) ≡ d →
       Holds W at (smaller at (words i (suc l)) (words (suc l) j) w h
@@ -213,7 +213,7 @@ module _ (W : ℕ → ℕ) (b : Binary W) where
       let e : to + suc w + orderSize w h ≡ at + (orderSize w h + suc w + orderSize w h) = omega arith in
       sym (ap (λ (m : ℕ). number W m 1 (suc w)) e) ∙ omega (arith, r, s)
 
-  -- the same if the path so far counts only if there is a link
+  -- the same, if the path so far counts only if there is a link
   pub first-way-law : (links words v : ℕ → ℕ → ℕ) (w h at i j c d : ℕ) → h ≤ w → number W (words i j) 1 (suc w)
       ≡ v i j → (v j i < v i j → W (links i j) ≡ 1) × (v i j ≤ v j i → W (links i j) ≡ 0) →
       number W (words i 0) 1 (suc w) ≡ c → number W (words 0 j) 1 (suc w) ≡ d →

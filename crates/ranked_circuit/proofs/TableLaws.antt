@@ -1,4 +1,4 @@
--- Tables of blocks: where each block is, and that its gates are there.
+-- Tables of blocks: where each block starts, and that its gates are there.
 -- Assumes nothing.
 use mathlib.Core.Path.{_≡_, _∙_, ap, subst}
 use mathlib.Core.Logic.{⊎-elim}
@@ -13,7 +13,7 @@ use Rattle.basics.proofs.Arithmetic.{row-within}
 use Rattle.basics.proofs.Cases.{below-or-not}
 use Rattle.ranked_circuit.specs.Table.{blocks, entries, table, entryEnd}
 
--- where block e starts
+-- the wire at which block e starts
 abbrev pub startOf : ℕ → (ℕ → ℕ → List Gate) → ℕ → ℕ
 startOf n block e = n + length (blocks n block e)
 
@@ -32,7 +32,7 @@ module _ (n : ℕ) (block : ℕ → ℕ → List Gate) where
       ⊎-elim (λ (l : e < suc m). omega (arith, start-grows m e (omega arith), start-next m))
       (λ (l : suc m ≤ e). let z : e ≡ suc m = omega arith in rw z (omega arith)) (below-or-not e (suc m))
 
-  -- blocks of one size
+  -- the length of blocks of one size
   pub length-same : (size : ℕ) → ((at e : ℕ) → length (block at e) ≡ size) → (m : ℕ) → length (blocks n block m) ≡ m * size
   length-same size sized zero = omega (arith, start-zero, zero-mul size)
   length-same size sized (suc m) = omega (arith, start-next m, sized (startOf n block m) m, length-same size sized m, suc-mul m size)
@@ -52,14 +52,14 @@ module _ (n : ℕ) (block : ℕ → ℕ → List Gate) where
   blocks-good (suc m) good =
       good-append n (blocks n block m) (block (startOf n block m) m) (blocks-good m (λ e l. good e (omega arith))) (good m (omega arith))
 
--- row and column of the block at place i, j
+-- the row and the column of block number i * k + j
 pub row-of : (k i j : ℕ) → j < k → (i * k + j) / k ≡ i
 row-of k i j h = mul-add-div-right {m = k} (omega arith) i j ∙ ap (λ (q : ℕ). i + q) (div-eq-of-lt h) ∙ add-zero i
 
 pub column-of : (k i j : ℕ) → j < k → (i * k + j) % k ≡ j
 column-of k i j h = mul-add-mod-self-right i k j ∙ mod-eq-of-lt h
 
--- and the number of the block in row e / k and column e % k is e
+-- block number e is in row e / k and column e % k
 pub number-of : (k e : ℕ) → e / k * k + e % k ≡ e
 number-of k e = div-add-mod' e k
 
@@ -74,7 +74,7 @@ column-low (suc l) e h = mod-lt e {m = suc l} (omega arith)
 pub number-low : (k i j : ℕ) → i < k → j < k → i * k + j < k * k
 number-low k i j hi hj = omega (arith, row-within i k k hi)
 
--- where the block of row i and column j starts
+-- the wire at which the block of row i and column j starts
 abbrev pub entryStart : ℕ → ℕ → (ℕ → ℕ → ℕ → List Gate) → ℕ → ℕ → ℕ
 entryStart n k block i j = n + length (entries n k block (i * k + j))
 

@@ -1,5 +1,6 @@
--- Who beats whom. There is no detour over the last candidate l: the paths that do not pass l say it too, as
--- `beats-by-six` of `rule_schulze` shows. First l has a duel with each of the others, then they meet each other.
+-- Who beats whom. There is no detour over the last candidate l: the paths that avoid l already decide, as
+-- `beats-by-six` of `rule_schulze` shows. First each of the others has a duel with l, then each pair of the others
+-- has a meeting.
 use mathlib.Core.Bool.{cond}
 use mathlib.Core.List.{List, [], _∷_, _++_}
 use Prim.Native.Nat.{ℕ, _+_, _-_, _*_, max}
@@ -12,19 +13,21 @@ use Rattle.ranked_circuit.specs.Table.{table}
 use Rattle.ranked_circuit.specs.Stages.{laterOf, linksBlock, linkAt}
 use Rattle.ranked_circuit.specs.Paths.{pathsTo}
 
--- The duels of k candidates: from which wire on, and the wire that says whether i beats j, one of whom is the last.
+-- The wire at which the duels start, for k candidates, n ballots and words of w + 1 digits.
 unfoldable pub duelsFrom : ℕ → ℕ → ℕ → ℕ
 duelsFrom k n w = n * k * k + length (pathsTo k n w k .gates)
 
+-- The duels: each path to the last candidate is compared with the path back.
 unfoldable pub duels : ℕ → ℕ → ℕ → List Gate
 duels k n w = table (duelsFrom k n w) k (linksBlock (k - 1) (pathsTo k n w k .words) w)
 
+-- The wire that says whether i beats j, if one of them is the last candidate.
 unfoldable pub duelAt : ℕ → ℕ → ℕ → ℕ → ℕ → ℕ
 duelAt k n w = linkAt (duelsFrom k n w) k (linksBlock (k - 1) (pathsTo k n w k .words) w)
 
--- Two others, i and j. If l has a weaker path to i than to j, i beats j if it beats l; else if its path to j is
--- stronger than the one back and than l's. The words: l to i and to j, i and j to each other; mi and mj say whether i
--- and j beat l. The last wires say whether i beats j, and whether j beats i.
+-- The meeting of i and j. If l's path to i is weaker than its path to j, i beats j if i beats l. Otherwise i beats j
+-- if its path to j is stronger than the path back and than l's path to j. The words li, lj, ij and ji are these
+-- paths; mi and mj say whether i and j beat l. The last two wires say whether i beats j, and whether j beats i.
 unfoldable pub meeting : ℕ → ℕ → ℕ → ℕ → ℕ → ℕ → ℕ → ℕ → List Gate
 meeting li lj ij ji mi mj w at =
     let c = 3 + 3 * w in
@@ -39,18 +42,23 @@ meeting li lj ij ji mi mj w at =
     ∷ muxOf (at + c - 2) mj (at + c + c + s + s + 1)
     ∷ [])
 
+-- The meeting of i and j, if `words` gives the first wires of words, and `met` the wires that say who won a duel.
 abbrev pub meetingOf : ℕ → (ℕ → ℕ → ℕ) → (ℕ → ℕ → ℕ) → ℕ → ℕ → ℕ → ℕ → List Gate
 meetingOf l words met w at i j = meeting (words l i) (words l j) (words i j) (words j i) (met i l) (met j l) w at
 
+-- The block of i and j in the table of meetings: one for each pair of candidates before l.
 unfoldable pub meetingsBlock : ℕ → (ℕ → ℕ → ℕ) → (ℕ → ℕ → ℕ) → ℕ → ℕ → ℕ → ℕ → List Gate
 meetingsBlock l words met w = laterOf (λ i. ltb i l) (meetingOf l words met w)
 
+-- The wire at which the meetings start.
 unfoldable pub meetingsFrom : ℕ → ℕ → ℕ → ℕ
 meetingsFrom k n w = duelsFrom k n w + length (duels k n w)
 
+-- The meetings of all candidates but the last.
 unfoldable pub meetings : ℕ → ℕ → ℕ → List Gate
 meetings k n w = table (meetingsFrom k n w) k (meetingsBlock (k - 1) (pathsTo k n w k .words) (duelAt k n w) w)
 
+-- The wire that says whether i beats j, if neither is the last candidate.
 unfoldable pub meetingAt : ℕ → ℕ → ℕ → ℕ → ℕ → ℕ
 meetingAt k n w = linkAt (meetingsFrom k n w) k (meetingsBlock (k - 1) (pathsTo k n w k .words) (duelAt k n w) w)
 

@@ -9,14 +9,15 @@ unfoldable pub blocks : ℕ → (ℕ → ℕ → List Gate) → ℕ → List Gat
 blocks n block zero = []
 blocks n block (suc m) = blocks n block m ++ block (n + length (blocks n block m)) m
 
--- k rows of k blocks, row after row: the first m of them. Each gets the wire at which it starts, its row and its
--- column.
+-- The first m blocks of a table of k rows and k columns, row by row. Each gets the wire at which it starts, its row
+-- and its column.
 unfoldable pub entries : ℕ → ℕ → (ℕ → ℕ → ℕ → List Gate) → ℕ → List Gate
 entries n k block m = blocks n (λ at e. block at (e / k) (e % k)) m
 
+-- The whole table.
 unfoldable pub table : ℕ → ℕ → (ℕ → ℕ → ℕ → List Gate) → List Gate
 table n k block = entries n k block (k * k)
 
--- The wire after the block of row i and column j.
+-- The first wire after the block of row i and column j.
 unfoldable pub entryEnd : ℕ → ℕ → (ℕ → ℕ → ℕ → List Gate) → ℕ → ℕ → ℕ
 entryEnd n k block i j = n + length (entries n k block (suc (i * k + j)))

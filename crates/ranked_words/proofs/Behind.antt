@@ -1,4 +1,4 @@
--- The writer after a block: where it is, and its room.
+-- The writer after a block: its wire and its room.
 -- Assumes nothing.
 use mathlib.Core.Path.{_≡_}
 use mathlib.Core.List.{List}
@@ -10,7 +10,7 @@ use Rattle.gate_words.specs.declared.writer.Writer.{Writer}
 use Rattle.gate_words.specs.Writing.{Room, Wrote}
 use Rattle.gate_words.proofs.Writing.{room-after}
 
--- the writer after a block of l gates: where it is, and its room
+-- the writer after a block of l gates: its wire and its room
 pub behind : (w : Writer) (t : List ℕ) (gs : List Gate) (t₁ : List ℕ) (w₁ : Writer) (l : ℕ) → Wrote w t gs t₁ w₁
     → length gs ≡ l → w₁ .wire ≡ w .wire + l
 behind w t gs t₁ w₁ l a e = omega (arith, a .wires)

@@ -1,4 +1,4 @@
--- Orders of words that are cut, as they are written.
+-- Orders of words that are cut in two halves, as they are written.
 -- Assumes nothing.
 use mathlib.Core.Path.{_≡_, _∙_, refl, ap}
 use mathlib.Core.List.{[], _∷_, _++_}
@@ -23,7 +23,7 @@ module _ (n x y w : ℕ) where
   unfolding orderCut
   cut-some cut l h e q = rw (q, e) refl
 
-  -- the last of these gates answers
+  -- the last gate has the answer
   pub cut-end : (cut wire : ℕ) → wire ≡ n + orderSize w cut → chainEnd n x (wire - n) ≡ cutEnd n x w cut
   unfolding cutEnd
   cut-end cut wire e = let q : wire - n ≡ orderSize w cut = omega arith in ap (chainEnd n x) q

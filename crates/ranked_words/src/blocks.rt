@@ -1,4 +1,4 @@
-// The smaller or larger of two words, and two words compared.
+// Comparing two words, and choosing the smaller or the larger one. A word has a lowest digit and `digits` more.
 use gate_words::choice::chain_end;
 use gate_words::halves::above_at;
 use gate_words::halves::unequal_at;
@@ -13,7 +13,8 @@ ghost use Rattle.ranked_circuit.specs.Blocks.{compare, strictly, order, orderCu
 ghost use Rattle.ranked_circuit.specs.Blocks.{smaller, larger, largerIf};
 ghost use Rattle.ranked_words.specs.inner.Orders.{CutReady, OneReady, WayReady};
 
-// Two words compared both ways.
+// Compares two words both ways. The last wire but one says whether the word at x is above, the last whether it is
+// below.
 pub fn compare(w: Writer, table: &mut [u32], x: u32, y: u32, digits: u32) -> Writer
     requires { ⌜ WordsReady w (3 + 3 * digits) x y (suc digits) ⌝ }
     ensures { λ r. ⌜ Wrote w (now (table .entry)) (compare (w .wire) x y digits) (now (table .exit)) r ⌝ }
@@ -23,7 +24,7 @@ pub fn compare(w: Writer, table: &mut [u32], x: u32, y: u32, digits: u32) -> Wri
     first.compare_words(table, x + 1, y + 1, n + 1, n + 2, digits)
 }
 
-// Whether the word at x is above the word at y.
+// Whether the word at x is above the word at y. The last wire says so.
 pub fn strictly(w: Writer, table: &mut [u32], x: u32, y: u32, digits: u32) -> Writer
     requires { ⌜ WordsReady w (2 + 2 * digits) x y (suc digits) ⌝ }
     ensures { λ r. ⌜ Wrote w (now (table .entry)) (strictly (w .wire) x y digits) (now (table .exit)) r ⌝ }
@@ -35,7 +36,7 @@ pub fn strictly(w: Writer, table: &mut [u32], x: u32, y: u32, digits: u32) -> Wr
     differ.above(table, n + 2, x + 1, n + 1, digits)
 }
 
-// The word at x compared one way with the word at y.
+// Which of the words at x and y is larger. If they are equal, either answer will do.
 fn order(w: Writer, table: &mut [u32], x: u32, y: u32, digits: u32) -> Writer
     requires { ⌜ WordsReady w (2 * digits) x y (suc digits) ⌝ }
     ensures { λ r. ⌜ Wrote w (now (table .entry)) (order (w .wire) x y digits) (now (table .exit)) r ⌝ }
@@ -45,7 +46,7 @@ fn order(w: Writer, table: &mut [u32], x: u32, y: u32, digits: u32) -> Writer
     differ.above(table, n, x + 1, x, digits)
 }
 
-// The same, the `cut` highest digits being compared beside the others.
+// The same in fewer rounds: the `cut` highest digits are compared at the same time as the others.
 fn order_cut(w: Writer, table: &mut [u32], x: u32, y: u32, digits: u32, cut: u32) -> Writer
     requires { ⌜ CutReady w (orderSize digits cut) x y digits cut ⌝ }
     ensures { λ r. ⌜ Wrote w (now (table .entry)) (orderCut (w .wire) x y digits cut) (now (table .exit)) r ⌝ }
@@ -64,7 +65,8 @@ fn order_cut(w: Writer, table: &mut [u32], x: u32, y: u32, digits: u32, cut: u32
     compared.emit(table, kind::CHOICE, differ, over, end)
 }
 
-// Of two words the one at `more` where the word at x is the larger one, else the one at `less`.
+// The word at `more` if the word at x is larger than the word at y, the word at `less` if it is smaller. If the two
+// are equal, either may be chosen.
 fn one_of(
     w: Writer,
     table: &mut [u32],
@@ -87,7 +89,7 @@ fn one_of(
     told.choose(table, end, more, less, digits + 1)
 }
 
-// The larger of two words if wire f is 1, else the word at y.
+// The larger of the words at x and y if wire f is 1, otherwise the word at y.
 fn larger_if(w: Writer, table: &mut [u32], f: u32, x: u32, y: u32, digits: u32, cut: u32) -> Writer
     requires { ⌜ CutReady w (orderSize digits cut + 1 + suc digits) x y digits cut ⌝ }
     ensures { λ r. ⌜ Wrote w (now (table .entry)) (largerIf (w .wire) f x y digits cut) (now (table .exit)) r ⌝ }
@@ -99,7 +101,8 @@ fn larger_if(w: Writer, table: &mut [u32], f: u32, x: u32, y: u32, digits: u32, 
     both.choose(table, told.wire, x, y, digits + 1)
 }
 
-// The stronger of the link, if wire f says that there is one, and the way whose links are x and y.
+// The stronger of a link and a way. The link is the word at v, and counts only if wire f is 1. The way is as strong
+// as the weaker of its two parts, the words at x and y.
 pub fn link_or_way(
     w: Writer,
     table: &mut [u32],
@@ -121,7 +124,8 @@ pub fn link_or_way(
     larger_if(weaker, table, f, v, weaker.wire - digits - 1, digits, cut)
 }
 
-// The stronger of the path so far and the way whose parts are x and y.
+// The stronger of the path so far, the word at v, and a way, which is as strong as the weaker of its parts at x and
+// y.
 pub fn path_or_way(
     w: Writer,
     table: &mut [u32],

@@ -1,4 +1,4 @@
-// Two candidates before the last one meet.
+// The meeting of two candidates, neither of whom is the last.
 use crate::blocks::compare;
 use crate::blocks::strictly;
 use gate_words::writer::Writer;
@@ -10,7 +10,8 @@ ghost use Rattle.gate_words.specs.Writing.{Wrote};
 ghost use Rattle.ranked_circuit.specs.Contests as spec;
 ghost use Rattle.ranked_words.specs.inner.Meeting.{Deciding, Meeting};
 
-// Who beats whom, after the comparisons: the first ends before wire a, the next before b, the next before s.
+// Who beats whom, after four comparisons. The first three end just before the wires a, b and s, the fourth just
+// before the writer's. Wires mi and mj say whether i and j beat the last candidate.
 fn decide(w: Writer, table: &mut [u32], a: u32, b: u32, s: u32, mi: u32, mj: u32) -> Writer
     requires { ⌜ Deciding w a b s ⌝ }
     ensures { λ r. ⌜
@@ -25,8 +26,8 @@ fn decide(w: Writer, table: &mut [u32], a: u32, b: u32, s: u32, mi: u32, mj: u32
     up.emit(table, kind::CHOICE, a - 2, mj, n + 1)
 }
 
-// The meeting of i and j: by the words of the last candidate l to i and to j, those of i and j to each other, and the
-// wires that say whether i and j beat l.
+// The meeting of i and j. The words li and lj are the last candidate's paths to i and to j, ij and ji the paths
+// between i and j. Wires mi and mj say whether i and j beat the last candidate.
 pub fn meeting(
     w: Writer,
     table: &mut [u32],

@@ -15,13 +15,13 @@ use Rattle.ranked_blocks.proofs.Entering.{square-small}
 use Rattle.ranked_circuit.proofs.TableLaws.{startOf, start-next, start-grows, length-same, row-low, column-low, number-of}
 use Rattle.gate_words.proofs.Standing.{wrote-then}
 
--- blocks of one gate each
+-- room for k blocks of one gate each
 pub single-room : (w : Writer) (b : ℕ → ℕ → List Gate) (k : ℕ) → ((at e : ℕ) → length (b at e) ≡ 1) → Room w k
     → Room w (length (blocks (w .wire) b k))
 single-room w b k one room = room-less w _ _ (omega (arith, length-same (w .wire) b 1 one k)) room
 
 module _ (w₀ : Writer) (t₀ : List ℕ) (block : ℕ → ℕ → List Gate) where
-  -- after m blocks
+  -- m blocks are written
   abbrev pub Filled : ℕ → List ℕ → Writer → Type 0
   Filled m t w = Wrote w₀ t₀ (blocks (w₀ .wire) block m) t w
 
@@ -49,9 +49,7 @@ module _ (w₀ : Writer) (t₀ : List ℕ) (block : ℕ → ℕ → List Gate) w
   pub fill-end : (m most : ℕ) (t : List ℕ) (w : Writer) → most ≤ m → m ≤ most → Filled m t w → Filled most t w
   fill-end m most t w h g a = subst (λ (n : ℕ). Filled n t w) {x = m} {y = most} (omega arith) a
 
--- A turn of the loop over a table of k rows, x being k: block e is in row e
---
--- x and column e % x.
+-- A turn of the loop over a table of k rows; x is k as the program has it. Block e is in row e / x and column e % x.
 pub record Turn (x k e : ℕ) : Type 0 where
   pub row : e / x < k
   pub column : e % x < k
@@ -79,7 +77,7 @@ module _ (w₀ : Writer) (t₀ : List ℕ) (k : ℕ) (block : ℕ → ℕ → �
   abbrev numbered : ℕ → ℕ → List Gate
   numbered at e = block at (e / k) (e % k)
 
-  -- after e blocks of the table
+  -- e blocks of the table are written
   abbrev pub TableTo : ℕ → List ℕ → Writer → Type 0
   TableTo e t w = Wrote w₀ t₀ (entries (w₀ .wire) k block e) t w
 
@@ -101,7 +99,7 @@ module _ (w₀ : Writer) (t₀ : List ℕ) (k : ℕ) (block : ℕ → ℕ → �
   unfolding entries table
   table-end e t w h g a = fill-end w₀ t₀ numbered e (k * k) t w h g a
 
-  -- where the writer is: after the blocks so far; the next one is after its own block
+  -- the writer is after the blocks so far, and the next writer after one block more
   pub table-from : (e : ℕ) (t : List ℕ) (w : Writer) → TableTo e t w → w₀ .wire ≤ w .wire
   table-from e t w a = omega (arith, a .wires)
 

@@ -1,4 +1,4 @@
--- What the loops over the tables keep for each two candidates.
+-- What the loops over the tables keep for each pair of candidates.
 -- Assumes nothing.
 use mathlib.Core.Path.{_≡_, _∙_, refl, sym, ap}
 use mathlib.Core.Bool.{Bool, true, false, cond, _&&_, _||_, true≢false}
@@ -26,17 +26,17 @@ use Rattle.ranked_writer.proofs.Filling.{TableTo, table-from, end-befor
 use Rattle.ranked_blocks.proofs.Entering.{index-small}
 use Rattle.ranked_writer.specs.Tables.{Keeps}
 
--- row and column give the number, and the number gives them
+-- the row and the column of number e
 same-place : (k i j e : ℕ) → j < k → i * k + j ≡ e → (i ≡ e / k) × (j ≡ e % k)
 same-place k i j e hj q = (sym (row-of k i j hj) ∙ ap (λ (x : ℕ). x / k) q, sym (column-of k i j hj) ∙ ap (λ (x : ℕ). x % k) q)
 
--- two places with one number are one
+-- different places have different numbers
 one-place : (k i j i′ j′ : ℕ) → j < k → j′ < k → i * k + j ≡ i′ * k + j′ → (i ≡ i′) × (j ≡ j′)
 one-place k i j i′ j′ hj hj′ q =
     let p = same-place k i j (i′ * k + j′) hj q in
     (p .0 ∙ row-of k i′ j′ hj′, p .1 ∙ column-of k i′ j′ hj′)
 
--- Words: stay i j leaves that of i and j; otherwise it is at new i j.
+-- Words: if `stay i j` holds, the word of i and j stays where it was; otherwise it is at `new i j`.
 module _ (k : ℕ) (stay : ℕ → ℕ → Bool) (new : ℕ → ℕ → ℕ) (ws₀ : List ℕ) where
   -- after e blocks
   pub record KeptTo (e : ℕ) (ws : List ℕ) : Type 0 where
@@ -109,7 +109,7 @@ module _ (k : ℕ) (stay : ℕ → ℕ → Bool) (new : ℕ → ℕ → ℕ) (ws
             ∙ sym (ap (λ (c : Bool). cond c (keptOf ws₀ k i j) (new i j)) s));
       }
 
--- Wires about two candidates: for j < i, in one of these rows, the block of number i k + j ends before `ends i j`.
+-- Wires about two candidates: if j < i and `rows` holds for i, their block ends just before wire `ends i j`.
 module _ (k : ℕ) (rows : ℕ → Bool) (ends : ℕ → ℕ → ℕ) (ls₀ : List ℕ) where
   pub record LinksTo (e : ℕ) (ls : List ℕ) : Type 0 where
     pub long : length ls ≡ 64
@@ -244,7 +244,7 @@ module _ (k : ℕ) (rows : ℕ → Bool) (ends : ℕ → ℕ → ℕ) (ls₀ : L
           (below-or-not j i)
           ∙ sym (ap (λ (c : Bool). cond c (cond (ltb j i) (ends i j - 2) (ends j i - 1)) (keptOf ls₀ k i j)) y)
 
--- a block reads a link and three words, which may be kept elsewhere under the same values
+-- a block depends only on the link and the three words that it reads
 new-agree : (links links′ words words′ : ℕ → ℕ → ℕ) (w h m at i j : ℕ) → stays m i j ≡ false → links i j
     ≡ links′ i j → words i j ≡ words′ i j →
     ((l : ℕ) → m ≡ suc l → i ≢ l → words i l ≡ words′ i l) → ((l : ℕ) → m ≡ suc l → j ≢ l → words l j ≡ words′ l j)
@@ -276,7 +276,7 @@ unfolding linksBlock laterOf
 links-agree first words words′ w at i j h =
     ⊎-elim (λ (l : j < i). rw (h l .0, h l .1)) (λ (l : i ≤ j). rw (le-ltb j i l)) (below-or-not j i)
 
--- a meeting reads the words of three candidates, and what the duels of two of them say
+-- a meeting depends only on the four words and the two duels that it reads
 pub meetings-agree : (l : ℕ) (words words′ met met′ : ℕ → ℕ → ℕ) (w at i j : ℕ)
     → (j < i → i < l → (words l i ≡ words′ l i) × (words l j ≡ words′ l j) × (words i j ≡ words′ i j)
     × (words j i ≡ words′ j i) × (met i l ≡ met′ i l) × (met j l ≡ met′ j l))
@@ -294,7 +294,7 @@ meetings-agree l words words′ met met′ w at i j h =
     none true gs hs = refl
     none false gs hs = refl
 
--- tables of blocks that are the same
+-- tables of equal blocks are equal
 module _ (n k : ℕ) (block block′ : ℕ → ℕ → ℕ → List Gate) (same : (at i j : ℕ) → i < k → j < k → block at i j ≡ block′ at i j) where
   entries-agree : (m : ℕ) → m ≤ k * k → entries n k block m ≡ entries n k block′ m
   unfolding entries blocks
@@ -320,7 +320,7 @@ module _ (n k : ℕ) (block block′ : ℕ → ℕ → ℕ → List Gate) (same 
       ap (λ (x : ℕ). cond (ltb j i) (x - 2) (entryEnd n k block j i - 1)) (end-agree i j hi hj)
       ∙ ap (λ (x : ℕ). cond (ltb j i) (entryEnd n k block′ i j - 2) (x - 1)) (end-agree j i hj hi)
 
--- whose word the stage of a detour over l leaves
+-- the detour over l leaves the words to and from l
 row-true : (l i : ℕ) → stays (suc l) i l ≡ true
 unfolding stays
 row-true l i = or-first (eqb i l || eqb l l) (eqb i l) (or-second (eqb i l) (eqb l l) (eq-eqb l l refl))
@@ -329,7 +329,7 @@ column-true : (l j : ℕ) → stays (suc l) l j ≡ true
 unfolding stays
 column-true l j = or-first (eqb l l || eqb j l) (eqb l j) (or-first (eqb l l) (eqb j l) (eq-eqb l l refl))
 
--- A stage that is being written: its block reads what it found at the start.
+-- While a stage is written, its blocks read what was there at its start.
 module _ (w₀ : Writer) (t₀ : List ℕ) (k w m : ℕ) (links ws₀ : List ℕ) where
   abbrev pub stageBlock : ℕ → ℕ → ℕ → List Gate
   stageBlock = pathBlock k (keptOf links k) (keptOf ws₀ k) w m
@@ -367,7 +367,7 @@ module _ (w₀ : Writer) (t₀ : List ℕ) (k w m : ℕ) (links ws₀ : List ℕ
         ))
         (λ (l : e ≤ i * k + j). omega (arith, t .later i j hi hj l, below i j hi hj ne)) (below-or-not (i * k + j) e))
 
--- The meetings, as they are being written: what they read about the duels stays.
+-- While the meetings are written, the wires of the duels that they read stay.
 module _ (k w : ℕ) (words met₀ : List ℕ) (ends : ℕ → ℕ → ℕ) (e : ℕ) (met : List ℕ)
     (t : LinksTo k (λ i. ltb i (k - 1)) ends met₀ e met) where
   pub met-agree : (at : ℕ) → e < k * k → meetingsBlock (k - 1) (keptOf words k) (keptOf met k) w at (e / k) (e % k)

@@ -1,4 +1,4 @@
--- The own list by its parts, as its writer writes them, under the wires that it keeps.
+-- The parts of the own list as they are written, in terms of the wires that are kept.
 -- Assumes nothing.
 use mathlib.Core.Path.{_≡_, _∙_, refl, sym, ap, subst}
 use mathlib.Core.Bool.{Bool, false, cond}
@@ -25,13 +25,13 @@ use Rattle.ranked_blocks.specs.Ranked.{keptOf, WordsBelow}
 use Rattle.ranked_writer.specs.Tables.{Keeps}
 use Rattle.ranked_writer.proofs.Keeping.{path-agree, links-agree, meetings-agree, table-agree, end-agree, at-agree}
 
--- a stage that moves a word moves that of two candidates
+-- a stage changes only words of two different candidates
 pub apart : (m i j : ℕ) → stays m i j ≡ false → i ≢ j
 apart zero i j e = apart-zero i j e
 apart (suc l) i j e = apart-all l i j e .2
 
 module _ (k n w : ℕ) where
-  -- kept words are below where the list of the stages ends
+  -- kept words end before the list of the stages does
   pub kept-below : (m : ℕ) (ws : List ℕ) (wire : ℕ) → Keeps k ws (pathsTo k n w m .words) → wire ≡ endOf k n w m → WordsBelow ws k w wire
   kept-below m ws wire t q i j hi hj ne = omega (arith, t .each i j hi hj ne, words-below k n w m i j hi hj ne)
 
@@ -80,7 +80,7 @@ module _ (k n w : ℕ) where
         ap (λ (x : ℕ). linkAt x k (linksBlock first (keptOf ws k) w) i j) q
         ∙ at-agree from k (linksBlock first (keptOf ws k) w) (linksBlock first words w) links-same i j hi hj
 
-  -- the links of all rows
+  -- the links of all candidates: their first row is 0
   pub links-kept-is : (words : ℕ → ℕ → ℕ) (ws : List ℕ) → Keeps k ws words → (wire from : ℕ) (ls : List ℕ) (old : ℕ → ℕ → ℕ) → wire ≡ from
       → Keeps k ls (λ i j. cond (leb 0 (max i j)) (linkAt wire k (linksBlock 0 (keptOf ws k) w) i j) (old i j))
       → Keeps k ls (linkAt from k (linksBlock 0 words w))
@@ -213,7 +213,7 @@ module _ (k n w : ℕ) where
     unfolding duels
     duels-table-is wire q = links-table-is (k - 1) (pathsTo k n w k .words) ws t wire (duelsFrom k n w) q
 
-    -- the wires kept after the duels
+    -- the wires that are kept after the duels
     abbrev pub Duelled : ℕ → List ℕ → List ℕ → Type 0
     Duelled wire ls ls₀ = Keeps k ls
         (λ i j. cond (leb (k - 1) (max i j)) (linkAt wire k (linksBlock (k - 1) (keptOf ws k) w) i j)
@@ -248,7 +248,7 @@ module _ (k n w : ℕ) where
           ∙ table-agree (meetingsFrom k n w) k (meetingsBlock (k - 1) (keptOf ws k) (keptOf ls k) w)
           (meetingsBlock (k - 1) (pathsTo k n w k .words) (duelAt k n w) w) met-same
 
-      -- and after the meetings
+      -- the wires that are kept after the meetings
       pub beats-kept : (next : ℕ) (bs : List ℕ) → next ≡ meetingsFrom k n w
           → Keeps k bs (λ i j. cond (ltb (max i j) (k - 1))
           (linkAt next k (meetingsBlock (k - 1) (keptOf ws k) (keptOf ls k) w) i j) (keptOf ls k i j))
@@ -283,7 +283,7 @@ module _ (k n w : ℕ) where
               ∙ duel-kept i j hi hj ne h ∙ sym (ap (λ (c : Bool). cond c (meetingAt k n w i j) (duelAt k n w i j))
               (le-ltb (max i j) (k - 1) h)))
 
--- blocks that are the same
+-- equal blocks make equal lists
 blocks-agree : (n : ℕ) (block block′ : ℕ → ℕ → List Gate) (m : ℕ) → ((at e : ℕ) → e < m → block at e ≡ block′ at e)
     → blocks n block m ≡ blocks n block′ m
 unfolding blocks
@@ -292,7 +292,7 @@ blocks-agree n block block′ (suc m) same =
     ap (λ (gs : List Gate). gs ++ block (n + length gs) m) (blocks-agree n block block′ m (λ at e l. same at e (omega arith)))
     ∙ ap (λ (gs : List Gate). blocks n block′ m ++ gs) (same (n + length (blocks n block′ m)) m (omega arith))
 
--- who beats whom, under the wires that are kept
+-- the rows and the output gates depend only on the wires that say who beats whom
 module _ (r : ℕ) (beats beats′ : ℕ → ℕ → ℕ) (same : (i j : ℕ) → i < suc (suc r) → j < suc (suc r) → i ≢ j → beats i j ≡ beats′ i j) where
   joined-agree : (at i s : ℕ) → i < suc (suc r) → joinedWire beats (suc r) at i s ≡ joinedWire beats′ (suc r) at i s
   unfolding joinedWire

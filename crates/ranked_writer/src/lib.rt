@@ -1,4 +1,4 @@
-// The own list of a ranked tasting, written into a table.
+// Writes the own list of a ranked tasting into a table.
 pub mod list;
 mod losers;
 mod tables;

@@ -1,4 +1,4 @@
-// The own list of a ranked tasting.
+// Writes the own list of a ranked tasting.
 use crate::losers::loser_rows;
 use crate::losers::output_gates;
 use crate::tables::links_table;
@@ -18,7 +18,7 @@ ghost use Rattle.ranked_writer.specs.inner.Contests.{ContestsReady, Cont
 ghost use Rattle.ranked_writer.specs.inner.Paths.{FirstReady, FirstDone, PathsReady, WordsDone};
 ghost use Rattle.ranked_writer.specs.inner.Paths.{PairReady, ListReady};
 
-// The numbers of ballots, and the links.
+// The tables of the numbers of ballots and of the links.
 fn first_tables(
     w: Writer,
     table: &mut [u32],
@@ -35,7 +35,7 @@ fn first_tables(
     links_table(counted, table, words, links, p, 0)
 }
 
-// The stages of the paths but the last: no path passes the last candidate.
+// The first tables, and all stages of the paths. No detour goes over the last candidate.
 fn path_tables(w: Writer, table: &mut [u32], words: &mut [u32], p: Ranks) -> Writer
     requires { ⌜ PathsReady w (now words) p ⌝ }
     ensures { λ r. ⌜
@@ -54,7 +54,7 @@ fn path_tables(w: Writer, table: &mut [u32], words: &mut [u32], p: Ranks) -> Wri
     next
 }
 
-// Who beats whom: first between the last candidate and each of the others, then among the others.
+// Who beats whom: first the duels of the last candidate with each of the others, then the meetings of the others.
 fn contests(w: Writer, table: &mut [u32], words: &[u32], beats: &mut [u32], p: Ranks) -> Writer
     requires { ⌜ ContestsReady w (now words) (now beats) p ⌝ }
     ensures { λ r. ⌜ ContestsDone w (now (table .entry)) (now (table .exit)) r p (now (beats .exit)) ⌝ }
@@ -63,7 +63,7 @@ fn contests(w: Writer, table: &mut [u32], words: &[u32], beats: &mut [u32], p: R
     meetings_table(met, table, words, beats, p)
 }
 
-// The list for two candidates: their links say who is beaten.
+// The list for two candidates. Their links say who is beaten.
 fn pair_circuit(w: Writer, table: &mut [u32], p: Ranks) -> Writer
     requires { ⌜ PairReady w p ⌝ }
     ensures { λ r. ⌜
@@ -91,8 +91,8 @@ fn circuit(w: Writer, table: &mut [u32], p: Ranks) -> Writer
     output_gates(lost, table, &beats, p.candidates, met.wire)
 }
 
-// Writes the own list for this number of candidates and ballots from the table's first number on, as far as the table
-// goes. The writer says how many gates the list has, and how many of them are conditional, whatever the table.
+// Writes the own list for this number of candidates and ballots from the table's first number on, as far as there is
+// room. The writer that it returns has counted all gates and all conditional ones, even if the table is too short.
 pub fn ranked_list(candidates: u32, ballots: u32, table: &mut [u32]) -> Writer
     requires { ⌜ ListReady candidates ballots ⌝ }
     ensures { λ r. ⌜

@@ -9,7 +9,7 @@ ghost use Rattle.ranked_circuit.specs.RankedList as spec;
 ghost use Rattle.ranked_blocks.specs.Ranked.{keptOf};
 ghost use Rattle.ranked_writer.specs.inner.Losers.{JoinedReady, RowReady, RowsReady, OutputsReady};
 
-// Number s of the candidates but i.
+// Number s, counted from 0, of the candidates other than i.
 fn other(i: u32, s: u32) -> u32
     requires { ⌜ s < 8 ⌝ }
     ensures { λ r. ⌜ r ≡ spec.other i s ⌝ }
@@ -17,7 +17,7 @@ fn other(i: u32, s: u32) -> u32
     if s < i { s } else { s + 1 }
 }
 
-// Number s of what candidate i's row of gates from wire `at` on joins.
+// Operand s of candidate i's row of gates, which starts at wire `at`.
 fn joined(beats: &[u32], k: u32, at: u32, i: u32, s: u32) -> u32
     requires { ⌜ JoinedReady (now beats) k at i s ⌝ }
     ensures { λ r. ⌜ r ≡ spec.joinedWire (keptOf (now (beats .entry)) k) (suc (k - 2)) at i s ⌝ }
@@ -29,7 +29,7 @@ fn joined(beats: &[u32], k: u32, at: u32, i: u32, s: u32) -> u32
     at + (s - (k - 1))
 }
 
-// Whether one of the others beats i: gate t joins two that were not joined yet.
+// Whether one of the others beats i: gate t joins operands 2 t and 2 t + 1.
 fn loser_row(w: Writer, table: &mut [u32], beats: &[u32], k: u32, i: u32) -> Writer
     requires { ⌜ RowReady w (now beats) k i ⌝ }
     ensures { λ r. ⌜
@@ -66,7 +66,7 @@ pub(crate) fn loser_rows(w: Writer, table: &mut [u32], beats: &[u32], k: u32) ->
     next
 }
 
-// Who is not beaten; the rows start at `rows`.
+// The output gates: who is not beaten. The rows start at wire `rows`.
 pub(crate) fn output_gates(w: Writer, table: &mut [u32], beats: &[u32], k: u32, rows: u32) -> Writer
     requires { ⌜ OutputsReady w (now beats) k rows ⌝ }
     ensures { λ r. ⌜

@@ -1,4 +1,4 @@
-// The tables: k rows of k blocks.
+// The tables: k rows of k blocks, row by row.
 use gate_words::writer::Writer;
 use ranked_blocks::entries::Ranks;
 use ranked_blocks::entries::links_entry;
@@ -16,7 +16,7 @@ ghost use Rattle.ranked_blocks.specs.Ranked.{keptOf};
 ghost use Rattle.ranked_writer.specs.inner.Contests.{TableReady, TableDone};
 ghost use Rattle.ranked_writer.specs.inner.Paths.{VotesTableReady, StageReady, WordsDone};
 
-// The numbers of ballots.
+// The table of the numbers of ballots. The first wire of each word is kept in `words`.
 pub(crate) fn votes_table(w: Writer, table: &mut [u32], words: &mut [u32], p: Ranks) -> Writer
     requires { ⌜ VotesTableReady w (now words) p ⌝ }
     ensures { λ r. ⌜
@@ -36,7 +36,8 @@ pub(crate) fn votes_table(w: Writer, table: &mut [u32], words: &mut [u32], p: Ra
     next
 }
 
-// Words compared, if the later candidate is no earlier than `first`.
+// The table of links: one for each pair of candidates, if the later one is at least `first`. The wires that say which
+// word is larger are kept in `links`.
 pub(crate) fn links_table(
     w: Writer,
     table: &mut [u32],
@@ -64,7 +65,7 @@ pub(crate) fn links_table(
     next
 }
 
-// The meetings of the candidates before the last one, who met it already.
+// The table of meetings: one for each pair of candidates but the last. The duels with the last are already in `met`.
 pub(crate) fn meetings_table(
     w: Writer,
     table: &mut [u32],
@@ -93,7 +94,7 @@ pub(crate) fn meetings_table(
     next
 }
 
-// Stage m of the paths.
+// The table of stage m of the paths. The first wire of each new word is kept in `words`.
 pub(crate) fn path_table(
     w: Writer,
     table: &mut [u32],

@@ -9,8 +9,8 @@ use Rattle.gates.specs.Test.{firstBad}
 use Rattle.gates.specs.declared.place.Place.the-variants.{Nowhere}
 use Rattle.gate_levels.specs.Levels.{levelsOf, roundsOf}
 
--- For gate g: its numbers are in the table, its operands name inputs or earlier gates, and every level before it
--- leaves room for one more.
+-- For the level of gate g: its numbers are in the table, its operands name inputs or earlier gates, and the levels
+-- before it are at most g, so that adding 1 cannot wrap.
 pub record LevelReady (inputs : ℕ) (table : List ℕ) (g : ℕ) (levels : List ℕ) : Type 0 where
   pub in-table : 4 * g + 3 < length table
   pub in-levels : g < length levels
@@ -20,14 +20,15 @@ pub record LevelReady (inputs : ℕ) (table : List ℕ) (g : ℕ) (levels : List
   pub small : (h : ℕ) → h < g → getD levels h 0 ≤ g
   pub few : g < 1048576
 
--- For the whole list: good gates over at least one input, at most 2 ^ 20 of them, and a place for the level of each.
+-- For the levels of a whole list: good gates over at least one input, at most 2 ^ 20 of them, and a place for each
+-- level.
 pub record LevelsReady (inputs : ℕ) (table levels : List ℕ) : Type 0 where
   pub some-input : 1 ≤ inputs
   pub few : length (gatesOf table) ≤ 1048576
   pub good : firstBad inputs 0 (gatesOf table) ≡ Nowhere
   pub levels-length : length levels ≡ length (gatesOf table)
 
--- What writing leaves: the level of each gate, and the answer is the largest.
+-- What writing leaves: the level of each gate, and r, the largest of them.
 pub record Filled (inputs : ℕ) (table : List ℕ) (r : ℕ) (ls : List ℕ) : Type 0 where
   pub rounds : r ≡ roundsOf inputs (gatesOf table)
   pub levels : ls ≡ levelsOf inputs (gatesOf table)

@@ -1,4 +1,4 @@
--- What the counters ask for.
+-- What the functions that write counters ask for.
 use mathlib.Core.Path.{_≡_}
 use Prim.Native.Nat.{ℕ, _+_, _≤_, _<_}
 use Rattle.gates.specs.Kind.{operandsOf}
@@ -8,12 +8,12 @@ use Rattle.gate_words.specs.Counter.{countSize, Countable}
 use Rattle.gate_words.specs.Writing.{Room}
 use Rattle.gate_words.specs.declared.writer.Writer.{Writer}
 
--- One level: room, and bits that are wires already.
+-- A level asks for room, and for `count` bits, a stride apart, that are wires already.
 pub record LevelReady (w : Writer) (gates first stride count : ℕ) : Type 0 where
   pub room : Room w gates
   pub below : Below (w .wire) first stride count
 
--- A counter: the bits are few, and the levels are enough for them and the public number.
+-- A counter also asks that `levels` levels can count the bits and the public number `extra`.
 pub record CountReady (w : Writer) (gates first stride count extra levels : ℕ) : Type 0 where
   pub room : Room w gates
   pub below : Below (w .wire) first stride count
@@ -21,7 +21,8 @@ pub record CountReady (w : Writer) (gates first stride count extra levels : ℕ)
   pub few : count < writerLimit
   pub countable : Countable count extra levels
 
--- A counter's digits, by kinds with one operand: its levels exist already, from wire base on.
+-- The digits of a counter, by the kinds `low` and `top`, which have one operand. The levels are already written,
+-- from wire `base` on.
 pub record CountDigitsReady (w : Writer) (low top base count extra levels : ℕ) : Type 0 where
   pub room : Room w (levels + 1)
   pub lowOne : operandsOf low ≡ 1
@@ -30,7 +31,7 @@ pub record CountDigitsReady (w : Writer) (low top base count extra levels : ℕ)
   pub few : count < writerLimit
   pub countable : Countable count extra levels
 
--- The size of a counter's levels: it can be counted.
+-- Measuring the levels of a counter asks that the result is below the limit.
 pub record CountSizeReady (count extra levels : ℕ) : Type 0 where
   pub few : count < writerLimit
   pub small : countSize count extra levels < writerLimit

@@ -7,24 +7,24 @@ use Rattle.gate_words.specs.Word.{Below}
 use Rattle.gate_words.specs.Writing.{Room}
 use Rattle.gate_words.specs.declared.writer.Writer.{Writer}
 
--- For the word at x.
+-- The operand is the word at x.
 pub record WordReady (w : Writer) (gates x digits : ℕ) : Type 0 where
   pub room : Room w gates
   pub below : x + digits ≤ w .wire
 
--- For the words at x and y.
+-- The operands are the words at x and y.
 pub record WordsReady (w : Writer) (gates x y digits : ℕ) : Type 0 where
   pub room : Room w gates
   pub firstBelow : x + digits ≤ w .wire
   pub secondBelow : y + digits ≤ w .wire
 
--- For `count` wires, a stride apart.
+-- The operands are `count` wires, a stride apart.
 pub record WiresReady (w : Writer) (gates first stride count : ℕ) : Type 0 where
   pub room : Room w gates
   pub below : Below (w .wire) first stride count
   pub near : stride < writerLimit
 
--- For two rows of `count` wires.
+-- The operands are two rows of `count` wires, dx and dy apart.
 pub record RowsReady (w : Writer) (x dx y dy count : ℕ) : Type 0 where
   pub room : Room w count
   pub firstBelow : Below (w .wire) x dx count
@@ -32,7 +32,7 @@ pub record RowsReady (w : Writer) (x dx y dy count : ℕ) : Type 0 where
   pub secondBelow : Below (w .wire) y dy count
   pub secondNear : dy < writerLimit
 
--- For `count` wires, a stride apart, by a kind with two operands.
+-- The operands are `count` wires, a stride apart, and the kind has two operands.
 pub record ChainReady (w : Writer) (kind first stride count : ℕ) : Type 0 where
   pub room : Room w count
   pub below : Below (w .wire) first stride count

@@ -26,12 +26,12 @@ conditionalOf kind = getD conditionalMarks kind false
 unfoldable pub differ : ℕ → ℕ → ℕ
 differ a b = cond (eqb a b) 0 1
 
--- The first number chooses between the other two.
+-- The multiplexer: if a is 0 it is c, otherwise b.
 unfoldable pub chosen : ℕ → ℕ → ℕ → ℕ
 chosen a b c = cond (eqb a 0) c b
 
 -- The value of a kind from the values of its operands. Of two bits, the smaller is their conjunction and the larger
--- their disjunction. A number above 7 is no kind; if it needs a value, that is 0.
+-- their disjunction. A number above 7 is no kind; its value is 0.
 unfoldable pub valueOf : ℕ → ℕ → ℕ → ℕ → ℕ
 valueOf kind a b c =
     getD (0 ∷ 1 ∷ a ∷ (1 - a) ∷ min a b ∷ max a b ∷ differ a b ∷ chosen a b c ∷ []) kind 0

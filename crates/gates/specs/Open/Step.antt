@@ -1,4 +1,4 @@
--- The evaluating step: it does a range of a list's gates, after the wires and shown bits of earlier gates.
+-- The evaluating step: it evaluates a range of a list's gates, after the wires and shown bits of earlier gates.
 use mathlib.Core.Path.{_≡_}
 use mathlib.Core.Bool.{cond}
 use mathlib.Core.List.{List, [], _∷_, _++_}
@@ -13,7 +13,7 @@ use Rattle.gates.specs.Open.Board.{conditionalCount, shownBit, shownBits
 use Rattle.gates.specs.Open.Test.{goodGate, firstBad}
 use Rattle.gates.specs.declared.place.Place.the-variants.{Nowhere}
 
--- The gates of a table from one number up to another, which is not included.
+-- Gates from..to of a table; gate `to` is not included.
 unfoldable pub rangeOf : List ℕ → ℕ → ℕ → List Gate
 rangeOf table from to = take (to - from) (drop from (gatesOf table))
 
@@ -50,7 +50,7 @@ pub record FinishReady (inputs : ℕ) (table : List ℕ) (k : ℕ) (tape ws boar
 abbrev pub RunReady : List ℕ → List ℕ → ℕ → List ℕ → List ℕ → List ℕ → Type 0
 RunReady inputs table k tape ws board = FinishReady (length inputs) table k tape ws board
 
--- Gate g of a table, by the places of its four numbers.
+-- Gate g of a table: the four numbers from place 4 g on.
 unfoldable pub gateAt : List ℕ → ℕ → Gate
 gateAt table g =
     record {
@@ -61,7 +61,8 @@ gateAt table g =
       c = getD table (4 * g + 3) 0;
     }
 
--- What one gate asks: it is in the table and good for its own wire, and its wire, tape byte and board byte exist.
+-- What evaluating gate g asks: it is in the table and good for its wire `own`, and its wire, tape byte and board
+-- byte exist. `shown` is the number of bits shown before it.
 pub record GateReady (table : List ℕ) (g own : ℕ) (tape : List ℕ) (shown : ℕ) (ws board : List ℕ) : Type 0 where
   pub inTable : 4 * g + 3 < length table
   pub good : T (goodGate own (gateAt table g))
@@ -69,7 +70,8 @@ pub record GateReady (table : List ℕ) (g own : ℕ) (tape : List ℕ) (shown :
   pub inTape : shown + conditionalCount (gateAt table g ∷ []) ≤ length tape
   pub inBoard : shown + conditionalCount (gateAt table g ∷ []) ≤ length board
 
--- What evaluating it leaves: its wire, and its shown bit if it shows one.
+-- What evaluating gate g leaves: its wire, its shown bit if it is conditional, and r, the number of shown bits
+-- after it.
 pub record GateRan (table : List ℕ) (g own : ℕ) (tape : List ℕ) (shown : ℕ) (ws bs : List ℕ) (r : ℕ)
     (ws′ bs′ : List ℕ) : Type 0 where
   pub next : r ≡ shown + conditionalCount (gateAt table g ∷ [])
@@ -77,14 +79,14 @@ pub record GateRan (table : List ℕ) (g own : ℕ) (tape : List ℕ) (shown : �
   pub board : bs′ ≡ cond (conditionalOf (gateAt table g .kind))
       (set bs shown (shownBit ws (gateAt table g) (getD tape shown 0))) bs
 
--- What the step leaves, and how many bits are shown then.
+-- What the step leaves: wires, board, and r, the number of shown bits after it.
 pub record Stepped (inputs : ℕ) (table : List ℕ) (from to : ℕ) (tape : List ℕ) (shown : ℕ) (ws bs : List ℕ) (r : ℕ)
     (ws′ bs′ : List ℕ) : Type 0 where
   pub next : r ≡ shown + conditionalCount (rangeOf table from to)
   pub wires : ws′ ≡ stepWires inputs table from to ws
   pub board : bs′ ≡ stepBoard inputs table from to tape shown ws bs
 
--- What closing asks for: the outputs are wires, and after the shown bits the board has room for exactly them.
+-- What closing asks: there are k wires to output, and the board has exactly k bytes after the shown bits.
 pub record CloseReady (k shown : ℕ) (ws board : List ℕ) : Type 0 where
   pub enough : k ≤ length ws
   pub boardLength : length board ≡ shown + k

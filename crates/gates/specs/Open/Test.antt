@@ -1,4 +1,4 @@
--- The tests of a gate list, each with its place.
+-- The tests of a gate list. If a gate is bad, the answer is its place.
 use mathlib.Core.Bool.{Bool, true, false, cond, not, _&&_}
 use mathlib.Core.List.{List, [], _∷_}
 use Prim.Native.Nat.{ℕ, suc, _+_, _/_, _%_}
@@ -12,7 +12,7 @@ use Rattle.gates.specs.declared.place.Place.the-variants.{At, Nowhere}
 use Rattle.gates.specs.declared.list.ListCheck.{ListCheck}
 use Rattle.gates.specs.declared.list.ListCheck.the-variants.{Accepted, PartOfAGate, TooFewGates, TooManyGates, BadGate}
 
--- An operand that its kind uses must name an earlier wire; any other must be 0.
+-- An operand that its kind uses must name a wire before `own`, the gate's wire; any other must be 0.
 unfoldable pub goodOperand : Bool → ℕ → ℕ → Bool
 goodOperand true own x = ltb x own
 goodOperand false own x = eqb x 0

@@ -12,7 +12,7 @@ use Rattle.graded_circuit.specs.Contest.{mediansSpan}
 use Rattle.graded_circuit.specs.Nearest.{stride}
 use Rattle.graded_circuit.specs.TieBreak.{compareAndReachSpan, resolveSpan}
 
--- A block over the keys at x and y, whose sums are cut after digit `high`.
+-- For a block over the keys at x and y. The high half of a sum, of `high` digits, leaves a digit for the low half.
 pub record KeysReady (w : Writer) (gates : ℕ) (p : Plan) (x y high : ℕ) : Type 0 where
   pub plan : Planned p
   pub room : Room w gates
@@ -20,21 +20,21 @@ pub record KeysReady (w : Writer) (gates : ℕ) (p : Plan) (x y high : ℕ) : Ty
   pub secondBelow : y + keySpan p ≤ w .wire
   pub cut : high ≤ p .digits - 1
 
--- The medians: both keys are there, and there is room for their comparison.
+-- For the comparison of the medians of the keys at x and y.
 pub record MediansReady (w : Writer) (p : Plan) (x y : ℕ) : Type 0 where
   pub planned : Planned p
   pub room : Room w (mediansSpan p)
   pub firstBelow : x + keySpan p ≤ w .wire
   pub secondBelow : y + keySpan p ≤ w .wire
 
--- The comparison of the sums at x and y.
+-- For the comparison of the single sums at x and y.
 pub record SumReady (w : Writer) (x y above high : ℕ) : Type 0 where
   pub room : Room w (compareSpan above + 2)
   pub firstBelow : x + suc above ≤ w .wire
   pub secondBelow : y + suc above ≤ w .wire
   pub cut : high ≤ above
 
--- The walk outward over the sums between the ends of two keys.
+-- For the comparison of two keys of between + 2 sums, with above + 1 digits each.
 pub record TieBreakReady (w : Writer) (gates x y above high between : ℕ) : Type 0 where
   pub room : Room w gates
   pub firstBelow : x + suc (suc between) * stride above ≤ w .wire
@@ -43,7 +43,7 @@ pub record TieBreakReady (w : Writer) (gates x y above high between : ℕ) : Typ
   pub few : between ≤ 6
   pub cut : high ≤ above
 
--- The two pairs of sums that were found.
+-- For the comparison of the chosen words: a and c are below the median, u and v from it on.
 pub record ReachReady (w : Writer) (a c u v above high : ℕ) : Type 0 where
   pub room : Room w (compareAndReachSpan above)
   pub aBelow : a + suc above ≤ w .wire
@@ -52,11 +52,12 @@ pub record ReachReady (w : Writer) (a c u v above high : ℕ) : Type 0 where
   pub vBelow : v + suc above ≤ w .wire
   pub cut : high ≤ above
 
--- The end, which starts at wire q: one of its parts, and all of it after the comparisons from wire m on.
+-- For a part of `resolve`, which starts at wire q.
 pub record PartReady (w : Writer) (gates q : ℕ) : Type 0 where
   pub room : Room w gates
   pub small : q + resolveSpan < writerLimit
 
+-- For all of `resolve`, after the comparisons and carries from wire m on.
 pub record ResolveReady (w : Writer) (m above span : ℕ) : Type 0 where
   pub room : Room w resolveSpan
   pub place : w .wire ≡ m + compareAndReachSpan above

@@ -1,4 +1,4 @@
--- What the writers of tables with one block for each two candidates ask for and do.
+-- What writing the blocks of the tables asks for and does.
 use mathlib.Core.Path.{_≡_}
 use mathlib.Core.Bool.{Bool, false}
 use mathlib.Core.List.{List}
@@ -11,19 +11,19 @@ use Rattle.ranked_circuit.specs.Stages.{votesBlock, stays, cutAt, newWord, path
 use Rattle.ranked_blocks.specs.Ranked.{Ranked, keptOf, keep, keepLinks, WordsBelow}
 use Rattle.ranked_blocks.specs.declared.entries.Ranks.{Ranks}
 
--- The wire about i and j, of at most eight candidates, among 64.
+-- For reading what is kept for i and j, of at most eight candidates: there are 64 places.
 pub record KeptReady (wires : List ℕ) (k i j : ℕ) : Type 0 where
   pub few : k ≤ 8
   pub row : i < k
   pub column : j < k
   pub long : length wires ≡ 64
 
--- At least one candidate, and words of at most eight digits.
+-- For the size of the high half: at least one candidate, and words of at most eight digits.
 pub record CutReady (k digits : ℕ) : Type 0 where
   pub some : 1 ≤ k
   pub narrow : digits ≤ 7
 
--- The words of each two candidates come before the writer's wire; there are 64 of them, and 64 wires about two
+-- What is kept so far: 64 places for words, which end before the writer's wire, and 64 for wires about pairs of
 -- candidates.
 pub record Kept (w : Writer) (words wires : List ℕ) (p : Ranks) : Type 0 where
   pub ranked : Ranked p
@@ -31,14 +31,14 @@ pub record Kept (w : Writer) (words wires : List ℕ) (p : Ranks) : Type 0 where
   pub wires-long : length wires ≡ 64
   pub below : WordsBelow words (p .candidates) (p .digits) (w .wire)
 
--- Room for entry e of a table of such blocks.
+-- For block e of a table: what is kept, and room.
 pub record Entry (w : Writer) (words wires : List ℕ) (p : Ranks) (block : ℕ → ℕ → ℕ → List Gate) (e : ℕ)
     : Type 0 where
   pub kept : Kept w words wires p
   pub number : e < p .candidates * p .candidates
   pub room : Room w (length (block (w .wire) (e / p .candidates) (e % p .candidates)))
 
--- Room for the counter of entry e; the ballots are wires already.
+-- For block e of the votes. The ballots are wires already.
 pub record VotesReady (w : Writer) (words : List ℕ) (p : Ranks) (e : ℕ) : Type 0 where
   pub ranked : Ranked p
   pub room : Room w (length (votesBlock (p .candidates) (p .ballots) (p .digits) (w .wire) (e / p .candidates)
@@ -47,32 +47,32 @@ pub record VotesReady (w : Writer) (words : List ℕ) (p : Ranks) (e : ℕ) : Ty
   pub ballots-below : p .ballots * p .candidates * p .candidates ≤ w .wire
   pub words-long : length words ≡ 64
 
--- Room for entry e of stage m of the paths.
+-- For block e of stage m of the paths.
 pub record PathReady (w : Writer) (words links : List ℕ) (p : Ranks) (m e : ℕ) : Type 0 where
   pub entry : Entry w words links p (pathBlock (p .candidates) (keptOf links (p .candidates))
       (keptOf words (p .candidates)) (p .digits) m) e
   pub stage : m ≤ p .candidates
 
--- Room for the meeting of i with an earlier j, both before the last candidate.
+-- For the meeting of i and an earlier j, neither of whom is the last candidate.
 pub record Meets (w : Writer) (words wires : List ℕ) (p : Ranks) (i j : ℕ) : Type 0 where
   pub kept : Kept w words wires p
   pub room : Room w (10 * p .digits + 14)
   pub later : j < i
   pub other : suc i < p .candidates
 
--- The block of i and j was written, and if there is one, the wires about them are kept.
+-- The block of i and j was written. If it has gates, the wires about i and j are kept.
 pub record Entered (w : Writer) (table : List ℕ) (block : List Gate) (table′ : List ℕ) (next : Writer)
     (rows : ℕ → Bool) (wires : List ℕ) (k i j : ℕ) (wires′ : List ℕ) : Type 0 where
   pub wrote : Wrote w table block table′ next
   pub kept : wires′ ≡ keepLinks rows wires k i j (next .wire)
 
--- The block of number e was written, and its last word is kept, unless it stays as it was.
+-- Block e was written, and the first wire of its word is kept, unless `stays` says that nothing changes.
 pub record WordEntered (w : Writer) (table : List ℕ) (block : List Gate) (table′ : List ℕ) (next : Writer)
     (stays : Bool) (words : List ℕ) (e digits : ℕ) (words′ : List ℕ) : Type 0 where
   pub wrote : Wrote w table block table′ next
   pub kept : words′ ≡ keep stays words e (next .wire - suc digits)
 
--- Room for the word of i and j after stage m, which does not leave it as it is.
+-- For the word of i and j after stage m, which changes it.
 pub record WordReady (w : Writer) (words links : List ℕ) (p : Ranks) (m i j : ℕ) : Type 0 where
   pub kept : Kept w words links p
   pub room : Room w (length (newWord (keptOf links (p .candidates)) (keptOf words (p .candidates)) (p .digits)

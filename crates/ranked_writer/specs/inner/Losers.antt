@@ -7,7 +7,7 @@ use Rattle.gate_words.specs.Limits.{writerLimit}
 use Rattle.gate_words.specs.Writing.{Room}
 use Rattle.gate_words.specs.declared.writer.Writer.{Writer}
 
--- Number s of what candidate i's row of gates from wire `at` on joins.
+-- For operand s of candidate i's row of gates, which starts at wire `at`.
 pub record JoinedReady (beats : List ℕ) (k at i s : ℕ) : Type 0 where
   pub k-least : 2 ≤ k
   pub k-most : k ≤ 8
@@ -16,7 +16,7 @@ pub record JoinedReady (beats : List ℕ) (k at i s : ℕ) : Type 0 where
   pub small : at < writerLimit
   pub long : length beats ≡ 64
 
--- Candidate i's row of gates, and all rows.
+-- For candidate i's row of gates.
 pub record RowReady (w : Writer) (beats : List ℕ) (k i : ℕ) : Type 0 where
   pub room : Room w (k - 2)
   pub k-least : 2 ≤ k
@@ -24,13 +24,14 @@ pub record RowReady (w : Writer) (beats : List ℕ) (k i : ℕ) : Type 0 where
   pub row : i < k
   pub long : length beats ≡ 64
 
+-- For the rows of all candidates.
 pub record RowsReady (w : Writer) (beats : List ℕ) (k : ℕ) : Type 0 where
   pub room : Room w (k * (k - 2))
   pub k-least : 2 ≤ k
   pub k-most : k ≤ 8
   pub long : length beats ≡ 64
 
--- The output gates, right after the rows.
+-- For the output gates, right after the rows, which start at wire `rows`.
 pub record OutputsReady (w : Writer) (beats : List ℕ) (k rows : ℕ) : Type 0 where
   pub room : Room w k
   pub k-least : 2 ≤ k

@@ -1,4 +1,4 @@
--- What the writers of the numbers of ballots, the links and the paths ask for and do.
+-- What writing the numbers of ballots, the links and the paths asks for and does.
 use mathlib.Core.Path.{_≡_}
 use mathlib.Core.List.{List}
 use Prim.Native.Nat.{ℕ, _*_, _≤_}
@@ -15,26 +15,26 @@ use Rattle.ranked_blocks.specs.declared.entries.Ranks.{Ranks}
 use Rattle.ranked_writer.specs.Tables.{Keeps}
 use Rattle.ranked_writer.specs.inner.Contests.{TableReady}
 
--- Room for the numbers of ballots; the ballots are wires already.
+-- For the table of the numbers of ballots. The ballots are wires already.
 pub record VotesTableReady (w : Writer) (words : List ℕ) (p : Ranks) : Type 0 where
   pub ranked : Ranked p
   pub room : Room w (length (table (w .wire) (p .candidates) (votesBlock (p .candidates) (p .ballots) (p .digits))))
   pub ballots-below : p .ballots * p .candidates * p .candidates ≤ w .wire
   pub words-long : length words ≡ 64
 
--- Room for stage m of the paths.
+-- For stage m of the paths.
 pub record StageReady (w : Writer) (words links : List ℕ) (p : Ranks) (m : ℕ) : Type 0 where
   pub ready : TableReady w words links p (pathBlock (p .candidates) (keptOf links (p .candidates))
       (keptOf words (p .candidates)) (p .digits) m)
   pub stage : m ≤ p .candidates
 
--- Gates were written, and the place of each two candidates' word is kept.
+-- The gates were written, and the first wire of the word of each pair of candidates is kept, as f says.
 pub record WordsDone (w : Writer) (table₀ : List ℕ) (gates : List Gate) (table₁ : List ℕ) (next : Writer) (k : ℕ)
     (words : List ℕ) (f : ℕ → ℕ → ℕ) : Type 0 where
   pub wrote : Wrote w table₀ gates table₁ next
   pub kept : Keeps k words f
 
--- Room for the numbers of ballots and the links, right after the ballots; and that both were written and kept.
+-- For the numbers of ballots and the links, right after the ballots.
 pub record FirstReady (w : Writer) (links words : List ℕ) (p : Ranks) : Type 0 where
   pub ranked : Ranked p
   pub room : Room w (length (pathsTo (p .candidates) (p .ballots) (p .digits) 0 .gates))
@@ -42,27 +42,28 @@ pub record FirstReady (w : Writer) (links words : List ℕ) (p : Ranks) : Type 0
   pub links-long : length links ≡ 64
   pub words-long : length words ≡ 64
 
+-- Both tables were written. The first wires of the words and the wires of the links are kept.
 pub record FirstDone (w : Writer) (table₀ table₁ : List ℕ) (next : Writer) (p : Ranks) (links words : List ℕ)
     : Type 0 where
   pub wrote : Wrote w table₀ (pathsTo (p .candidates) (p .ballots) (p .digits) 0 .gates) table₁ next
   pub words-kept : Keeps (p .candidates) words (pathsTo (p .candidates) (p .ballots) (p .digits) 0 .words)
   pub links-kept : Keeps (p .candidates) links (linkWire (p .candidates) (p .ballots) (p .digits))
 
--- Room for these and all stages of the paths.
+-- For these two tables and all stages of the paths.
 pub record PathsReady (w : Writer) (words : List ℕ) (p : Ranks) : Type 0 where
   pub ranked : Ranked p
   pub room : Room w (length (pathsTo (p .candidates) (p .ballots) (p .digits) (p .candidates) .gates))
   pub place : w .wire ≡ p .ballots * p .candidates * p .candidates
   pub words-long : length words ≡ 64
 
--- Room for the list of two candidates, right after the ballots.
+-- For the list of two candidates, right after the ballots.
 pub record PairReady (w : Writer) (p : Ranks) : Type 0 where
   pub ranked : Ranked p
   pub room : Room w (length (rankedList (p .candidates) (p .ballots) (p .digits)))
   pub two : p .candidates ≡ 2
   pub place : w .wire ≡ p .ballots * p .candidates * p .candidates
 
--- One to eight candidates, 1 to 255 ballots.
+-- For the whole list: one to eight candidates, 1 to 255 ballots.
 pub record ListReady (candidates ballots : ℕ) : Type 0 where
   pub k-least : 1 ≤ candidates
   pub k-most : candidates ≤ 8

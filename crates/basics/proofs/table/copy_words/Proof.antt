@@ -10,7 +10,7 @@ use lib.Seq.{drop-cons, set-at, length-take-le, append-snoc, take-suc, take-all}
 use Rattle.basics.proofs.table.copy_words.Statement.{statement}
 use Rattle.basics.proofs.table.copy_words.Tie as tie
 
--- one word more
+-- turn i copies word i
 more : (from to : List ℕ) (i : ℕ) → i < length from → i < length to
     → set (take i from ++ drop i to) i (getD from i 0) ≡ take (suc i) from ++ drop (suc i) to
 more from to i h l =
@@ -19,7 +19,7 @@ more from to i h l =
     ∙ sym (append-snoc (take i from) (getD from i 0) (drop (suc i) to))
     ∙ ap (λ (r : List ℕ). r ++ drop (suc i) to) (sym (take-suc from i 0 h))
 
--- all of them
+-- after the last turn all words are copied
 all : (from to : List ℕ) (i : ℕ) → i ≡ length from → take i from ++ drop i to ≡ from ++ drop (length from) to
 all from to i e = ap (λ (r : List ℕ). r ++ drop i to) (take-all i from (omega arith)) ∙ ap (λ (n : ℕ). from ++ drop n to) e
 

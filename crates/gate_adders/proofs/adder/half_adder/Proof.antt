@@ -1,4 +1,4 @@
--- `gate_adders::adder::half_adder` meets its contract: its three gates are the block's, by the public bit.
+-- `gate_adders::adder::half_adder` meets its contract: its three gates are the block's for this public bit.
 -- Assumes nothing.
 use mathlib.Core.Path.{_≡_}
 use mathlib.Core.List.{List, [], _∷_}

@@ -1,4 +1,5 @@
--- `gate_adders::counter::count_digits` meets its contract: after each digit, the digits that are left make the whole.
+-- `gate_adders::counter::count_digits` meets its contract: after each digit, writing the digits left completes the
+-- block.
 -- Assumes nothing.
 use mathlib.Core.Path.{_≡_, _∙_, refl, sym, ap, subst}
 use mathlib.Core.List.{[]}

@@ -1,4 +1,5 @@
--- `gate_adders::counter::count_levels` meets its contract: after each level, the levels that are left make the whole.
+-- `gate_adders::counter::count_levels` meets its contract: after each level, writing the levels left completes the
+-- block.
 -- Assumes nothing.
 use mathlib.Core.Path.{_≡_, _∙_, sym, ap, subst, subst₂}
 use Prim.Native.Nat.{ℕ, _+_, _-_, _*_, _/_, _%_, _<_, _≤_}

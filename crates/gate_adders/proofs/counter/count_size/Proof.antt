@@ -1,4 +1,5 @@
--- `gate_adders::counter::count_size` meets its contract: what is counted and the levels left make the whole.
+-- `gate_adders::counter::count_size` meets its contract: the gates counted so far and those of the levels left add
+-- up to all.
 -- Assumes nothing.
 use mathlib.Core.Path.{_≡_, _∙_, sym, ap, subst}
 use Prim.Native.Nat.{ℕ, _+_, _-_, _*_, _/_, _%_, _≤_, _<_}
@@ -9,12 +10,12 @@ use Rattle.gate_words.proofs.CounterSteps.{count-size-step, countable-step}
 use Rattle.gate_adders.proofs.counter.count_size.Statement.{statement}
 use Rattle.gate_adders.proofs.counter.count_size.Tie as tie
 
--- the carries of a level are half of its bits, with the public bit
+-- a level has one carry for every two of its bits, the public bit included
 carries : (m e : ℕ) → 0 < m → (m + e) / 2 ≡ adders (m - 1) e
 unfolding adders
 carries m e h = let q : m + e ≡ m - 1 + e + 1 = omega arith in ap (λ (x : ℕ). x / 2) q
 
--- a level of a counter, and the levels left
+-- the first level of a counter, and the levels left
 size-turn : (m x r : ℕ) → 0 < r → Countable m x r
     → Countable ((m + x % 2) / 2) (x / 2) (r - 1)
     × (countSize m x r ≡ 3 * ((m + x % 2) / 2) + countSize ((m + x % 2) / 2) (x / 2) (r - 1)) × ((m + x % 2) / 2 ≤ m)
@@ -42,7 +43,7 @@ abbrev μ-loop : tie.MeasureT-loop
 loop-holds : tie.Need-loop-holds Inv-loop μ-loop
 loop-holds c = (c .pre .few, c .pre .countable, omega arith)
 
--- a turn: the level's gates, and those left
+-- in a turn: the gates of one level, and those of the levels left
 in-turn : (c : tie.In-loop Inv-loop μ-loop) → let l = c .before .loop in
     let half = (l .carries + l .rest % 2) / 2 in
     (half < writerLimit) × Countable half (l .rest / 2) (l .left - 1)

@@ -1,4 +1,4 @@
--- `gate_adders::counter::counter` meets its contract: the levels, and then the copies of their sums.
+-- `gate_adders::counter::counter` meets its contract: first the levels, then the copies of their sums.
 -- Assumes nothing.
 use native.Mathlib.Omega.{arith}
 use borrow.Author.Needs.{needs}

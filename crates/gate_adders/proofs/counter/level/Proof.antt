@@ -1,4 +1,5 @@
--- `gate_adders::counter::level` meets its contract: after each adder, the level from its sum on makes the whole level.
+-- `gate_adders::counter::level` meets its contract: after each adder, writing the level from its sum on completes
+-- the block.
 -- Assumes nothing.
 use mathlib.Core.Path.{_∙_, refl, sym, ap}
 use mathlib.Core.List.{[]}
@@ -16,7 +17,7 @@ use Rattle.gate_words.proofs.Going.{Goes, goes-start, goes-as, goes-on, goes-ro
 use Rattle.gate_adders.proofs.counter.level.Statement.{statement}
 use Rattle.gate_adders.proofs.counter.level.Tie as tie
 
--- there are three gates for the next two bits
+-- a level of two or more bits has at least three gates
 long : (n s at d e m : ℕ) → 1 < m → 3 ≤ length (level n s at d e m)
 long n s at d e m h =
     omega (
@@ -43,7 +44,7 @@ loop-holds c =
           (length (level (a .start .wire) (a .sum) (a .first) (a .stride) (a .e) (a .count))) (c .before .pre .room),
     )
 
--- two bits are left in the loop
+-- at least two bits are left in the loop
 two-left : (c : tie.In-loop Inv-loop μ-loop) → 1 < c .before .loop .left
 two-left c = omega arith
 

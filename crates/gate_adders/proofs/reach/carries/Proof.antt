@@ -1,4 +1,4 @@
--- `gate_adders::reach::carries` meets its contract: after i digits, the block of the digits left makes the whole block.
+-- `gate_adders::reach::carries` meets its contract: after i digits, writing the digits left completes the block.
 -- Assumes nothing.
 use mathlib.Core.Path.{_∙_, sym, ap}
 use Prim.Native.Nat.{ℕ, _+_, _-_, _*_, _≤_}

@@ -1,4 +1,4 @@
--- `gate_adders::reach::carries_by` meets its contract: after i digits, the chain from the last gate on makes the whole chain.
+-- `gate_adders::reach::carries_by` meets its contract: after i digits, writing the rest of the chain completes it.
 -- Assumes nothing.
 use mathlib.Core.Path.{_∙_, sym, ap}
 use Prim.Native.Nat.{ℕ, _+_, _-_, _≤_}

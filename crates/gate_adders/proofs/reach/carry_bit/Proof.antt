@@ -1,4 +1,4 @@
--- `gate_adders::reach::carry_bit` meets its contract: one gate, by the public bit.
+-- `gate_adders::reach::carry_bit` meets its contract: one gate, chosen by the public bit.
 -- Assumes nothing.
 use mathlib.Core.Path.{_≡_}
 use mathlib.Core.List.{List, [], _∷_}

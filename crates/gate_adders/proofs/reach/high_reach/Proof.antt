@@ -31,7 +31,7 @@ differences-requires c κs =
       secondBelow = omega (arith, s .pre);
     }
 
--- after the differences, the carries, and the chain that says that all digits differ
+-- after the differences, after the carries, and after the chain that says whether all digits differ
 
 differ : (c : tie.After-differences)
     → Stands (c .differences .result)

@@ -1,4 +1,4 @@
--- `gate_adders::reach::reach_halves` meets its contract: the low half, and the high one.
+-- `gate_adders::reach::reach_halves` meets its contract: first the low half, then the high one.
 -- Assumes nothing.
 use mathlib.Core.Path.{refl, ap}
 use Prim.Native.Nat.{ℕ, _+_, _-_, _*_}

@@ -1,5 +1,5 @@
--- `gate_levels::level::compare` meets its contract: the first gate whose level differs decides; without one,
--- comparing the rest is comparing all.
+-- `gate_levels::level::compare` meets its contract: the first gate whose level differs decides; until then,
+-- comparing the rest answers for all.
 -- Assumes nothing.
 use borrow.Author.Needs.{needs}
 use mathlib.Core.Path.{_∙_, refl, ap}

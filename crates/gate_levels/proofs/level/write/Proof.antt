@@ -1,4 +1,4 @@
--- `gate_levels::level::write` meets its contract: writing the rest is writing all.
+-- `gate_levels::level::write` meets its contract: after each gate, writing the levels left completes the table.
 -- Assumes nothing.
 use borrow.Author.Needs.{needs}
 use mathlib.Core.Path.{_∙_, refl, sym}

@@ -1,4 +1,4 @@
--- `gates::kind::conditional` meets its contract: the lent column is the definition's.
+-- `gates::kind::conditional` meets its contract: the lent marks are the definition's.
 -- Assumes nothing.
 use mathlib.Core.Bool.{Bool, false}
 use mathlib.Core.List.{List}

@@ -1,4 +1,4 @@
--- `gates::kind::operands` meets its contract: the lent column is the definition's.
+-- `gates::kind::operands` meets its contract: the lent counts are the definition's.
 -- Assumes nothing.
 use mathlib.Core.List.{List}
 use mathlib.Core.Path.{sym, ap}

@@ -54,7 +54,7 @@ parts-of w x y z ex ey ez =
     parts (a .inputs + a .g) (a .kind) (a .a) (a .b) (a .c) (w .before .operands .result) true x y z
     (known (w .before .before)) (w .before .operands .ensures) ex ey ez
 
--- an operand in use is tested as if the sum were formed
+-- comparing a used operand with `own_wire`'s answer is comparing it with inputs + g
 below : (w : tie.After-own-wire) (i x : ℕ) → x < 4294967296 → x < w .own-wire .result → i
     < w .before .operands .result → let a = (start-from-own-wire w) .args in true
     ≡ goodOperand (ltb i (w .before .operands .result)) (a .inputs + a .g) x
@@ -123,7 +123,7 @@ returns-4 c =
     (below w 0 (a .a) (s .fits .a .fits) (c .before .before .if2 .left) (omega (arith, h)))
     (unused 1 n _ (a .b) (omega (arith, h))) (unused 2 n _ (a .c) (omega (arith, h)))
 
--- after the tests of the first operand
+-- past the tests of the first operand, the kind uses at least two
 second : (c : tie.Else3) → 1 < c .before .before .before .before .operands .result
 second c = omega (arith, c .if3 .left, c .before .before .if1 .left)
 

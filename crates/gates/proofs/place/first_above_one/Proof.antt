@@ -1,4 +1,4 @@
--- `gates::place::first_above_one` meets its contract: searching the rest is searching all.
+-- `gates::place::first_above_one` meets its contract: until a byte is found, searching the rest answers for all.
 -- Assumes nothing.
 use mathlib.Core.Path.{_≡_, _∙_, refl, sym, ap}
 use Prim.Native.Nat.{ℕ, _-_, _≤_}

@@ -14,7 +14,7 @@ Inv-loop digits power₀ i₀ power i = (i ≤ digits) × (power ≡ 2 ^ i)
 abbrev μ-loop : tie.MeasureT-loop
 μ-loop digits power₀ i₀ power i = digits - i
 
--- a power of at most seven digits is small
+-- 2 to the power 7 or less is at most 128
 small : (i : ℕ) → i ≤ 7 → 2 ^ i ≤ 128
 small i h = pow-le-pow-right {n = 2} (omega arith) {i = i} {j = 7} h
 

@@ -1,4 +1,5 @@
--- `graded_contest::contest::compare_medians` meets its contract: the wires of both keys that say which grades the median is worse than.
+-- `graded_contest::contest::compare_medians` meets its contract: it compares the flags that say which grades each
+-- median is worse than.
 -- Assumes nothing.
 use mathlib.Core.Path.{sym, subst}
 use Prim.Native.Nat.{_-_, _*_, _≤_}

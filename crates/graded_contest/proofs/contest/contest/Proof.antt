@@ -1,4 +1,4 @@
--- `graded_contest::contest::contest` meets its contract: the medians' comparison, and what they and the sums say.
+-- `graded_contest::contest::contest` meets its contract: first the comparison of the medians, then that of the sums.
 -- Assumes nothing.
 use mathlib.Core.Path.{_∙_, refl, ap}
 use Prim.Native.Nat.{ℕ, _+_, _-_}
@@ -14,7 +14,7 @@ use Rattle.graded_circuit.proofs.ContestLaws.{grade-fits, flags-end, key-some}
 use Rattle.graded_contest.proofs.contest.contest.Statement.{statement}
 use Rattle.graded_contest.proofs.contest.contest.Tie as tie
 
--- the stages
+-- the start, seen from the comparison of the medians
 abbrev from-compared : tie.After-compare-medians → tie.Start
 from-compared c = c .before .before .before
 
@@ -35,7 +35,7 @@ compare-medians-requires c κs =
       secondBelow = s .pre .secondBelow;
     }
 
--- behind the medians
+-- after the comparison of the medians
 compared : (c : tie.After-compare-medians) → let s = from-compared c in
     Stands (c .compare-medians .result) (tieBreakBelowAt (s .args .p) (s .args .w .wire))
     (tieBreakBelowSpan (s .args .p .digits) (s .args .p .grades - 2) + 2)

@@ -1,4 +1,4 @@
--- `graded_contest::contest::one_sum` meets its contract: a comparison, and two gates.
+-- `graded_contest::contest::one_sum` meets its contract: a comparison, then two gates.
 -- Assumes nothing.
 use mathlib.Core.Path.{refl}
 use Prim.Native.Nat.{_+_, _-_}

@@ -1,4 +1,5 @@
--- `graded_contest::contest::tie_break_below` meets its contract: the medians alone, one comparison, or the nearest differences.
+-- `graded_contest::contest::tie_break_below` meets its contract: only the medians, one comparison, or the nearest
+-- differences.
 -- Assumes nothing.
 use mathlib.Core.Path.{_≡_, _∙_, ap}
 use Prim.Native.Nat.{ℕ, suc, _+_, _-_, _*_, _%_, _<_}
@@ -16,7 +17,7 @@ use Rattle.graded_keys.proofs.Steps.{tie-break-below-zero, tie-break-below-one,
 use Rattle.graded_contest.proofs.contest.tie_break_below.Statement.{statement}
 use Rattle.graded_contest.proofs.contest.tie_break_below.Tie as tie
 
--- a key's words, a stride apart
+-- the words of a key are a stride apart
 key-strides : (p : Plan) → 0 < p .digits → 2 < p .grades → keySpan p ≡ suc (suc (p .grades - 3)) * stride (p .digits - 1)
 key-strides p h k =
     let e : p .grades - 1 ≡ suc (suc (p .grades - 3)) = omega arith in

@@ -1,4 +1,4 @@
--- `graded_contest::tie_break::compare_and_reach` meets its contract: two comparisons, and two carries.
+-- `graded_contest::tie_break::compare_and_reach` meets its contract: two comparisons, then two carries.
 -- Assumes nothing.
 use mathlib.Core.Path.{_≡_, refl, ap}
 use Prim.Native.Nat.{ℕ, _+_, _-_, _*_}
@@ -28,7 +28,7 @@ compare-halves-requires c κs =
       secondBelow = omega (arith, q .cBelow, q .cut);
     }
 
--- after each of them
+-- after each of these parts
 
 down : (c : tie.After-compare-halves)
     → Stands (c .compare-halves .result)

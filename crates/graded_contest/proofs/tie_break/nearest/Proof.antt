@@ -1,4 +1,5 @@
--- `graded_contest::tie_break::nearest` meets its contract: the sides, the words below the median, and those from it on.
+-- `graded_contest::tie_break::nearest` meets its contract: the flags, the words chosen below the median, and those
+-- from it on.
 -- Assumes nothing.
 use mathlib.Core.Path.{_≡_, _∙_, refl, ap}
 use Prim.Native.Nat.{ℕ, suc, _+_, _-_, _*_, _≤_}
@@ -15,7 +16,7 @@ use Rattle.gate_words.proofs.Standing.{Stands, stands, stands-after, room-of, w
 use Rattle.graded_contest.proofs.tie_break.nearest.Statement.{statement}
 use Rattle.graded_contest.proofs.tie_break.nearest.Tie as tie
 
--- the words of a key but the first, and those but the last
+-- the words of a key after the first, and its last word, are below wire n
 words : (x t r n : ℕ) → x + suc (suc t) * stride r ≤ n → (x + (r + 2) + t * stride r ≤ n)
     × (x + (t + 1) * (r + 2) + stride r ≤ n) × ((t + 1) * (r + 2) ≡ suc t * stride r)
 words x t r n h =

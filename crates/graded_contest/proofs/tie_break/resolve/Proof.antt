@@ -1,4 +1,4 @@
--- `graded_contest::tie_break::resolve` meets its contract: its four parts, one behind the other.
+-- `graded_contest::tie_break::resolve` meets its contract: its four parts, one after the other.
 -- Assumes nothing.
 use mathlib.Core.Path.{refl}
 use Prim.Native.Nat.{_+_, _-_}

@@ -1,4 +1,4 @@
--- `graded_contest::tie_break::resolve_at` meets its contract: it hands on the wires of the comparisons and sums.
+-- `graded_contest::tie_break::resolve_at` meets its contract: it passes on the wires of the comparisons and carries.
 -- Assumes nothing.
 use mathlib.Core.Path.{_≡_, _∙_, ap}
 use Prim.Native.Nat.{ℕ, _+_, _-_}

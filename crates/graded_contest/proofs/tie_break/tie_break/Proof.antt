@@ -1,4 +1,5 @@
--- `graded_contest::tie_break::tie_break` meets its contract: the nearest words, their comparisons and sums, and which decides.
+-- `graded_contest::tie_break::tie_break` meets its contract: the nearest words, their comparisons and carries, then
+-- which decides.
 -- Assumes nothing.
 use mathlib.Core.Path.{_≡_, _∙_, refl, ap}
 use mathlib.Core.List.{List}
@@ -18,7 +19,7 @@ use Rattle.graded_keys.proofs.Steps.{product-most}
 use Rattle.graded_contest.proofs.tie_break.tie_break.Statement.{statement}
 use Rattle.graded_contest.proofs.tie_break.tie_break.Tie as tie
 
--- the products that the code forms, small and as the definition has them
+-- The products that the code forms are small, and are those of the definition.
 record Products (r t : ℕ) : Type 0 where
   side-small : t * (2 * r + 3) ≤ 102
   side-is : t * (2 * r + 3) ≡ t * sideSpan r
@@ -43,11 +44,11 @@ products r t hr ht =
       far-is = ap (λ (k : ℕ). k * (r + 2)) (add-one t);
     }
 
--- a key's last word comes before the writer's wire
+-- a key's last word is before the writer's wire
 far-there : (x r t n : ℕ) → Products r t → x + suc (suc t) * stride r ≤ n → x + (t + 1) * (r + 2) + (r + 2) ≤ n
 far-there x r t n p h = omega (arith, p .far-is, suc-mul (suc t) (stride r))
 
--- what is resolved, by the place of the comparisons
+-- the gates of `resolve`, by the place of the comparisons
 resolved : ℕ → ℕ → ℕ → ℕ → ℕ → ℕ → ℕ → ℕ → ℕ → List Gate
 resolved e s r q m a u f g = resolve q e s (unequalAt m r) (aboveAt m a r) (unequalAt (m + compareSpan r) r)
     (aboveAt (m + compareSpan r) u r) (leftCarry m r) (rightCarry m r) f g

@@ -1,4 +1,4 @@
--- `graded_keys::median::compare_ones` meets its contract: the lowest digit, and those above it.
+-- `graded_keys::median::compare_ones` meets its contract: the lowest digit, then those above it.
 -- Assumes nothing.
 use mathlib.Core.Path.{_≡_, _∙_, refl, ap, subst}
 use Prim.Native.Nat.{ℕ, suc, _+_, _-_, _/_, _≤_, _<_}
@@ -25,7 +25,7 @@ some s = fits-some (s .args .count) (s .args .above) (fits s)
 near : (s : tie.Start) → s .args .stride ≤ 2000
 near s = stride-most (s .args .count) (s .args .stride) (some s) (s .pre .ones .short)
 
--- the parts of its span
+-- the number of gates, as that of the lowest digit plus that of the others
 parts : (s : tie.Start) → onesSpan (s .args .count) (s .args .above) ≡ differenceSpan (s .args .count)
     + laterSpan (s .args .count / 2) (s .args .above)
 parts s = ones-span (s .args .count) (s .args .above)

@@ -16,7 +16,7 @@ use Rattle.graded_keys.proofs.Steps.{stride-most}
 use Rattle.graded_keys.proofs.median.digit_difference.Statement.{statement}
 use Rattle.graded_keys.proofs.median.digit_difference.Tie as tie
 
--- the stages
+-- the start, seen from the first sum
 abbrev from-first : tie.After-parity → tie.Start
 from-first c = c .before .before .before .before
 
@@ -30,7 +30,7 @@ parity2-from-slice-known4 c = c .before .before .before .before .before .before
 abbrev from-second : tie.After-parity2 → tie.After-parity
 from-second c = (parity-from-parity2 c)
 
--- the wires of either number: the first one, the others, and how far apart they stand
+-- for each number: its first wire and the others are written, and its stride is small
 x-there : (s : tie.Start) → (s .args .x < s .args .w .wire)
     × (s .args .x + s .args .step + (s .args .many - 1) * s .args .step < s .args .w .wire + s .args .step)
 x-there s = let a = s .args in first-of (a .x) (a .step) (a .many) (a .w .wire) (s .pre .some) (s .pre .ones .firstBelow)

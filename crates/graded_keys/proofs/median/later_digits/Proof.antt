@@ -1,4 +1,5 @@
--- `graded_keys::median::later_digits` meets its contract: after each digit, the digits that are left make the whole.
+-- `graded_keys::median::later_digits` meets its contract: after each digit, writing the digits left completes the
+-- block.
 -- Assumes nothing.
 use mathlib.Core.Path.{_≡_, _∙_, ap}
 use Prim.Native.Nat.{ℕ, _+_, _-_, _*_, _/_, _≤_, _<_}
@@ -34,7 +35,7 @@ loop-holds c =
       goes-start (a .w) (a .table .now) whole (laterSpan (a .count) (a .digits)) (q .ones .room),
     )
 
--- in a turn there are wires, the first ones are there, and there is room for the digit
+-- In a turn there are wires, they are written already, and there is room for the digit.
 record Turn (wire first second step many left : ℕ) : Type 0 where
   some : 0 < many
   half : Fits (many / 2) (left - 1)
@@ -107,7 +108,7 @@ add-second c = let q = in-turn (from-digit c) in omega (arith, q .second-there, 
 add-step : tie.Need-add-step Inv-loop μ-loop
 add-step c = omega (arith, in-turn (from-digit c) .near)
 
--- where the next writer stands
+-- the wire of the next writer
 stands-behind : (c : tie.After-slice-known2 Inv-loop μ-loop) → let l = from-digit c .before .loop in
     c .before .before .next-digit .result .wire ≡ differAt (l .next .wire) (l .many) + 3
 stands-behind c =

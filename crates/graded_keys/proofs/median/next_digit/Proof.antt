@@ -1,4 +1,4 @@
--- `graded_keys::median::next_digit` meets its contract: the digit's difference, and the two gates above it.
+-- `graded_keys::median::next_digit` meets its contract: the digit's difference, then two more gates.
 -- Assumes nothing.
 use mathlib.Core.Path.{_≡_, _∙_, refl, ap}
 use mathlib.Core.List.{[], _∷_}
@@ -14,7 +14,7 @@ use Rattle.graded_circuit.proofs.MedianLaws.{length-difference}
 use Rattle.graded_keys.proofs.median.next_digit.Statement.{statement}
 use Rattle.graded_keys.proofs.median.next_digit.Tie as tie
 
--- the stages
+-- the start, seen from the difference
 abbrev from-difference : tie.After-digit-difference → tie.Start
 from-difference c = c .before .before .before .before
 

@@ -9,7 +9,7 @@ use Rattle.graded_keys.proofs.Steps.{differ-single, differ-several, som
 use Rattle.graded_keys.proofs.median.ones_differ.Statement.{statement}
 use Rattle.graded_keys.proofs.median.ones_differ.Tie as tie
 
--- the wire of the lowest digit's difference stands before the end
+-- the wire of the lowest digit's difference is before the end
 inside : (s : tie.Start) → differAt (s .args .n) (s .args .count) + 1 ≤ s .args .end
 inside s = omega (arith, s .pre .span, ones-span (s .args .count) (s .args .above))
 

@@ -1,4 +1,4 @@
--- `graded_keys::nearest::either` meets its contract: a choice of words for each key.
+-- `graded_keys::nearest::either` meets its contract: one choice of words for each key.
 -- Assumes nothing.
 use mathlib.Core.Path.{refl, ap}
 use Prim.Native.Nat.{_+_}

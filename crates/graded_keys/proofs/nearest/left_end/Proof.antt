@@ -1,4 +1,4 @@
--- `graded_keys::nearest::left_end` meets its contract: the last choice, or the word to start from.
+-- `graded_keys::nearest::left_end` meets its contract: the last choice, or u if there is none.
 -- Assumes nothing.
 use mathlib.Core.Path.{_≡_, ap}
 use Prim.Native.Nat.{ℕ, _+_, _-_, _*_, _≤_, _<_}
@@ -12,7 +12,7 @@ returns : tie.Need-returns
 returns c =
     left-none ((c .before .args) .n) ((c .before .args) .u) ((c .before .args) .above) ((c .before .args) .count) ((c .if1) .taken)
 
--- the choices before the last
+-- the choices before the last one have at most 80 gates
 
 small : (c : tie.Else1) → (((c .before .args) .count - 1) * (2 * (c .before .args) .above + 2) ≤ 80)
     × (((c .before .args) .count - 1) * (2 * (c .before .args) .above + 2) ≡ ((c .before .args) .count - 1)

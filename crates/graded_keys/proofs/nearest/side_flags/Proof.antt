@@ -1,4 +1,4 @@
--- `graded_keys::nearest::side_flags` meets its contract: whether the words differ, and on which side of the median.
+-- `graded_keys::nearest::side_flags` meets its contract: whether the words differ, then on which side of the median.
 -- Assumes nothing.
 use mathlib.Core.Path.{_≡_, refl}
 use Prim.Native.Nat.{suc, _+_, _-_}

@@ -1,4 +1,4 @@
--- `graded_keys::nearest::sides` meets its contract: after each grade, the grades that are left make the whole.
+-- `graded_keys::nearest::sides` meets its contract: after each grade, writing the grades left completes the block.
 -- Assumes nothing.
 use mathlib.Core.Path.{_≡_, refl, sym, ap}
 use Prim.Native.Nat.{ℕ, _+_, _-_, _*_, _≤_}
@@ -31,7 +31,7 @@ loop-holds c =
           ((c .before .args) .count * sideSpan ((c .before .args) .above)) ((c .before) .pre .room),
     )
 
--- the next words come before the writer's wire
+-- the next words are before the writer's wire
 
 there : (c : tie.In-loop Inv-loop μ-loop)
     → ((c .before .loop) .left + stride ((c .before .before .before .args) .above) ≤ (c .before .loop) .next .wire)

@@ -1,4 +1,4 @@
--- `graded_size::candidate::candidate_span` meets its contract: a sum of its parts.
+-- `graded_size::candidate::candidate_span` meets its contract: it adds up the parts.
 -- Assumes nothing.
 use mathlib.Core.Path.{_≡_, ap}
 use Prim.Native.Nat.{ℕ, _+_, _-_, _*_, _≤_}
@@ -13,7 +13,7 @@ use Rattle.graded_size.proofs.Spans.{parts-small}
 use Rattle.graded_size.proofs.candidate.candidate_span.Statement.{statement}
 use Rattle.graded_size.proofs.candidate.candidate_span.Tie as tie
 
--- what is added up, and that it is little
+-- The numbers that are added up, and that they are small.
 record Parts (p : Plan) (rows sum worst : ℕ) : Type 0 where
   rows-are : rows ≡ (p .grades - 3) * p .ballots
   sums-are : (p .grades - 2) * sum ≡ (p .grades - 2) * sumSize p

@@ -1,4 +1,4 @@
--- `graded_size::contest::contest_span` meets its contract: a sum of its parts.
+-- `graded_size::contest::contest_span` meets its contract: it adds up the parts.
 -- Assumes nothing.
 use mathlib.Core.Path.{_≡_}
 use Prim.Native.Nat.{_+_}

@@ -1,4 +1,5 @@
--- `graded_size::contest::medians_span` meets its contract: what is counted and the digits left make the whole.
+-- `graded_size::contest::medians_span` meets its contract: the gates counted so far and those of the digits left add
+-- up to all.
 -- Assumes nothing.
 use mathlib.Core.Path.{_≡_}
 use Prim.Native.Nat.{_+_, _-_, _*_, _/_, _≤_}
@@ -29,7 +30,7 @@ loop-holds c =
       omega (arith, ones-span (a .count) (a .above), fits-some (a .count) (a .above) (c .pre .fits)),
     )
 
--- a turn: the digit's gates, and those left
+-- in a turn: the gates of one digit, and those of the digits left
 in-turn : (c : tie.In-loop Inv-loop μ-loop) → let l = c .before .loop in
     Fits (l .many / 2) (l .left - 1)
     × (l .gates + (2 * l .many + 1) + laterSpan (l .many / 2) (l .left - 1)

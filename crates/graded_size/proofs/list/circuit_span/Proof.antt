@@ -1,4 +1,4 @@
--- `graded_size::list::circuit_span` meets its contract: a sum of its parts.
+-- `graded_size::list::circuit_span` meets its contract: it adds up the parts.
 -- Assumes nothing.
 use mathlib.Core.Path.{_≡_, ap}
 use Prim.Native.Nat.{ℕ, _-_, _*_, _/_, _≤_}
@@ -14,7 +14,7 @@ use Rattle.graded_size.proofs.Spans.{contest-small, four-small, all-sma
 use Rattle.graded_size.proofs.list.circuit_span.Statement.{statement}
 use Rattle.graded_size.proofs.list.circuit_span.Tie as tie
 
--- what is added, and that it is little
+-- The numbers that are added up, and that they are small.
 record Whole (p : Plan) (each contest low high : ℕ) : Type 0 where
   all : p .candidates * each ≡ p .candidates * candidateSpan p
   all-few : p .candidates * each ≤ 280000

@@ -1,4 +1,4 @@
--- `graded_sums::key::candidate` meets its contract: the rows, the levels of all sums, and then the key.
+-- `graded_sums::key::candidate` meets its contract: the rows, the levels of all sums, then the key.
 -- Assumes nothing.
 use mathlib.Core.Path.{_≡_, refl, ap}
 use mathlib.Core.List.{List}
@@ -19,7 +19,7 @@ use Rattle.graded_sums.proofs.Writers.{rows-there}
 use Rattle.graded_sums.proofs.key.candidate.Statement.{statement}
 use Rattle.graded_sums.proofs.key.candidate.Tie as tie
 
--- what is left after the rows, after the levels, and after those of the worst grade
+-- the gates that are left after all levels, after the levels of the sums, and after the rows
 abbrev keyGates : Plan → ℕ
 keyGates p = (p .grades - 2) * wordSpan p + wordSpan p
 
@@ -54,7 +54,7 @@ candidate-wrote p w t c t₁ w₁ t₂ w₂ t₃ w₃ t₄ w₄ t₅ w₅ a₁ e
     a₄ (ap (λ (m : ℕ). keyWords p n m c 0 d) e₁))
     a₅ (ap (λ (m : ℕ). worstWord p m c) e₂)
 
--- the stages
+-- the start, seen from later stages
 abbrev from-rows : tie.After-rows → tie.Start
 from-rows c = c .before .before .before
 
@@ -91,7 +91,7 @@ rowed c =
     (omega (arith, q .planned .d-least)) .long)
     (stands (a .w) (a .w .wire) _ _ refl (omega (arith, parts (a .p) (q .planned))) (q .room))
 
--- all rows come before the levels
+-- all rows are before the levels
 before : (c : tie.After-rows) → let s = from-rows c in
     RowsBefore (s .args .p) (s .args .w .wire) (c .rows .result .wire) (0 + (s .args .p .grades - 2))
 before c = let a = from-rows c .args in

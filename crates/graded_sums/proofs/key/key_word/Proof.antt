@@ -1,4 +1,4 @@
--- `graded_sums::key::key_word` meets its contract: it is `count_digits` of what the grade's sum counts.
+-- `graded_sums::key::key_word` meets its contract: it is `count_digits` for the bits that the grade's sum counts.
 -- Assumes nothing.
 use mathlib.Core.Path.{subst}
 use Prim.Native.Nat.{ℕ}

@@ -1,4 +1,4 @@
--- `graded_sums::key::key_words` meets its contract: after each word, the words that are left make the whole.
+-- `graded_sums::key::key_words` meets its contract: after each word, writing the words left completes the block.
 -- Assumes nothing.
 use mathlib.Core.Path.{_≡_, sym, ap, subst}
 use Prim.Native.Nat.{ℕ, suc, _+_, _-_, _*_, _≤_, _<_}
@@ -53,7 +53,7 @@ start-from-else1 c = c .before .before .before .before .before
 abbrev start-from-then1 : tie.Then1 Inv-loop μ-loop → tie.Start Inv-loop μ-loop
 start-from-then1 c = c .before .before .before .before .before
 
--- a turn: the levels of this grade exist
+-- in a turn, the levels of this grade are written
 levels-there : (c : tie.Then1 Inv-loop μ-loop) → let l = c .before .before .loop in l .base
     + sumSize ((start-from-then1 c) .args .p) ≤ (start-from-then1 c) .args .w .wire
 levels-there c =

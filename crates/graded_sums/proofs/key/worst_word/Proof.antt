@@ -1,4 +1,4 @@
--- `graded_sums::key::worst_word` meets its contract: it is `count_digits` of the worst grade's bits.
+-- `graded_sums::key::worst_word` meets its contract: it is `count_digits` for the worst grade's bits.
 -- Assumes nothing.
 use mathlib.Core.Path.{subst}
 use Prim.Native.Nat.{ℕ}

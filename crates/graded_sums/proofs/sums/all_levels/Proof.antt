@@ -1,4 +1,4 @@
--- `graded_sums::sums::all_levels` meets its contract: after each sum, the levels that are left make the whole.
+-- `graded_sums::sums::all_levels` meets its contract: after each sum, writing the levels left completes the block.
 -- Assumes nothing.
 use mathlib.Core.Path.{_≡_, ap}
 use Prim.Native.Nat.{ℕ, suc, _+_, _-_, _*_, _≤_, _<_}
@@ -48,7 +48,7 @@ start-from-sum-levels c = c .before .before .before .before .before .before
 abbrev loop-reached-from-slice-known2 : tie.After-slice-known2 Inv-loop μ-loop → tie.At-loop Inv-loop μ-loop
 loop-reached-from-slice-known2 c = c .before .before .before .before .before .before
 
--- a turn: what the sum counts exists, and there is room for its levels
+-- in a turn, the bits that the sum counts are wires, and there is room for its levels
 sum-levels-requires : tie.Need-sum-levels-requires Inv-loop μ-loop
 sum-levels-requires c κs =
     let l = c .before .before .before .loop in

@@ -1,4 +1,4 @@
--- `graded_sums::sums::next_row` meets its contract: it is `xor_rows` of the row before and the next grade's bits.
+-- `graded_sums::sums::next_row` meets its contract: it is `xor_rows` for the row before and the next grade's bits.
 -- Assumes nothing.
 use mathlib.Core.Path.{_≡_, _∙_, sym, ap, subst₂}
 use Prim.Native.Nat.{ℕ, suc}
@@ -41,7 +41,7 @@ apart-requires c κs = c .before .before .before .before .pre .part .planned
 abbrev start-from-apart : tie.After-apart → tie.Start
 start-from-apart c = c .before .before .before .before .before
 
--- what the four numbers are
+-- the wire of the next grade's bits
 bits-are : (c : tie.After-apart) → c .before .bits-at .result
     ≡ bitsAt ((start-from-apart c) .args .p) ((start-from-apart c) .args .c) (suc ((start-from-apart c) .args .g))
 bits-are c = let a = (start-from-apart c) .args in c .before .bits-at .ensures ∙ ap (bitsAt (a .p) (a .c)) (add-one (a .g))

@@ -18,7 +18,7 @@ returns c = let a = c .before .before .args in c .bits-at .ensures ∙ sym (firs
 sub-result : tie.Need-sub-result
 sub-result c = omega (arith, c .if1 .left)
 
--- one row fewer than grades
+-- the rows before that of grade g are at most 1,785 wires
 earlier : (c : tie.After-struct-known) → (c .before .before .args .g - 1) * c .before .before .args .p .ballots ≤ 1785
 earlier c = let s = c .before .before in rows-most (s .args .p) (s .pre .of .planned) (s .args .g - 1) (omega (arith, s .pre .of .grade))
 

@@ -1,4 +1,4 @@
--- `graded_sums::sums::rows` meets its contract: after each row, the rows that are left make the whole.
+-- `graded_sums::sums::rows` meets its contract: after each row, writing the rows left completes the block.
 -- Assumes nothing.
 use mathlib.Core.Path.{_≡_, ap}
 use Prim.Native.Nat.{ℕ, suc, _+_, _-_, _*_, _≤_, _<_}
@@ -47,7 +47,7 @@ start-from-next-row c = c .before .before .before .before .before .before
 abbrev loop-reached-from-slice-known2 : tie.After-slice-known2 Inv-loop μ-loop → tie.At-loop Inv-loop μ-loop
 loop-reached-from-slice-known2 c = c .before .before .before .before .before .before
 
--- a turn: there is room for a row
+-- in a turn, there is room for a row
 next-row-requires : tie.Need-next-row-requires Inv-loop μ-loop
 next-row-requires c κs =
     let l = c .before .before .before .loop in

@@ -1,4 +1,4 @@
--- `graded_sums::sums::sum_levels` meets its contract: it is `count_levels` of what the grade's sum counts.
+-- `graded_sums::sums::sum_levels` meets its contract: it is `count_levels` for the bits that the grade's sum counts.
 -- Assumes nothing.
 use mathlib.Core.Path.{sym, subst₂}
 use Prim.Native.Nat.{ℕ}

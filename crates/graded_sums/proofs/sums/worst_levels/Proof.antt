@@ -1,4 +1,4 @@
--- `graded_sums::sums::worst_levels` meets its contract: it is `count_levels` of the worst grade's bits.
+-- `graded_sums::sums::worst_levels` meets its contract: it is `count_levels` for the worst grade's bits.
 -- Assumes nothing.
 use mathlib.Core.Path.{sym, subst₂}
 use Prim.Native.Nat.{ℕ, _-_}

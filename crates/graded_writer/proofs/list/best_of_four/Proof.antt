@@ -1,4 +1,4 @@
--- `graded_writer::list::best_of_four` meets its contract: a single candidate meets nobody.
+-- `graded_writer::list::best_of_four` meets its contract: a single candidate is compared with nobody.
 -- Assumes nothing.
 use mathlib.Core.Path.{sym}
 use mathlib.Core.List.{[]}

@@ -1,4 +1,4 @@
--- `graded_writer::list::candidates` meets its contract: after each candidate, those that are left make the whole.
+-- `graded_writer::list::candidates` meets its contract: after each candidate, writing those left completes the block.
 -- Assumes nothing.
 use mathlib.Core.Path.{_≡_, _∙_, refl, sym, ap}
 use Prim.Native.Nat.{ℕ, suc, _+_, _-_, _*_, _≤_, _<_}

@@ -1,4 +1,4 @@
--- `graded_writer::list::circuit` meets its contract: the candidates, and all levels.
+-- `graded_writer::list::circuit` meets its contract: the candidates, then all levels.
 -- Assumes nothing.
 use mathlib.Core.Path.{_≡_, refl, ap}
 use Prim.Native.Nat.{ℕ, _+_, _-_, _*_}

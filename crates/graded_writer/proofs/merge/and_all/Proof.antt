@@ -1,4 +1,4 @@
--- `graded_writer::merge::and_all` meets its contract: after each gate, the gates that are left make the whole.
+-- `graded_writer::merge::and_all` meets its contract: after each gate, writing the gates left completes the block.
 -- Assumes nothing.
 use mathlib.Core.Path.{_≡_, _∙_, sym, ap}
 use Prim.Native.Nat.{ℕ, _+_, _-_, _≤_}

@@ -1,4 +1,4 @@
--- `graded_writer::merge::better` meets its contract: a choice of the keys' wires.
+-- `graded_writer::merge::better` meets its contract: it chooses between the wires of the keys.
 -- Assumes nothing.
 use mathlib.Core.Path.{ap}
 use Prim.Native.Nat.{_+_}

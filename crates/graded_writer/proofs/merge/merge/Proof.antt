@@ -1,4 +1,4 @@
--- `graded_writer::merge::merge` meets its contract: the contest, which group stays, and who stays of either group.
+-- `graded_writer::merge::merge` meets its contract: the contest, which group stays, then who stays in each group.
 -- Assumes nothing.
 use mathlib.Core.Path.{_≡_, refl, ap}
 use Prim.Native.Nat.{ℕ, _+_, _-_}
@@ -24,7 +24,7 @@ contest-requires c κs =
       cut = omega (arith, (c .high-digits) .ensures, high-leaves (s .args .p) (s .args .l + s .args .m));
     }
 
--- behind the contest, which group stays, and the first group
+-- after the contest, after the flags, and after the first group
 
 compared : (c : tie.After-contest)
     → Stands (c .contest .result) ((c .before .before .before .before) .args .w .wire

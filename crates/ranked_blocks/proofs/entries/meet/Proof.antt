@@ -1,4 +1,4 @@
--- `ranked_blocks::entries::meet` meets its contract: six wires that are kept, and the meeting.
+-- `ranked_blocks::entries::meet` meets its contract: it reads six kept wires and writes the meeting.
 -- Assumes nothing.
 use mathlib.Core.Path.{_≡_}
 use Prim.Native.Nat.{ℕ, suc, _-_, _<_}
@@ -9,7 +9,7 @@ use Rattle.ranked_circuit.specs.Contests.{meeting}
 use Rattle.ranked_blocks.proofs.entries.meet.Statement.{statement}
 use Rattle.ranked_blocks.proofs.entries.meet.Tie as tie
 
--- the start, and after the wires of the last candidate's words, and after all
+-- the start, after the last candidate's words were read, and after all six wires were
 abbrev start : tie.After-meeting-arg → tie.Start
 start c = c .before .before .before .before
 

@@ -1,4 +1,4 @@
--- `ranked_blocks::entries::new_word` meets its contract: a link's strength, then the stronger of a path and a way.
+-- `ranked_blocks::entries::new_word` meets its contract: a link's strength, or the stronger of a path and a way.
 -- Assumes nothing.
 use mathlib.Core.Path.{_≡_, _∙_, sym, ap}
 use mathlib.Core.Logic.{_≢_}
@@ -20,7 +20,7 @@ use Rattle.ranked_blocks.proofs.entries.new_word.Tie as tie
 abbrev start-from-kept2 : tie.After-kept2 → tie.Start
 start-from-kept2 c = c .before .before .before .before .before
 
--- the start, after the link and the word were read, and after the way's parts and the cut
+-- the start, after the link and the word were read, and after the parts of the way and the cut were
 abbrev start : tie.After-kept2 → tie.Start
 start c = (start-from-kept2 c)
 
@@ -53,7 +53,7 @@ kept-requires-2 c κs =
       long = s .pre .kept .words-long;
     }
 
--- the same blocks under the names of what was read
+-- blocks are equal if the wires that they read are
 zero-same : (f v w f′ v′ : ℕ) → f ≡ f′ → v ≡ v′ → masked f v (w + 1) ≡ masked f′ v′ (w + 1)
 zero-same f v w f′ v′ ef ev = rw (ef, ev)
 
@@ -99,7 +99,7 @@ returns c =
     ∙ new-zero (keptOf (a .links .now) k) (keptOf (a .words .now) k) (a .p .digits) (cutOf s) (a .w .wire) (a .i)
     (a .j) (a .m) (t .if1 .taken)) (d .masked .ensures)
 
--- the candidate of the detour
+-- the detour goes over a candidate
 over : (s : tie.Start) → s .args .m - 1 < s .args .p .candidates
 over s = let m = s .pre .stage in omega (arith, s .pre .kept .ranked .k-least)
 

@@ -1,4 +1,4 @@
--- `ranked_blocks::kept::kept` meets its contract: the number of each two of eight candidates is below 64.
+-- `ranked_blocks::kept::kept` meets its contract: the place of each pair of eight candidates is below 64.
 -- Assumes nothing.
 use native.Mathlib.Omega.{arith}
 use borrow.Author.Needs.{needs}

@@ -1,4 +1,4 @@
--- `ranked_words::blocks::larger_if` meets its contract: an order, the gate of both conditions, and the choice by it.
+-- `ranked_words::blocks::larger_if` meets its contract: an order, the "and" of both conditions, then a choice.
 -- Assumes nothing.
 use mathlib.Core.Path.{_≡_, _∙_, refl, ap}
 use mathlib.Core.List.{[], _∷_}

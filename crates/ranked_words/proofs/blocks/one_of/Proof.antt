@@ -1,4 +1,4 @@
--- `ranked_words::blocks::one_of` meets its contract: an order, and the choice by its last wire.
+-- `ranked_words::blocks::one_of` meets its contract: an order, then a choice by its last wire.
 -- Assumes nothing.
 use mathlib.Core.Path.{_≡_, _∙_, refl, ap}
 use Prim.Native.Nat.{ℕ, suc, _+_, _-_}

@@ -1,4 +1,4 @@
--- `ranked_words::blocks::order` meets its contract: where the words differ, then the comparison.
+-- `ranked_words::blocks::order` meets its contract: the differences, then the comparison.
 -- Assumes nothing.
 use mathlib.Core.Path.{_≡_, ap}
 use Prim.Native.Nat.{ℕ, _+_}

@@ -1,4 +1,5 @@
--- `ranked_words::blocks::order_cut` meets its contract: one chain, or the low digits, the high ones, and what decides.
+-- `ranked_words::blocks::order_cut` meets its contract: one chain, or the low digits, the high ones, and the gate
+-- that decides.
 -- Assumes nothing.
 use mathlib.Core.Path.{_≡_, _∙_, refl, ap}
 use mathlib.Core.List.{_++_}
@@ -17,7 +18,7 @@ use Rattle.ranked_words.proofs.Cutting.{cut-zero, cut-some}
 use Rattle.ranked_words.proofs.blocks.order_cut.Statement.{statement}
 use Rattle.ranked_words.proofs.blocks.order_cut.Tie as tie
 
--- the start, after the low digits, after the wires that answer were found, and after the high digits
+-- the start, after the low digits, after the wires of the answers were found, and after the high digits
 abbrev start : tie.Else1 → tie.Start
 start c = c .before .before
 

@@ -1,4 +1,5 @@
--- `ranked_words::blocks::strictly` meets its contract: the lowest digits, where the others differ, then the comparison.
+-- `ranked_words::blocks::strictly` meets its contract: the lowest digits, the differences of the others, then the
+-- comparison.
 -- Assumes nothing.
 use mathlib.Core.Path.{_≡_, refl, ap}
 use mathlib.Core.List.{[], _∷_}

@@ -1,4 +1,4 @@
--- `ranked_words::meeting::meeting` meets its contract: four comparisons, and the gates that decide.
+-- `ranked_words::meeting::meeting` meets its contract: four comparisons, then the gates that decide.
 -- Assumes nothing.
 use mathlib.Core.Path.{_≡_, refl, ap}
 use mathlib.Core.List.{List, [], _∷_, _++_}
@@ -31,7 +31,7 @@ third c = c .before .before .before .before
 abbrev fourth : tie.After-decide → tie.After-strictly2
 fourth c = c .before .before .before .before
 
--- numbers of gates: of a comparison both ways, and one way
+-- the numbers of gates of a comparison both ways, and of one way
 abbrev both : ℕ → ℕ
 both w = 3 + 3 * w
 
@@ -136,7 +136,7 @@ decide-requires c κs =
       fourth = omega (arith, four p .place);
     }
 
--- the gates that decide, with other names for the wires
+-- the gates that decide are equal if their wires are
 decided : (a b s n a₁ b₁ s₁ n₁ mi mj : ℕ) → a ≡ a₁ → b ≡ b₁ → s ≡ s₁ → n ≡ n₁
     → _≡_ {A = List Gate} (andOf (b - 2) (s - 1) ∷ andOf (b - 1) (n - 1) ∷ muxOf (a - 1) mi n ∷ muxOf (a - 2) mj (n + 1) ∷ [])
     (andOf (b₁ - 2) (s₁ - 1) ∷ andOf (b₁ - 1) (n₁ - 1) ∷ muxOf (a₁ - 1) mi n₁ ∷ muxOf (a₁ - 2) mj (n₁ + 1) ∷ [])

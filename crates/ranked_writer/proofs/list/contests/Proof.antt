@@ -38,7 +38,7 @@ duelled c = (links-table-from-meetings-table c)
 abbrev done : tie.After-slice-known6 → tie.After-meetings-table
 done c = c .before .before .before .before
 
--- the duels, and the paths before them
+-- the table of duels is that of the definition
 same : (s : tie.Start) → table (s .args .w .wire) (s .args .p .candidates)
     (linksBlock (s .args .p .candidates - 1) (keptOf (s .args .words .now) (s .args .p .candidates))
     (s .args .p .digits)) ≡ duels (s .args .p .candidates) (s .args .p .ballots) (s .args .p .digits)

@@ -15,7 +15,7 @@ use Rattle.ranked_writer.proofs.Parts.{first-parts, links-from, votes-w
 use Rattle.ranked_writer.proofs.list.first_tables.Statement.{statement}
 use Rattle.ranked_writer.proofs.list.first_tables.Tie as tie
 
--- both tables
+-- the length of both tables
 long : (k n w : ℕ) → length (pathsTo k n w 0 .gates) ≡ length (table (n * k * k) k (votesBlock k n w))
     + length (table (linksFrom k n w) k (linksBlock 0 (votesAt k n w) w))
 long k n w = ap length (first-parts k n w)

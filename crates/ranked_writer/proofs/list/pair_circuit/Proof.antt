@@ -1,4 +1,4 @@
--- `ranked_writer::list::pair_circuit` meets its contract: the links, and who has none against it.
+-- `ranked_writer::list::pair_circuit` meets its contract: the links, then who has no link against it.
 -- Assumes nothing.
 use mathlib.Core.Path.{_≡_, _∙_, refl, sym, ap}
 use mathlib.Core.List.{List}

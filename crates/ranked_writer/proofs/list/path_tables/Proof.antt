@@ -110,7 +110,7 @@ loop-holds c =
       f .ensures .words-kept,
     )
 
--- the stage under the wires that are kept
+-- the stage, in terms of the wires that are kept
 same : (c : tie.Then1 Inv-loop μ-loop)
     → table ((c .before .before .loop) .next .wire) (((start-from-then1 c) .args) .p .candidates)
     (pathBlock (((start-from-then1 c) .args) .p .candidates)

@@ -38,7 +38,7 @@ short k n lk hk ln hn = omega (arith, own-ranking-holds k n lk hk ln hn .bounded
 list-is : (k n w : ℕ) → w ≡ widthOf n - 1 → rankedList k n w ≡ ownRanking k n
 list-is k n w e = ap (rankedList k n) e ∙ unfold ownRanking in refl
 
--- the width of the number of ballots
+-- the width of the number of ballots is 1 to 8
 widths : (n : ℕ) → 1 ≤ n → n ≤ 255 → (1 ≤ widthOf n) × (widthOf n ≤ 8)
 widths n l h = (omega (arith, width-half n l), width-most n h)
 
@@ -122,7 +122,7 @@ sub-digits c = omega (
       ((c .before .before .before .before .pre) .n-most),
 )
 
--- the digits
+-- the number of digits above the lowest
 digits-are : (c : tie.After-width) → (c .width) .result - 1 ≡ widthOf ((c .before .before .before .before .args) .ballots) - 1
 digits-are c = ap (λ (x : ℕ). x - 1) ((c .width) .ensures)
 

@@ -1,4 +1,4 @@
--- `ranked_writer::losers::joined` meets its contract: an other's wire, or one of the row.
+-- `ranked_writer::losers::joined` meets its contract: the wire of another candidate, or a wire of the row.
 -- Assumes nothing.
 use mathlib.Core.Path.{_≡_, _∙_, sym, ap}
 use mathlib.Core.Bool.{Bool, cond}

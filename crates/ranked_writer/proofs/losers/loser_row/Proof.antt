@@ -1,4 +1,4 @@
--- `ranked_writer::losers::loser_row` meets its contract: one gate after the other joins two.
+-- `ranked_writer::losers::loser_row` meets its contract: each gate joins two operands.
 -- Assumes nothing.
 use mathlib.Core.Path.{_≡_, _∙_, refl, ap}
 use mathlib.Core.List.{List, [], _∷_}

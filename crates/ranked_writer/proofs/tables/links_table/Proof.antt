@@ -1,4 +1,5 @@
--- `ranked_writer::tables::links_table` meets its contract: a comparison for each two candidates, from a first row on.
+-- `ranked_writer::tables::links_table` meets its contract: a comparison for each pair of candidates, from a first row
+-- on.
 -- Assumes nothing.
 use mathlib.Core.Path.{_≡_, _∙_, refl, sym}
 use mathlib.Core.Bool.{Bool}

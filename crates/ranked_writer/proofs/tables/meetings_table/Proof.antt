@@ -1,4 +1,5 @@
--- `ranked_writer::tables::meetings_table` meets its contract: a meeting for each two candidates before the last one.
+-- `ranked_writer::tables::meetings_table` meets its contract: a meeting for each pair of candidates before the last
+-- one.
 -- Assumes nothing.
 use mathlib.Core.Path.{_≡_, _∙_, refl, sym, ap}
 use mathlib.Core.Bool.{Bool}

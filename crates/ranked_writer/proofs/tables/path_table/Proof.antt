@@ -1,4 +1,5 @@
--- `ranked_writer::tables::path_table` meets its contract: a word for each two candidates that the stage does not leave.
+-- `ranked_writer::tables::path_table` meets its contract: a new word for each pair of candidates whose word the stage
+-- changes.
 -- Assumes nothing.
 use mathlib.Core.Path.{_≡_, _∙_, refl, sym, ap}
 use Prim.Native.Nat.{ℕ, suc, _-_, _*_, _/_, _%_, _≤_}

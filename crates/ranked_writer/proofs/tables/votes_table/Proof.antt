@@ -1,4 +1,4 @@
--- `ranked_writer::tables::votes_table` meets its contract: a counter for each two candidates.
+-- `ranked_writer::tables::votes_table` meets its contract: a counter for each pair of candidates.
 -- Assumes nothing.
 use mathlib.Core.Path.{_≡_, _∙_, refl, sym, ap}
 use mathlib.Core.Bool.{Bool, cond}

@@ -1,4 +1,5 @@
--- `gate_words::writer::Writer::chain` meets its contract: what is left is the chain from the last gate on.
+-- `gate_words::writer::Writer::chain` meets its contract: after each gate, writing the rest of the chain completes
+-- it.
 -- Assumes nothing.
 use mathlib.Core.Path.{sym, ap}
 use Prim.Native.Nat.{ℕ, _+_, _-_}

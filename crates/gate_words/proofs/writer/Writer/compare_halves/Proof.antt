@@ -1,4 +1,4 @@
--- `gate_words::writer::Writer::compare_halves` meets its contract: whether the words differ, and which is larger.
+-- `gate_words::writer::Writer::compare_halves` meets its contract: whether the words differ, then which is above.
 -- Assumes nothing.
 use mathlib.Core.Path.{_∙_, refl, ap}
 use Prim.Native.Nat.{ℕ, _+_, _-_}
@@ -24,7 +24,7 @@ unequal-halves-requires c κs =
       secondBelow = s .pre .secondBelow;
     }
 
--- after the first part
+-- after the part that says whether the words differ
 
 differ : (c : tie.After-unequal-halves)
     → Stands (c .unequal-halves .result)

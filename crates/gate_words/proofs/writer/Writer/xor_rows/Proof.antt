@@ -1,4 +1,5 @@
--- `gate_words::writer::Writer::xor_rows` meets its contract: after each gate, the sums that are left make the whole.
+-- `gate_words::writer::Writer::xor_rows` meets its contract: after each gate, writing the sums left completes the
+-- rows.
 -- Assumes nothing.
 use Prim.Native.Nat.{_-_}
 use native.Mathlib.Omega.{arith}

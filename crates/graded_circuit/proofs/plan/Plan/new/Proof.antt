@@ -16,7 +16,7 @@ use Rattle.graded_circuit.proofs.Planning.{half-most, rest-most, high-w
 use Rattle.graded_circuit.proofs.plan.Plan.new.Statement.{statement}
 use Rattle.graded_circuit.proofs.plan.Plan.new.Tie as tie
 
--- the width of a number of ballots
+-- the width of the number of ballots is 1 to 8
 widths : (s : Shape) → T (gradedLimits s) → (1 ≤ widthOf (s .ballots)) × (widthOf (s .ballots) ≤ 8)
 widths s t = let w = within-T s t in (omega (arith, width-half (s .ballots) (w .n-least)), width-most (s .ballots) (w .n-most))
 
@@ -62,7 +62,7 @@ cast-t8 c = let a = c .before .before .before .before .before .before in
 add-t9 : tie.Need-add-t9
 add-t9 c = let a = c .before .before .before .before .before .before in omega (arith, within-T (a .args .shape) (a .pre) .n-most)
 
--- the power of two of the low digits
+-- 2 to the number of low digits
 power-is : (c : tie.After-ballot-bytes) → c .before .before .before .power .result
     ≡ 2 ^ (widthOf (c .before .before .before .before .before .before .args .shape .ballots) - 1)
 power-is c = c .before .before .before .power .ensures ∙ ap (λ (k : ℕ). 2 ^ (k - 1)) (c .before .before .before .before .width .ensures)
@@ -79,7 +79,7 @@ sub-t14 : tie.Need-sub-t14
 sub-t14 c = let a = c .before .before .before .before .before .before in let e = power-is c in
     omega (arith, halves (a .args .shape) (a .pre))
 
--- the width of the number of a grade
+-- the width of the largest grade's number is 1 to 8
 grade-widths : (s : Shape) → T (gradedLimits s) → (1 ≤ widthOf (s .grades - 1)) × (widthOf (s .grades - 1) ≤ 8)
 grade-widths s t =
     let w = within-T s t in
