@@ -20,12 +20,12 @@ and-left t u r h e = e ∙ h ∙ ap (λ (x : Bool). x && u) (sym h)
 pub or-left : (t u r : Bool) → t ≡ false → r ≡ u → r ≡ (t || u)
 or-left t u r h e = e ∙ ap (λ (x : Bool). x || u) (sym h)
 
--- if a conjunction holds, so do both its parts
 -- the second test failed, and the flag is the outcome of the first
 pub or-only-first : (t u r : Bool) → u ≡ false → r ≡ t → r ≡ (t || u)
 or-only-first false u r e f = f ∙ sym e
 or-only-first true u r e f = f
 
+-- if a conjunction holds, so do both its parts
 pub and-first : (t u : Bool) → (t && u) ≡ true → t ≡ true
 and-first true u e = refl
 and-first false u e = e
