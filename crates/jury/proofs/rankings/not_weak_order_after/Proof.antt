@@ -14,7 +14,7 @@ use Rattle.jury.proofs.Searches.{some-later, some-here}
 use Rattle.jury.proofs.rankings.not_weak_order_after.Statement.{statement}
 use Rattle.jury.proofs.rankings.not_weak_order_after.Tie as tie
 
--- i is before j while some candidate is not after i and not before j
+-- i is before j, and some candidate is not after i and not before j
 abbrev test : ℕ → List ℕ → ℕ → ℕ → ℕ → Bool
 test k xs b i j = before k xs b i j && neitherAfterNorBefore k xs b i j
 

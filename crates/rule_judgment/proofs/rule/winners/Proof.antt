@@ -1,5 +1,5 @@
--- `rule_judgment::rule::winners` meets its contract: below c the bytes are 1 for those with the first winner's
--- counts; from c on they are 0.
+-- `rule_judgment::rule::winners` meets its contract: below c a byte is 1 if its candidate has the first winner's
+-- counts; from c on all bytes are 0.
 -- Assumes nothing.
 use mathlib.Core.Path.{_≡_, _∙_, sym, ap}
 use mathlib.Core.Bool.{true, false}
