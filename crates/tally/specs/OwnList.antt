@@ -13,6 +13,7 @@ use Rattle.ranked_circuit.specs.OwnRanking.{ownRanking, rankingBound}
 unfoldable pub ownList : Shape → List Gate
 ownList s = cond (isRanking s) (ownRanking (s .candidates) (s .ballots)) (ownGrading s)
 
+-- The bound on G: [bound] with [judgment-bound] for grades, [ranking-bound] for rankings.
 unfoldable pub gateBound : Shape → ℕ
 gateBound s =
     cond (isRanking s)
