@@ -12,8 +12,8 @@ use Rattle.tally.specs.Run.{runResult}
 use Rattle.tally.specs.Hiding.{closingBytes}
 use Rattle.tally.specs.Demands.{listIn}
 
--- An accepted run of the list that a write left, on these ballots. Tape, wire table and board are any with which
--- the run is accepted.
+-- An accepted run, on these ballots, of the list that a write left. The tape and the old contents of wire table and
+-- board are arbitrary.
 pub record OwnRun (s : Shape) (table : List ℕ) (size : Size) (ballots : List ℕ) : Type 0 where
   pub tape : List ℕ
   pub wires : List ℕ
