@@ -14,11 +14,11 @@ pub record Slot : Type 0 where
 unfoldable pub slotBytes : ℕ → ℕ
 slotBytes b = 2 + b
 
--- The slot that these bytes make.
+-- The slot in these bytes.
 unfoldable pub slotOf : List ℕ → Slot
 slotOf bytes = record { next = getD bytes 0 0; juror = getD bytes 1 0; ballot = drop 2 bytes }
 
--- The first n slots of an urn.
+-- The first n slots of an urn, for ballots of b bytes.
 unfoldable pub slotsOf : ℕ → ℕ → List ℕ → List Slot
 slotsOf b zero urn = []
 slotsOf b (suc n) urn = slotOf (take (slotBytes b) urn) ∷ slotsOf b n (drop (slotBytes b) urn)
@@ -31,7 +31,7 @@ unfoldable pub bytesOf : List Slot → List ℕ
 bytesOf [] = []
 bytesOf (s ∷ slots) = bytesOfSlot s ++ bytesOf slots
 
--- Slot i; past the last it is empty.
+-- Slot i; past the last slot, a slot of zeros without a ballot.
 unfoldable pub slotAt : List Slot → ℕ → Slot
 slotAt slots i = getD slots i (record { next = 0; juror = 0; ballot = [] })
 
