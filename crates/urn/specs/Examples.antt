@@ -1,5 +1,5 @@
--- One candidate, two grades: a slot is four bytes. A table of three slots becomes an empty urn; juror 9 is admitted
--- to an empty urn of two slots and withdrawn again.
+-- One candidate and two grades, so a slot has four bytes. A table of three slots becomes an empty urn. The ballot
+-- of juror 9 is admitted to an empty urn of two slots and withdrawn again.
 use mathlib.Core.Path.{_≡_, refl}
 use mathlib.Core.Bool.{true, false}
 use mathlib.Core.List.{List, [], _∷_}
