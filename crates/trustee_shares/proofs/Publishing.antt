@@ -77,7 +77,7 @@ length-masked parts triples i (g ∷ gs) =
     go true is e f = omega (arith, count-mark g gs, mark-one g is)
     go false is e f = omega (arith, count-mark g gs, mark-none g is)
 
--- two trustees publish equal bits for a conditional gate
+-- in both runs equal bits are published for a conditional gate
 abbrev pub AgreeAt : List ℕ → List ℕ → List ℕ → List ℕ → ℕ → Gate → Type 0
 AgreeAt parts parts′ triples triples′ i g = (maskedFirst parts triples i g ≡ maskedFirst parts′ triples′ i g)
     × (maskedSecond parts triples i g ≡ maskedSecond parts′ triples′ i g)
