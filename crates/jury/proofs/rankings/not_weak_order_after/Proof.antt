@@ -1,4 +1,4 @@
--- `jury::rankings::not_weak_order_after` meets its contract: the test fails for every candidate below j.
+-- `jury::rankings::not_weak_order_after` meets its contract: 12 does not apply for i and any candidate below j.
 -- Assumes nothing.
 use mathlib.Core.Path.{_≡_, _∙_, refl, sym, ap}
 use mathlib.Core.Bool.{Bool, false, _&&_}
