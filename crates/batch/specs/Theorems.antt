@@ -25,8 +25,8 @@ runAlone j c =
     (laneOf j (c .board))
 
 -- Each jury of an accepted call has what its single run gives: the answer, and its bits of wire table and board.
--- Both wire tables are zeros by then. That each jury's wires were those of its single run before, is the contract
--- of `batch_lanes::step::run`.
+-- Both wire tables are zeros by then. The contract of `batch_lanes::step::run` says that each jury's wires were
+-- those of its single run before they were emptied.
 abbrev pub EachAsAlone : Type 0
 EachAsAlone =
     (c : Call) (size : Size) → batchResult c .answer ≡ accepted size → (j : ℕ) → j < laneCount

@@ -54,6 +54,6 @@ notWeakOrderAfter k xs b i = someBelow k (λ j. before k xs b i j && neitherAfte
 unfoldable pub notWeakOrder : ℕ → List ℕ → ℕ → Bool
 notWeakOrder k xs b = someBelow k (notWeakOrderAfter k xs b)
 
--- Reason 12: the first of n ballots that is no strict weak order.
+-- The first of n ballots to which reason 12 applies.
 unfoldable pub firstNotWeakOrder : ℕ → ℕ → List ℕ → Place
 firstNotWeakOrder k n xs = firstOver n (λ b. cond (notWeakOrder k xs b) (At b) Nowhere)

@@ -1,4 +1,4 @@
--- The ranked ballots that pass their tests: strict weak orders. `RankingLaws` of proofs/ shows that no others pass.
+-- Strict weak orders. `RankingLaws` of proofs/ shows that a ranked ballot passes its tests exactly if it is one.
 use mathlib.Core.Path.{_≡_}
 use mathlib.Core.Bool.{Bool, true, false}
 use Prim.Native.Nat.{ℕ, _<_}

@@ -18,6 +18,7 @@ use Rattle.levels.specs.Answer.{Depths, depthsOf}
 unfoldable pub levelsReasons : Shape → List ℕ → List ℕ → List (Option Reason)
 levelsReasons s table levels = testReasons s table ++ unless (eqb (length levels) (length (gatesOf table))) 200 ∷ []
 
+-- The answer: the first reason, or G, C and R.
 unfoldable pub levelsOutcome : Shape → List ℕ → List ℕ → Outcome Depths
 levelsOutcome s table levels =
     outcome (firstOf (levelsReasons s table levels)) (depthsOf (ballotBytes s) (gatesOf table))
@@ -32,6 +33,7 @@ pub record LevelsResult : Type 0 where
   pub answer : Outcome Depths
   pub levels : List ℕ
 
+-- The contract of `write` is an equation with this.
 abbrev pub levelsResult : Shape → List ℕ → List ℕ → LevelsResult
 levelsResult s table levels =
     record { answer = levelsOutcome s table levels; levels = levelsWritten s table levels }

@@ -10,6 +10,7 @@ use Rattle.graded_circuit.specs.OwnList.{ownGrading}
 use Rattle.graded_circuit.specs.Bound.{gradingBound}
 use Rattle.ranked_circuit.specs.OwnRanking.{ownRanking, rankingBound}
 
+-- The list that the core writes for a shape.
 unfoldable pub ownList : Shape → List Gate
 ownList s = cond (isRanking s) (ownRanking (s .candidates) (s .ballots)) (ownGrading s)
 

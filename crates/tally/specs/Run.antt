@@ -34,6 +34,7 @@ runReasons s table ballots tape wires board =
     ++ ballotReasons s ballots
     ++ bufferReasons (ballotBytes s) (s .candidates) (sizeOf (gatesOf table)) tape wires board
 
+-- The answer of a run: the first reason, or the list's own G and C.
 abbrev pub runOutcome : Shape → List ℕ → List ℕ → List ℕ → List ℕ → List ℕ → Outcome Size
 runOutcome s table ballots tape wires board =
     outcome (firstOf (runReasons s table ballots tape wires board)) (sizeOf (gatesOf table))

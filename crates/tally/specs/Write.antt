@@ -20,6 +20,7 @@ use Rattle.tally.specs.Test.{testOutcome}
 unfoldable pub writeReasons : Shape → List ℕ → List (Option Reason)
 writeReasons s table = unless (withinLimits s) 1 ∷ unless (leb (4 * length (ownList s)) (length table)) 2 ∷ []
 
+-- The answer of a write: the first reason, or G and C of the own list.
 unfoldable pub writeOutcome : Shape → List ℕ → Outcome Size
 writeOutcome s table = outcome (firstOf (writeReasons s table)) (sizeOf (ownList s))
 
@@ -37,7 +38,7 @@ pub record OwnListHolds (s : Shape) : Type 0 where
   pub closing : (ballots : List ℕ) → AcceptedBallots s ballots
       → outputsOf (s .candidates) (wiresOf ballots (ownList s)) ≡ closingFor s ballots
 
--- The same as a statement about any shape.
+-- If the shape is within its limits, this holds for its own list.
 abbrev pub HoldsWithin : Shape → Type 0
 HoldsWithin s = T (withinLimits s) → OwnListHolds s
 

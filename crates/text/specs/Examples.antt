@@ -23,7 +23,7 @@ copyLine = 50 ∷ 32 ∷ 49 ∷ 10 ∷ []
 abbrev pub zeroFirst : List ℕ
 zeroFirst = 48 ∷ 50 ∷ 32 ∷ 49 ∷ 10 ∷ []
 
--- That line twice, the second time without its line feed.
+-- `2 1` in two lines, the second one without its line feed.
 abbrev pub openEnd : List ℕ
 openEnd = 50 ∷ 32 ∷ 49 ∷ 10 ∷ 50 ∷ 32 ∷ 49 ∷ []
 

@@ -45,8 +45,8 @@ digitsIn n (c ∷ cs) =
     (cond (leb (10 * n + (c - zeroCharacter)) largest) (digitsIn (10 * n + (c - zeroCharacter)) cs) none)
     (taken n (c ∷ cs))
 
--- The number at the start of these characters, if there is one. A first digit 0 is a whole number: no other number
--- begins with 0.
+-- The number at the start of these characters, if there is one. If the first digit is 0, the number ends there:
+-- only 0 itself begins with 0.
 unfoldable pub numberIn : List ℕ → Option (Taken ℕ)
 numberIn [] = none
 numberIn (c ∷ cs) =

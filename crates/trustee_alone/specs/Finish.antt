@@ -17,6 +17,7 @@ unfoldable pub finishReasons : Shape → List ℕ → List ℕ → List (Option 
 finishReasons s table wireParts =
     testReasons s table ++ unless (eqb (length wireParts) (ballotBytes s + length (gatesOf table))) 17 ∷ []
 
+-- The answer: the first reason, or G and C.
 unfoldable pub finishOutcome : Shape → List ℕ → List ℕ → Outcome Size
 finishOutcome s table wireParts = outcome (firstOf (finishReasons s table wireParts)) (sizeOf (gatesOf table))
 
@@ -30,6 +31,7 @@ pub record FinishResult : Type 0 where
   pub answer : Outcome Size
   pub wires : List ℕ
 
+-- The contract of `finish` is an equation with this.
 abbrev pub finishResult : Shape → List ℕ → List ℕ → FinishResult
 finishResult s table wireParts =
     record { answer = finishOutcome s table wireParts; wires = finishedWires s table wireParts }

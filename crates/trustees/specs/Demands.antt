@@ -42,8 +42,8 @@ pub record Way : Type 0 where
   pub closing : Call → List ℕ
   pub view : (q : ℕ) → Call → View
 
--- The single call on the joined tables. It leaves zeros for wire parts. That they were `wirePartsIn` before they
--- were emptied, is the contract of `trustee_gates::evaluate::evaluate`.
+-- The single call on the joined tables. It leaves zeros for wire parts. The contract of
+-- `trustee_gates::evaluate::evaluate` says that they were `wirePartsIn` before they were emptied.
 abbrev pub inOneCall : Way
 inOneCall =
     record {

@@ -19,9 +19,11 @@ use Rattle.urn.specs.Admit.{admitReasons, withBallot, admitted}
 use Rattle.tally.specs.Answer.{afterwards}
 use Rattle.urn.specs.Withdraw.{withdrawReasons, withoutJuror, slotOfJuror, withoutBallot, withdrawn}
 
+-- Two slots; slot 1 is free.
 unfoldable pub emptyUrn : List ℕ
 emptyUrn = 0 ∷ 1 ∷ 0 ∷ 0 ∷ 0 ∷ 0 ∷ 0 ∷ 0 ∷ []
 
+-- The same with the ballot of juror 9, which gives the worse grade, in slot 1.
 unfoldable pub oneBallotIn : List ℕ
 oneBallotIn = 1 ∷ 0 ∷ 0 ∷ 0 ∷ 0 ∷ 9 ∷ 0 ∷ 1 ∷ []
 

@@ -16,6 +16,7 @@ pub record LaidOut (k d n : ℕ) (es : List Entry) (is : List ℕ) (urn : List �
   pub good : goodChains k d n es is ≡ true
   pub bytes : urn ≡ bytesOf (layout n (k * d) es is)
 
+-- A sound urn is the layout of good chains, and a layout of good chains is sound.
 pub record SoundIsLaidOut : Type 0 where
   pub exactly : (k d : ℕ) (urn : List ℕ)
       → (sound k d urn ≡ true) ↔ ((n : ℕ) × (es : List Entry) × (is : List ℕ) × LaidOut k d n es is urn)

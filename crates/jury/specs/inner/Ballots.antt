@@ -1,4 +1,4 @@
--- What the tests of ballots ask of each other.
+-- What the tests of ballots require of each other.
 use mathlib.Core.Path.{_≡_}
 use mathlib.Core.List.{List}
 use Prim.Native.Nat.{ℕ, _*_}

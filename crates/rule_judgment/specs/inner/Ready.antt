@@ -1,4 +1,4 @@
--- What the functions of the rule ask of each other, and what they promise.
+-- What the functions of the rule require of each other, and what they promise.
 use mathlib.Core.Path.{_≡_}
 use mathlib.Core.Bool.{Bool}
 use mathlib.Core.List.{List, []}
