@@ -6,7 +6,7 @@ use Prim.Native.Nat.{ℕ, zero, suc, min}
 use lib.Dec.{leb, ltb, eqb}
 use Rattle.basics.specs.Lists.{tabulate, all, maximum}
 
--- The strength of the link from i to j [schulze]: v i j if it is larger than v j i, else 0.
+-- The strength of the link from i to j [schulze]: v i j if it is larger than v j i; otherwise it is 0.
 unfoldable pub link : (ℕ → ℕ → ℕ) → ℕ → ℕ → ℕ
 link v i j = cond (ltb (v j i) (v i j)) (v i j) 0
 

@@ -3,8 +3,8 @@ use mathlib.Core.List.{List, [], _∷_, _++_}
 use Prim.Native.Nat.{ℕ, zero, suc, _+_}
 use lib.ListN.{getD, take, drop, replicate}
 
--- A slot: the index of the next slot in its chain (0 at the end), the juror, the ballot [urn]. In slot 0, `next` is
--- the first slot of the ballot chain and `juror` the first of the free chain.
+-- A slot: the index of the next slot in its chain (0 at the end), the juror, the ballot [urn]. Slot 0 is different:
+-- its `next` is where the ballot chain begins, and its `juror` is where the free chain begins.
 pub record Slot : Type 0 where
   pub next : ℕ
   pub juror : ℕ
