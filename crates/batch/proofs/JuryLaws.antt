@@ -16,7 +16,7 @@ use Rattle.batch_lanes.proofs.LaneLaws.{lane-first, lane-next}
 use Rattle.batch.specs.Ballots.{inJury}
 use Rattle.batch.specs.inner.Found.{foundBit, firstSet}
 
--- the lowest set bit of a word is after its trailing zeros
+-- the lowest set bit of a word comes after its trailing zeros
 pub zeros-below : (m w j : ℕ) → j < trailingZeros m w → lane j w ≡ 0
 unfolding trailingZeros
 zeros-below zero w j h = absurd (omega arith)
@@ -39,7 +39,7 @@ one-there (suc m) w h = go (w % 2) refl (one-there m (w / 2)) h
     go zero e rest h = lane-next (trailingZeros m (w / 2)) w ∙ rest (omega arith)
     go (suc r) e rest h = lane-first w ∙ omega arith
 
--- whether lane j is set, as a search
+-- the search whether lane j is set
 set-in : ℕ → ℕ → Place
 set-in w j = cond (eqb (lane j w) 1) (At j) Nowhere
 

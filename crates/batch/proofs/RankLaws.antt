@@ -23,7 +23,7 @@ use Rattle.batch.specs.inner.Found.{foundBit}
 abbrev pub bit : Bool → ℕ
 bit t = cond {A = ℕ} t 1 0
 
--- whether the byte at a place is 1, as the lane of its word
+-- the test whether a byte is 1, as the lane of its word
 bit-test : (x : ℕ) → x ≤ 1 → x ≡ bit (eqb x 1)
 bit-test zero h = refl
 bit-test (suc zero) h = refl
@@ -33,7 +33,7 @@ pub byte-lane : (u : ℕ) (words : List ℕ) (p : ℕ) → lane u (getD words p 
 byte-lane u words p = bit-test (lane u (getD words p 0)) (lane-bit u (getD words p 0))
     ∙ ap (λ (x : ℕ). bit (eqb x 1)) (sym (lanes-at u words p))
 
--- both of two tests
+-- the smaller of two bits stands for both tests
 min-and : (s t : Bool) → min (bit s) (bit t) ≡ bit (s && t)
 min-and true true = refl
 min-and true false = refl
@@ -52,7 +52,7 @@ clash-lane u v w place s t e f = both-lane u v w s t e f ∙ found (s && t)
     found true = refl
     found false = refl
 
--- neither of two tests
+-- the complement of a bit stands for the negated test
 pub not-lane : (u w : ℕ) (t : Bool) → u < laneCount → lane u w ≡ bit t → lane u (bitXor w 18446744073709551615) ≡ bit (not t)
 not-lane u w t h e = lane-xor u w 18446744073709551615 ∙ ap₂ (λ (x y : ℕ). (x + y) % 2) e (lane-all 64 u h) ∙ flip t
   where
@@ -60,13 +60,13 @@ not-lane u w t h e = lane-xor u w 18446744073709551615 ∙ ap₂ (λ (x y : ℕ)
     flip true = refl
     flip false = refl
 
--- a test as a search
+-- the search that a test decides
 pub test-found : (t : Bool) (place : ℕ) → bit t ≡ foundBit (cond t (At place) Nowhere)
 unfolding foundBit
 test-found true place = refl
 test-found false place = refl
 
--- searches in order
+-- the larger of two bits stands for two searches in order
 or-found : (p q : Place) → max (foundBit p) (foundBit q) ≡ foundBit (orElse p q)
 unfolding foundBit orElse
 or-found (At i) (At j) = refl
@@ -84,7 +84,7 @@ unfolding firstOver
 found-more u i f acc w e g = lane-or u acc w ∙ ap₂ max e g ∙ or-found (firstOver i f) (f i)
     ∙ sym (ap (λ (m : ℕ). foundBit (firstOver m f)) (add-one i))
 
--- a test of some number below m
+-- the larger of two bits stands for one of two tests
 or-some : (s t : Bool) → max (bit s) (bit t) ≡ bit (s || t)
 or-some true true = refl
 or-some true false = refl

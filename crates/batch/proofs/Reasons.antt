@@ -1,4 +1,4 @@
--- The reasons of a run for 64 juries: what their order answers, and what is known if none applies.
+-- The reasons of a run for 64 juries: which of them is the first, and what holds if none applies.
 -- Assumes nothing.
 use mathlib.Core.Path.{_≡_, _∙_, refl, sym, ap}
 use mathlib.Core.Bool.{Bool, true, false, cond}
@@ -34,7 +34,7 @@ use Rattle.batch.specs.Ballots.{inJury, firstJury, wordGradedReasons, wo
 use Rattle.batch.specs.Run.{wordBufferReasons, batchReasons, batchResultAfter, batchResult}
 use Rattle.tally.proofs.RunReasons.{three-passed}
 
--- the tests 7, 9 and 10, from their outcomes
+-- the first reason of the tests 7, 9 and 10, from their outcomes
 unfoldable pub lentFound : Bool → Bool → Bool → Option Reason
 lentFound tape wires board = firstOf (unless tape 7 ∷ unless wires 9 ∷ unless board 10 ∷ [])
 
@@ -76,7 +76,7 @@ module _ (i k : ℕ) (size : Size) (tape wires board : List ℕ) where
       (eq-eqb (length wires) (i + size .gates) (l .wiresLength))
       (eq-eqb (length board) (size .conditional + k) (l .boardLength))
 
--- the tests of one jury
+-- the searches in the ballots of one jury
 abbrev pub badRow : Shape → List ℕ → Place
 badRow s xs = firstBadRow 0 (rowsOf (s .grades) (s .ballots * s .candidates) xs)
 
@@ -86,7 +86,7 @@ clash s = firstNotAsymmetric (s .candidates) (s .ballots)
 abbrev pub notWeakOrder : Shape → List ℕ → Place
 notWeakOrder s = firstNotWeakOrder (s .candidates) (s .ballots)
 
--- the tests of the shape's kind, from their outcomes
+-- the first reason of the tests of the shape's kind, from their outcomes
 unfoldable pub kindFound : Bool → Place → Place → Place → Option Reason
 kindFound ranking row clash notWeakOrder = firstOf (cond ranking (foundAt 11 clash ∷ foundAt 12 notWeakOrder ∷ []) (foundAt 6 row ∷ []))
 
@@ -108,7 +108,7 @@ unfolding kindFound Clear foundAt firstOf
 clear-kind true p c g h = ap (λ (q : Place). kindFound true p q g) (h .0) ∙ ap (kindFound true p Nowhere) (h .1)
 clear-kind false p c g h = ap (λ (q : Place). kindFound false q c g) h
 
--- the first jury of a search
+-- the first jury in which a search finds something
 abbrev pub over : (ℕ → Place) → Place
 over f = firstOver laneCount (λ j. inJury j (f j))
 
@@ -127,7 +127,7 @@ none-over f e j h = in-no-jury j (f j) (none-first (λ j. inJury j (f j)) laneCo
 over-none : (f : ℕ → Place) → ((j : ℕ) → j < laneCount → f j ≡ Nowhere) → over f ≡ Nowhere
 over-none f e = first-none (λ j. inJury j (f j)) laneCount (λ j h. not-in-jury j (f j) (e j h))
 
--- the tests over all juries find nothing if those of each jury find nothing
+-- if the tests over all juries find nothing, those of each jury find nothing
 pub none-in-juries : (t : Bool) (p c g : ℕ → Place) → kindFound t (over p) (over c) (over g) ≡ none → (j : ℕ) → j
     < laneCount → kindFound t (p j) (c j) (g j) ≡ none
 unfolding Clear
@@ -146,7 +146,7 @@ juries-none t p c g e = clear-kind t (over p) (over c) (over g) (all t (λ j h. 
     all true q = (over-none c (λ j h. q j h .0), over-none g (λ j h. q j h .1))
     all false q = over-none p q
 
--- the test 4 and those of the kind, from their outcomes
+-- the first reason of test 4 and those of the kind, from their outcomes
 unfoldable pub ballotsFound : Bool → Option Reason → Option Reason
 ballotsFound size kind = firstOf (unless size 4 ∷ kind ∷ [])
 
@@ -168,13 +168,13 @@ first-last true [] = refl
 first-last true (none ∷ os) = first-last true os
 first-last true (some r ∷ os) = refl
 
--- what the tests of one jury answer
+-- what the tests of the kind answer for one jury
 pub alone-kind : (s : Shape) (xs : List ℕ) → kindReason s xs ≡ kindFound (isRanking s) (badRow s xs) (clash s xs) (notWeakOrder s xs)
 unfolding kindReason kindFound gradedReasons rankedReasons
 alone-kind s xs = refl
 
 module _ (s : Shape) (words : List ℕ) where
-  -- what the tests of the kind answer, over all juries
+  -- what the tests of the kind answer over all juries
   pub wordKind : Option Reason
   wordKind = firstOf (cond (isRanking s) (wordRankedReasons s words) (wordGradedReasons s words))
 
@@ -236,7 +236,7 @@ module _ (c : Call) where
       ∙ ap (λ (r : Option Reason). orElse r (firstOf lent))
       (first-append (testReasons (c .shape) (c .table)) (wordBallotReasons (c .shape) (c .ballots)))
 
-  -- the answer by the first group in which a test applies
+  -- the first group with a reason decides the answer
   pub by-test : (r : Reason) → testOutcome (c .shape) (c .table) ≡ refused r → firstOf (batchReasons c) ≡ some r
   unfolding testOutcome firstOfThree orElse
   by-test r e =
@@ -298,7 +298,7 @@ module _ (c : Call) where
             (record { tapeLength = r .tapeLength; wiresLength = r .wiresLength; boardLength = r .boardLength }),
       )
 
-  -- what the tests establish is what the evaluation asks
+  -- if the tests pass, the evaluation has what it requires
   pub batch-ready : BatchPassed → RunReady (c .ballots) (c .table) (c .shape .candidates) (c .tape) (c .wires) (c .board)
   batch-ready r =
       let size = sizeOf (gatesOf (c .table)) in
@@ -312,7 +312,7 @@ module _ (c : Call) where
         boardLength = r .boardLength;
       }
 
-  -- what a call leaves, by its first reason
+  -- what a call leaves, given its first reason
   pub result-by : (o : Option Reason) → firstOf (batchReasons c) ≡ o → batchResult c ≡ batchResultAfter o c
   unfolding batchResult
   result-by o e = ap (λ (r : Option Reason). batchResultAfter r c) e

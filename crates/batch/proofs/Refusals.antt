@@ -40,7 +40,7 @@ unfolding single.lentFound lentFound unless foundAt firstOf
 lent-bits true u v = refl
 lent-bits false u v = refl
 
--- the number of a reason that is there
+-- equal reasons have equal numbers
 number-is : (n place : ℕ) (r : Reason) → some (reasonAt n place) ≡ some r → n ≡ r .number
 unfolding reasonAt
 number-is n place r e = let same : reasonAt n place ≡ r = cc in ap (λ (x : Reason). x .number) same
@@ -49,7 +49,7 @@ place-is : (n place : ℕ) (r : Reason) → some (reasonAt n place) ≡ some r �
 unfolding reasonAt
 place-is n place r e = let same : reasonAt n place ≡ r = cc in ap (λ (x : Reason). At (x .place)) same
 
--- no test of buffers or of a list is about the contents of ballots
+-- no reason of buffers or of a list is about the contents of ballots
 other : (n place : ℕ) (r : Reason) → isOfBallots (reasonAt n 0) ≡ false → some (reasonAt n place) ≡ some r → isOfBallots r ≡ false
 unfolding isOfBallots hasNumberIn reasonAt
 other n place r f e = ap (λ (m : ℕ). eqb m 6 || (eqb m 11 || (eqb m 12 || false))) (sym (number-is n place r e)) ∙ f
@@ -76,7 +76,7 @@ test-other s table r e =
     small-other (r .number) (eqb (r .number) 6) (eqb (r .number) 11) (eqb (r .number) 12) refl refl refl
     (numbering.test-number s table r (ap (λ (o : Option Reason). outcome o (sizeOf (gatesOf table))) e))
 
--- what the first jury in which something is found says
+-- p is the first of m juries in which something is found
 abbrev Found : ℕ → ℕ → (ℕ → Place) → Type 0
 Found m p f = (p < m) × ((row : ℕ) × (f p ≡ At row)) × ((j : ℕ) → j < p → f j ≡ Nowhere)
 
@@ -120,7 +120,7 @@ kind-alone : (k l : Option Reason) (r : Reason) → k ≡ some r → single.firs
 unfolding single.firstOfThree test.orElse ballotsFound unless firstOf
 kind-alone k l r e = ap (λ (x : Option Reason). single.firstOfThree none (ballotsFound true x) l) e
 
--- the tests of the shape's kind are about the contents of ballots
+-- the reasons of the shape's kind are about the contents of ballots
 kind-number : (t : Bool) (p c g : Place) (r : Reason) → kindFound t p c g ≡ some r → isOfBallots r ≡ true
 unfolding kindFound foundAt firstOf isOfBallots hasNumberIn
 kind-number true p (At i) g r e = ap (λ (m : ℕ). eqb m 6 || (eqb m 11 || (eqb m 12 || false))) (sym (number-is 11 i r e))
@@ -129,14 +129,15 @@ kind-number true p Nowhere Nowhere r e = let z : _≡_ {A = ℕ} 0 1 = cc in abs
 kind-number false (At i) c g r e = ap (λ (m : ℕ). eqb m 6 || (eqb m 11 || (eqb m 12 || false))) (sym (number-is 6 i r e))
 kind-number false Nowhere c g r e = let z : _≡_ {A = ℕ} 0 1 = cc in absurd (omega arith)
 
--- a fault over all juries is its jury's, and no jury before has one of the same number; if it is 12, no jury has 11
+-- a fault over all juries is one of jury j₀, and no jury before has a fault with the same number; if the number is
+-- 12, no jury has 11
 abbrev Faulty : Bool → (ℕ → Place) → (ℕ → Place) → (ℕ → Place) → ℕ → ℕ → Type 0
 Faulty t p c g n j₀ =
     (j₀ < laneCount) × ((place : ℕ) × (kindFound t (p j₀) (c j₀) (g j₀) ≡ some (reasonAt n place)))
     × ((j place : ℕ) → j < j₀ → kindFound t (p j) (c j) (g j) ≡ some (reasonAt n place) → ⊥)
     × (n ≡ 12 → (j place : ℕ) → j < laneCount → kindFound t (p j) (c j) (g j) ≡ some (reasonAt 11 place) → ⊥)
 
--- the kinds' answers at an outcome
+-- the answers of the tests of each kind, given an outcome
 row-at : (p c g : Place) (i : ℕ) → p ≡ At i → kindFound false p c g ≡ some (reasonAt 6 i)
 unfolding kindFound foundAt firstOf
 row-at p c g i e = ap (λ (x : Place). kindFound false x c g) e
@@ -197,7 +198,7 @@ faulty true p c g x Nowhere (At i) r ep ec eg e =
     )
 faulty true p c g x Nowhere Nowhere r ep ec eg e = let o : _≡_ {A = ℕ} 0 1 = cc in absurd (omega arith)
 
--- if bytes are bits, 5 makes no difference
+-- if all bytes are bits, 5 never applies
 judged-bits : (sz : Bool) (k : Option Reason) → judged sz Nowhere k ≡ ballotsFound sz k
 unfolding judged ballotsFound unless foundAt firstOf
 judged-bits true k = refl
@@ -294,7 +295,7 @@ module _ (c : Call) where
         (single.ran-by (c .shape) (c .table) (laneOf j (c .ballots)) (laneOf j (c .tape)) (laneOf j (c .wires))
         (laneOf j (c .board)) (some r) e)
 
--- the three searches of a shape, by juries
+-- the three searches, for jury j
 abbrev rows : Shape → List ℕ → ℕ → Place
 rows s ballots j = badRow s (laneOf j ballots)
 

@@ -1,5 +1,5 @@
--- Rows of 64 juries at once: what the words `once` and `twice` say about each lane, and a word of faults about the
--- first bad row of each.
+-- Rows of 64 juries at once: what the words `once` and `twice` say about each lane, and what a word of faults says
+-- about each lane's first bad row.
 -- Assumes nothing.
 use mathlib.Core.Path.{_≡_, _∙_, refl, sym, ap, ap₂}
 use mathlib.Core.Bool.{Bool, true, false, cond}
@@ -26,7 +26,7 @@ pub record Seen (j : ℕ) (once twice m : ℕ) : Type 0 where
   pub one : lane j once ≡ min m 1
   pub two : lane j twice ≡ min (m - 1) 1
 
--- how many of these bytes are 1, with those from place i on counted apart
+-- in lane j, `count` words before place i are 1; with the ones from place i on, these are all ones
 pub record RowLane (j : ℕ) (words : List ℕ) (once twice i : ℕ) : Type 0 where
   pub count : ℕ
   pub seen : Seen j once twice count
@@ -35,7 +35,7 @@ pub record RowLane (j : ℕ) (words : List ℕ) (once twice i : ℕ) : Type 0 wh
 pub row-start : (j : ℕ) (words : List ℕ) → RowLane j words 0 0 0
 row-start j words = record { count = 0; seen = record { one = lane-none j; two = lane-none j }; all = omega arith }
 
--- one word more
+-- one more word, which is 0 in lane j
 seen-none : (j once twice m w : ℕ) → Seen j once twice m → lane j w ≡ 0 → Seen j (bitOr once w) (bitOr twice (bitAnd once w)) m
 seen-none j once twice m w s e =
     record {
@@ -43,7 +43,7 @@ seen-none j once twice m w s e =
       two = lane-or j twice (bitAnd once w) ∙ ap (max (lane j twice)) (lane-and j once w) ∙ omega (arith, s .two);
     }
 
--- a 1 more
+-- one more word, which is 1 in lane j
 first-of : (m : ℕ) → max (min m 1) 1 ≡ min (suc m) 1
 first-of zero = refl
 first-of (suc m) = omega arith
@@ -88,7 +88,7 @@ row-turn j words once twice i h r = ⊎-elim none one (bit-cases (lane j (getD w
           all = omega (arith, r .all, ones-here (laneOf j words) i within (lanes-at j words i ∙ e));
         }
 
--- a row is bad if there was no 1, or a second one
+-- a row is bad if there was no 1, or a second 1
 bad-by : (m : ℕ) → max (min (m - 1) 1) ((min m 1 + 1) % 2) ≡ cond (eqb m 1) 0 1
 bad-by zero = refl
 bad-by (suc zero) = refl

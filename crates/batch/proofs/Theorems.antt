@@ -1,4 +1,4 @@
--- Each jury of a run for 64 has its single run, and with it the three demands.
+-- Each jury's bits in a run for 64 are those of its single run, so the three demands hold for it.
 -- Assumes nothing.
 use mathlib.Core.Path.{_≡_, _∙_, refl, sym, ap, subst}
 use mathlib.Core.Bool.{Bool, true, false, cond}
@@ -85,7 +85,7 @@ by-kind s xs size bits =
     refl ∙ judged-kind (kindReason s xs)
 
 module _ (c : Call) where
-  -- no reason applies to a call that answers G and C, and both numbers are the list's
+  -- if a call answers G and C, no reason applies, and both numbers are the list's
   answered : (size : Size) (o : Option Reason) → firstOf (batchReasons c) ≡ o
       → batchResultAfter o c .answer ≡ accepted size → (firstOf (batchReasons c) ≡ none) × (size ≡ sizeOf (gatesOf (c .table)))
   unfolding batchResultAfter
@@ -99,7 +99,7 @@ module _ (c : Call) where
       → (firstOf (batchReasons c) ≡ none) × (size ≡ sizeOf (gatesOf (c .table)))
   batch-accepted size e = answered size (firstOf (batchReasons c)) refl (sym (ap (λ (r : RunResult). r .answer) whole) ∙ e)
 
-  -- the facts of an accepted call are those of every single run
+  -- if a call is accepted, so is every single run
   module _ (p : BatchPassed c) where
     alone-passed : (j : ℕ) → j < laneCount
         → RunPassed (c .shape) (c .table) (laneOf j (c .ballots)) (laneOf j (c .tape)) (laneOf j (c .wires))
@@ -169,7 +169,7 @@ module _ (c : Call) where
         ∙ sym (run-board (c .shape) (c .table) (laneOf j (c .ballots)) (laneOf j (c .wires)) (laneOf j (c .board))
         (laneOf j (c .tape)) q (laneOf j (c .tape)) (q .mask))
 
--- Each jury has its single run.
+-- Each jury has what its single run gives.
 pub each-as-alone : EachAsAlone
 each-as-alone c size e j h =
     let a = batch-accepted c size e in
@@ -179,7 +179,7 @@ each-as-alone c size e j h =
       alone-board c p j h,
     )
 
--- And 64 accepted single runs make an accepted call.
+-- If all 64 single runs are accepted, the call is accepted.
 pub accepted-as-all : AcceptedIfAll
 unfolding batchResultAfter
 accepted-as-all c size e =
@@ -283,7 +283,7 @@ batch-accuracy c table size answer w own e j h =
           (q .says-who-wins (laneOf j (c .ballots)) (laneOf j (c .tape)) (laneOf j (c .wires)) (laneOf j (c .board)) answer f),
     )
 
--- the second of two calls that agree in shape and list
+-- call d with the shape and list of call c
 abbrev alike : Call → Call → Call
 alike c d =
     record { shape = c .shape; table = c .table; ballots = d .ballots; tape = d .tape; wires = d .wires; board = d .board }

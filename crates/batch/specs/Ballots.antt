@@ -14,7 +14,7 @@ use Rattle.jury.specs.Ballots.{rowsOf, firstBadRow}
 use Rattle.jury.specs.Rankings.{firstOver, firstNotAsymmetric, firstNotWeakOrder}
 use Rattle.batch_lanes.specs.Lane.{laneCount, laneOf}
 
--- If something was found, the jury is its place.
+-- What a search in jury j found: if anything, the jury is the place.
 unfoldable pub inJury : ℕ → Place → Place
 inJury j (At place) = At j
 inJury j Nowhere = Nowhere
@@ -23,18 +23,18 @@ inJury j Nowhere = Nowhere
 unfoldable pub firstJury : (List ℕ → Place) → List ℕ → Place
 firstJury search words = firstOver laneCount (λ j. inJury j (search (laneOf j words)))
 
--- The test of graded ballots, over all juries: 6.
+-- The reason of graded ballots, over all juries: 6.
 unfoldable pub wordGradedReasons : Shape → List ℕ → List (Option Reason)
 wordGradedReasons s words = foundAt 6 (firstJury
     (λ xs. firstBadRow 0 (rowsOf (s .grades) (s .ballots * s .candidates) xs)) words) ∷ []
 
--- The tests of rankings: 11 over all juries, then 12.
+-- The reasons of rankings: 11 over all juries, then 12.
 unfoldable pub wordRankedReasons : Shape → List ℕ → List (Option Reason)
 wordRankedReasons s words = foundAt 11 (firstJury (firstNotAsymmetric (s .candidates) (s .ballots)) words)
     ∷ foundAt 12 (firstJury (firstNotWeakOrder (s .candidates) (s .ballots)) words) ∷ []
 
--- The tests of ballots in checking order: 4, which counts words, then those of the shape's kind. A bit is never above
--- 1, so 5 never applies (request 2.11).
+-- The reasons of ballots, in the order of their tests: 4, which counts words, then those of the shape's kind. A bit
+-- is never above 1, so 5 never applies (request 2.11).
 unfoldable pub wordBallotReasons : Shape → List ℕ → List (Option Reason)
 wordBallotReasons s words =
     unless (eqb (length words) (ballotBytes s)) 4

@@ -1,5 +1,5 @@
--- What the entry point [lanes] is handed and lent. Bit j of each number of ballots, tape, wires and board is jury j's
--- (request 2.11).
+-- What the entry point [lanes] is given and lent. Bit j of each number of ballots, tape, wires and board is jury
+-- j's (request 2.11).
 use mathlib.Core.List.{List}
 use Prim.Native.Nat.{ℕ}
 use Rattle.jury.specs.declared.shape.Shape.{Shape}

@@ -16,8 +16,8 @@ use Rattle.batch_lanes.specs.Lane.{laneOf, wordsOf}
 use Rattle.batch.specs.Call.{Call}
 use Rattle.batch.specs.Ballots.{wordBallotReasons}
 
--- The tests of tape, wire table and board, in checking order: 7, 9, 10. They count words, as many as a single run has
--- bytes. 8 never applies.
+-- The reasons of tape, wire table and board, in the order 7, 9, 10, for a list with i inputs and k outputs. Each
+-- has as many words as it has bytes in a single run. 8 never applies.
 unfoldable pub wordBufferReasons : ℕ → ℕ → Size → List ℕ → List ℕ → List ℕ → List (Option Reason)
 wordBufferReasons i k size tape wires board =
     unless (eqb (length tape) (size .conditional)) 7
@@ -25,7 +25,7 @@ wordBufferReasons i k size tape wires board =
     ∷ unless (eqb (length board) (size .conditional + k)) 10
     ∷ []
 
--- All reasons in checking order: 1, 2, 3, 4, then 6 for grades or 11 and 12 for rankings, then 7, 9, 10.
+-- All reasons, in the order of their tests: 1, 2, 3, 4, then 6 for grades or 11 and 12 for rankings, then 7, 9, 10.
 unfoldable pub batchReasons : Call → List (Option Reason)
 batchReasons c =
     testReasons (c .shape) (c .table)
@@ -34,14 +34,14 @@ batchReasons c =
     (c .wires)
     (c .board)
 
--- The board of jury j, from its own ballots and tape.
+-- The board of jury j by itself, from its own ballots and tape.
 abbrev pub boardAlone : Call → ℕ → List ℕ
 boardAlone c j =
     let gs = gatesOf (c .table) in
     boardOf (wiresOf (laneOf j (c .ballots)) gs) gs (c .shape .candidates) (laneOf j (c .tape))
 
 -- A refusal changes nothing. An accepted call answers the list's own G and C, leaves zeros in the wire table, and
--- leaves a board in which each jury has its own.
+-- leaves a board whose lane j is the board of jury j.
 unfoldable pub batchResultAfter : Option Reason → Call → RunResult
 batchResultAfter (some r) c = record { answer = refused r; wires = c .wires; board = c .board }
 batchResultAfter none c =
@@ -51,5 +51,6 @@ batchResultAfter none c =
       board = wordsOf (conditionalCount (gatesOf (c .table)) + c .shape .candidates) (boardAlone c);
     }
 
+-- What a call leaves: the contract of `run` is an equation with this.
 unfoldable pub batchResult : Call → RunResult
 batchResult c = batchResultAfter (firstOf (batchReasons c)) c

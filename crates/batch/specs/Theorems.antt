@@ -1,4 +1,5 @@
--- What holds for a run of 64 juries: each jury has its single run, so the three demands hold jury by jury.
+-- What holds for a run of 64 juries: each jury's bits are those of its single run, so the three demands hold for
+-- each.
 use mathlib.Core.Path.{_≡_}
 use mathlib.Core.Bool.{Bool, true, false}
 use mathlib.Core.List.{List, [], _∷_}
@@ -23,9 +24,9 @@ runAlone j c =
     runResult (c .shape) (c .table) (laneOf j (c .ballots)) (laneOf j (c .tape)) (laneOf j (c .wires))
     (laneOf j (c .board))
 
--- Each jury of an accepted call has what its single run gives: the answer, and its bits of wire table and board. Both
--- wire tables are zeros by then; before that each jury's wires were those of its single run, says the contract of
--- `batch_lanes::step::run`.
+-- Each jury of an accepted call has what its single run gives: the answer, and its bits of wire table and board.
+-- Both wire tables are zeros by then. The contract of `batch_lanes::step::run` says that each jury's wires were
+-- those of its single run before they were emptied.
 abbrev pub EachAsAlone : Type 0
 EachAsAlone =
     (c : Call) (size : Size) → batchResult c .answer ≡ accepted size → (j : ℕ) → j < laneCount
@@ -43,14 +44,14 @@ AcceptedIfAll =
 unfoldable pub isOfBallots : Reason → Bool
 isOfBallots = hasNumberIn (6 ∷ 11 ∷ 12 ∷ [])
 
--- If a call is refused for any other reason, so is every single run.
+-- If a call is refused for any other reason, every single run is refused for the same reason.
 abbrev pub RefusedAsAlone : Type 0
 RefusedAsAlone =
     (c : Call) (r : Reason) → batchResult c .answer ≡ refused r → isOfBallots r ≡ false
     → (j : ℕ) → j < laneCount → runAlone j c .answer ≡ refused r
 
--- If a call is refused for one of them, its place is the first jury whose single run is refused for the same reason.
--- 11 comes before 12 over all juries: if a call is refused for 12, no single run is refused for 11.
+-- If a call is refused for 6, 11 or 12, its place is the first jury whose single run is refused for the same
+-- number. 11 comes before 12 over all juries: if a call is refused for 12, no single run is refused for 11.
 abbrev pub FaultAsAlone : Type 0
 FaultAsAlone =
     (c : Call) (r : Reason) → batchResult c .answer ≡ refused r → isOfBallots r ≡ true
@@ -74,8 +75,9 @@ BatchAccuracy =
     (bytes ≡ take (c .shape .candidates) (plainClosing (c .shape) (laneOf j (c .ballots))))
     × SaysWhoWins (c .shape) (laneOf j (c .ballots)) bytes
 
--- Demand 3: for jury i of one accepted call and jury j of another, with one shape and list and equal closing bytes,
--- the boards reveal of their ballots no more than these bytes. The two calls may be the same.
+-- Demand 3, for jury i of one accepted call and jury j of another, with the same shape and list and equal closing
+-- bytes. The two calls may be the same. It is stated for the single runs, which by `EachAsAlone` have the same
+-- boards.
 abbrev pub BatchHiding : Type 0
 BatchHiding =
     (c c′ : Call) (first second : Size) → c .shape ≡ c′ .shape → c .table ≡ c′ .table

@@ -20,7 +20,7 @@ ghost use Rattle.jury.specs.inner.Ballots.{GradedSize};
 // How many juries a word serves.
 const JURIES: u32 = 64;
 
-// Reason 4, then those of the shape's kind: 6 for grades, 11 and 12 for rankings.
+// Tests for reason 4, then for those of the shape's kind: 6 for grades, 11 and 12 for rankings.
 pub fn test(shape: Shape, ballots: &[u64]) -> Verdict
     requires { ⌜ T (withinLimits shape) ⌝ }
     ensures { λ r. ⌜ refusedFor r ≡ firstOf (wordBallotReasons shape (now (ballots .entry))) ⌝ }
@@ -35,7 +35,7 @@ pub fn test(shape: Shape, ballots: &[u64]) -> Verdict
     }
 }
 
-// Reason 6, of graded ballots.
+// Tests graded ballots for reason 6.
 fn test_grades(shape: Shape, ballots: &[u64]) -> Verdict
     requires { ⌜ GradedSize shape (now ballots) ⌝ }
     ensures { λ r. ⌜ refusedFor r ≡ firstOf (wordGradedReasons shape (now (ballots .entry))) ⌝ }
@@ -47,7 +47,7 @@ fn test_grades(shape: Shape, ballots: &[u64]) -> Verdict
     }
 }
 
-// Reasons 11 and 12, of rankings. 11 looks at all juries before 12 begins.
+// Tests rankings: all juries for reason 11, then all juries for 12.
 fn test_rankings(shape: Shape, ballots: &[u64]) -> Verdict
     requires { ⌜ length (now ballots) ≡ shape .ballots * shape .candidates * shape .candidates ⌝ }
     ensures { λ r. ⌜ refusedFor r ≡ firstOf (wordRankedReasons shape (now (ballots .entry))) ⌝ }
@@ -63,7 +63,7 @@ fn test_rankings(shape: Shape, ballots: &[u64]) -> Verdict
     }
 }
 
-// The juries in which one of the rows of d words has no 1 or several.
+// The juries in which some row, of d words, has no 1 or several.
 fn bad_rows(words: &[u64], d: usize, rows: usize) -> u64
     requires { ⌜ length (now words) ≡ rows * d ⌝ }
     ensures { λ r.
@@ -82,7 +82,7 @@ fn bad_rows(words: &[u64], d: usize, rows: usize) -> u64
     faults
 }
 
-// The juries in which this row is bad: it has no 1, or a second one.
+// The juries in which this row has no 1 or several.
 fn bad_row(words: &[u64]) -> u64
     ensures { λ r. ⌜ ((j : ℕ) → j < laneCount → lane j r ≡ cond (eqb (ones (laneOf j (now (words .entry)))) 1) 0 1) ⌝ }
 {

@@ -25,7 +25,7 @@ pub fn not_asymmetric(words: &[u64], k: usize, n: usize) -> u64
     faults
 }
 
-// Those of ballot b.
+// The same for ballot b only.
 fn not_asymmetric_in_ballot(words: &[u64], k: usize, b: usize) -> u64
     requires { ⌜ (b + 1) * k * k ≤ length (now words) ⌝ }
     ensures { λ r.
@@ -41,7 +41,7 @@ fn not_asymmetric_in_ballot(words: &[u64], k: usize, b: usize) -> u64
     faults
 }
 
-// Those of row i of ballot b.
+// The same for row i of ballot b only.
 fn not_asymmetric_in_row(words: &[u64], k: usize, b: usize, i: usize) -> u64
     requires { ⌜ ((b + 1) * k * k ≤ length (now words)) × (i < k) ⌝ }
     ensures { λ r.
@@ -75,7 +75,7 @@ pub fn not_weak_order(words: &[u64], k: usize, n: usize) -> u64
     faults
 }
 
-// Those of ballot b.
+// The same for ballot b only.
 fn not_weak_order_in_ballot(words: &[u64], k: usize, b: usize) -> u64
     requires { ⌜ (b + 1) * k * k ≤ length (now words) ⌝ }
     ensures { λ r.
@@ -90,7 +90,7 @@ fn not_weak_order_in_ballot(words: &[u64], k: usize, b: usize) -> u64
     faults
 }
 
-// Those for this i.
+// The same for this ballot and this i only.
 fn not_weak_order_after(words: &[u64], k: usize, b: usize, i: usize) -> u64
     requires { ⌜ ((b + 1) * k * k ≤ length (now words)) × (i < k) ⌝ }
     ensures { λ r.

@@ -11,7 +11,7 @@ ghost use Rattle.tally.specs.Answer.{outcomeOf, outcome, sizeOf};
 ghost use Rattle.tally.specs.Run.{RunResult};
 ghost use Rattle.batch.specs.Run.{wordBufferReasons, batchReasons, batchResult};
 
-// Reasons 7, 9 and 10, for a list with this many inputs, outputs, gates and conditional gates.
+// Tests for reasons 7, 9 and 10, given the list's numbers of inputs, outputs, gates and conditional gates.
 fn test_buffers(
     inputs: usize,
     outputs: usize,
@@ -38,7 +38,7 @@ fn test_buffers(
     Verdict::Accepted
 }
 
-// Reasons 1, 2, 3, 4, then 6 or 11 and 12, then 7, 9 and 10.
+// All tests of the call: reasons 1, 2, 3, 4, then 6 or 11 and 12, then 7, 9 and 10.
 fn test_run(
     shape: Shape,
     table: &[u32],
@@ -81,8 +81,9 @@ fn test_run(
     }
 }
 
-// Runs a list, whoever wrote it, on the ballots of 64 juries of one shape; bit j of each number is jury j's. While it
-// runs, the wire table holds ballots and values in clear; it is emptied once the closing words are on the board.
+// Runs a list, whoever wrote it, on the ballots of 64 juries of one shape; bit j of each number is jury j's.
+// Meanwhile the wire table holds ballots and values in the clear; it is emptied after the closing words are on the
+// board.
 pub fn run(
     shape: Shape,
     table: &[u32],

@@ -1,4 +1,5 @@
--- The lanes of a word: after each operation on words, and of all ones; and a word is determined by its 64 bits.
+-- The lanes of a word after each operation, and those of the word of ones; and that a word is determined by its 64
+-- bits.
 -- Assumes nothing.
 use mathlib.Core.Path.{_≡_, _∙_, refl, sym, ap, ap₂}
 use Prim.Native.Nat.{ℕ, zero, suc, _+_, _-_, _*_, _/_, _%_, _^_, _≤_, _<_, min, max}
@@ -30,7 +31,7 @@ pub lane-none : (j : ℕ) → lane j 0 ≡ 0
 lane-none zero = lane-first 0
 lane-none (suc j) = lane-next j 0 ∙ lane-none j
 
--- all of the first m bits are 1
+-- the first m bits of 2 ^ m − 1 are 1
 pub lane-all : (m j : ℕ) → j < m → lane j (2 ^ m - 1) ≡ 1
 lane-all zero j h = absurd (omega arith)
 lane-all (suc m) zero h = lane-first (2 ^ suc m - 1) ∙ omega (arith, pow-suc 2 m, pow-pos m)

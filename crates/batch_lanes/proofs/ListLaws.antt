@@ -1,4 +1,4 @@
--- The lanes of a list of words, and words by their lanes.
+-- The lanes of a list of words, and that words are determined by their lanes.
 -- Assumes nothing.
 use mathlib.Core.Path.{_≡_, _∙_, refl, sym, ap, ap₂}
 use mathlib.Core.List.{List, [], _∷_, _++_, map}
@@ -48,7 +48,7 @@ pub lanes-set : (j : ℕ) (ws : List ℕ) (i v : ℕ) → laneOf j (set ws i v) 
 unfolding laneOf
 lanes-set j ws i v = map-set (lane j) ws i v
 
--- the lane of the word at a place, 0 past the last
+-- the lane of the word at a place; 0 past the last word
 pub lanes-at : (j : ℕ) (ws : List ℕ) (i : ℕ) → getD (laneOf j ws) i 0 ≡ lane j (getD ws i 0)
 unfolding laneOf
 lanes-at j ws i = ap (getD (map (lane j) ws) i) (sym (lane-none j)) ∙ List·getD-map (lane j) ws i 0
@@ -77,7 +77,7 @@ words-are (w ∷ ws) lists small e =
     ∙ packed-same 64 (λ j. lane j w) (λ j. getD (lists j) 0 0) (λ j h. ap (λ (l : List ℕ). getD l 0 0) (e j h)) in
     ap₂ (λ (x : ℕ) (l : List ℕ). x ∷ l) first (words-are ws (λ j. drop 1 (lists j)) (λ i. small (suc i)) (λ j h. ap (drop 1) (e j h)))
 
--- and the lanes of packed lists are these lists
+-- the lanes of packed lists are these lists
 pub lanes-of-words : (n : ℕ) (lists : ℕ → List ℕ) (j : ℕ) → j < laneCount → ((i : ℕ) → length (lists i) ≡ n)
     → ((i x : ℕ) → getD (lists i) x 0 ≤ 1) → laneOf j (wordsOf n lists) ≡ lists j
 unfolding laneOf wordsOf

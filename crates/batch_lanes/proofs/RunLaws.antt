@@ -17,7 +17,7 @@ use Rattle.gates.proofs.Whole.{outputs-are, whole-wires, whole-board}
 use Rattle.batch_lanes.specs.Lane.{laneCount, laneOf}
 use Rattle.batch_lanes.proofs.ListLaws.{lanes-length, lanes-append, lanes-take, lanes-drop}
 
--- the inputs are copied to the front of the wire table
+-- after the inputs are copied to the start of the wire table
 module _ (inputs t : List ℕ) (k : ℕ) (tape ws board : List ℕ) (ready : RunReady inputs t k tape ws board)
     (ws₁ : List ℕ) (e₁ : ws₁ ≡ inputs ++ drop (length inputs) ws) where
   all-gates : length t / 4 ≡ length (gatesOf t)
@@ -47,7 +47,7 @@ module _ (inputs t : List ℕ) (k : ℕ) (tape ws board : List ℕ) (ready : Run
         inBoard = omega (arith, count-all, ready .boardLength);
       }
 
-  -- the step has done all gates
+  -- after the step has done all gates
   module _ (shown : ℕ) (ws₂ board₂ : List ℕ) (n : shown ≡ 0 + conditionalCount (rangeOf t 0 (length t / 4)))
       (lw : length ws₂ ≡ length ws₁) (lb : length board₂ ≡ length board) where
     shown-all : shown ≡ conditionalCount (gatesOf t)

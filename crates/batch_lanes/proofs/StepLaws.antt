@@ -1,4 +1,4 @@
--- The step over words: in every lane, the gates that are left make what the whole range makes there.
+-- The step over words: in every lane, running the gates that are left gives what running the whole range gives.
 -- Assumes nothing.
 use mathlib.Core.Path.{_≡_, _∙_}
 use mathlib.Core.Bool.{cond}
@@ -15,7 +15,7 @@ use Rattle.gates.proofs.Whole.{left-start}
 use Rattle.batch_lanes.specs.Lane.{laneCount, laneOf}
 use Rattle.batch_lanes.proofs.ListLaws.{lanes-length}
 
--- What is left in lane j.
+-- The invariant in lane j.
 abbrev pub LeftIn : ℕ → ℕ → List ℕ → ℕ → ℕ → List ℕ → ℕ → List ℕ → List ℕ → List ℕ → List ℕ → ℕ → ℕ → Type 0
 LeftIn j inputs t from to tape shown ws₀ board₀ ws board next g =
     Left inputs t to (laneOf j tape) (length (laneOf j ws₀)) (length (laneOf j board₀))
@@ -56,7 +56,7 @@ module _ (inputs : ℕ) (t : List ℕ) (from to : ℕ) (tape : List ℕ) (shown 
       }
 
   module _ (ws board : List ℕ) (next g : ℕ) (left : LanesLeft inputs t from to tape shown ws₀ board₀ ws board next g) where
-    -- what the next gate asks, by lane 0
+    -- the next gate is ready, because it is in lane 0
     pub gate-ready : g < to → GateReady t g (inputs + g) tape next ws board
     gate-ready h =
         let r = lane-ready 0 inputs t from to tape shown ws₀ board₀ ready in
@@ -70,7 +70,7 @@ module _ (inputs : ℕ) (t : List ℕ) (from to : ℕ) (tape : List ℕ) (shown 
           inBoard = omega (arith, q .inBoard, lanes-length 0 board);
         }
 
-    -- what is left after it, in the words that it made
+    -- the invariant after that gate
     pub lanes-turn : g < to → (ws′ board′ : List ℕ) (next′ g′ : ℕ) → g′ ≡ suc g → next′ ≡ next + conditionalCount (gateAt t g ∷ [])
         → length ws′ ≡ length ws → length board′ ≡ length board
         → ((j : ℕ) → j < laneCount → laneOf j ws′ ≡ set (laneOf j ws) (inputs + g) (value (laneOf j ws) (gateAt t g)))
@@ -93,7 +93,7 @@ module _ (inputs : ℕ) (t : List ℕ) (from to : ℕ) (tape : List ℕ) (shown 
               (ew j k) (eb j k) en eg;
         }
 
-    -- nothing is left
+    -- if no gate is left, the lanes are those of the whole range
     pub lanes-end : to ≤ g → (next ≡ shown + conditionalCount (rangeOf t from to))
         × ((j : ℕ) → j < laneCount → laneOf j ws ≡ stepWires inputs t from to (laneOf j ws₀))
         × ((j : ℕ) → j < laneCount → laneOf j board ≡ stepBoard inputs t from to (laneOf j tape) shown (laneOf j ws₀) (laneOf j board₀))

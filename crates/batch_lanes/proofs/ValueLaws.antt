@@ -19,7 +19,7 @@ module _ (j : ℕ) (h : j < laneCount) (a b c : ℕ) where
   pub copy-lane : lane j a ≡ valueOf 2 (lane j a) (lane j b) (lane j c)
   copy-lane = sym (copy-value (lane j a) (lane j b) (lane j c))
 
-  -- a sum with 1 modulo 2 is the complement
+  -- adding 1 modulo 2 gives the complement
   pub not-lane : lane j (bitXor a 18446744073709551615) ≡ valueOf 3 (lane j a) (lane j b) (lane j c)
   not-lane =
       let one : lane j 18446744073709551615 ≡ 1 = lane-all 64 j h in
@@ -35,7 +35,7 @@ module _ (j : ℕ) (h : j < laneCount) (a b c : ℕ) where
   pub xor-lane : lane j (bitXor a b) ≡ valueOf 6 (lane j a) (lane j b) (lane j c)
   xor-lane = lane-xor j a b ∙ sym (xor-value (lane j a) (lane j b) (lane j c) (lane-bit j a) (lane-bit j b))
 
-  -- c, replaced by b where a is 1
+  -- c, or b if a is 1
   pub choice-lane : lane j (bitXor c (bitAnd a (bitXor b c))) ≡ valueOf 7 (lane j a) (lane j b) (lane j c)
   choice-lane = lane-xor j c (bitAnd a (bitXor b c))
       ∙ rw (lane-and j a (bitXor b c), lane-xor j b c)

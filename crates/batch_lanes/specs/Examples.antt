@@ -1,5 +1,5 @@
--- Demand 3 on two lanes of the same words: different inputs, two masks, one board. The list is a single gate that
--- tells whether wires 0 and 1 are both 1 (`HidingExample` of the gates).
+-- Demand 3 on two lanes of the same words: different inputs, different masks, the same board. The list is one gate
+-- that says whether wires 0 and 1 are both 1 (`HidingExample` of the gates).
 use mathlib.Core.Path.{_≡_}
 use mathlib.Core.List.{List, [], _∷_}
 use Prim.Native.Nat.{ℕ}

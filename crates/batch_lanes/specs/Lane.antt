@@ -11,16 +11,16 @@ laneCount = 64
 unfoldable pub lane : ℕ → ℕ → ℕ
 lane j w = w / 2 ^ j % 2
 
--- Bit j of each word: the bytes of jury j.
+-- Lane j of a list of words: bit j of each word, which are the bytes of jury j.
 unfoldable pub laneOf : ℕ → List ℕ → List ℕ
 laneOf j ws = map (lane j) ws
 
--- The number with this many bits, lowest first.
+-- The number whose first m bits are `bit 0`, `bit 1` and so on, lowest first.
 unfoldable pub packed : ℕ → (ℕ → ℕ) → ℕ
 packed zero bit = 0
 packed (suc m) bit = bit 0 + 2 * packed m (λ j. bit (suc j))
 
--- This many words, in which jury j has the bytes of list j.
+-- n words whose lane j has the bytes of `lists j`.
 unfoldable pub wordsOf : ℕ → (ℕ → List ℕ) → List ℕ
 wordsOf zero lists = []
 wordsOf (suc n) lists = packed laneCount (λ j. getD (lists j) 0 0) ∷ wordsOf n (λ j. drop 1 (lists j))

@@ -1,5 +1,5 @@
-// Evaluation over words. Nothing here is an entry point: what a `requires` asks, the tests of list and buffers
-// establish. It asks of words what the step over bytes asks of bytes.
+// Evaluation over words. Nothing here is an entry point: the tests of list and buffers establish what a `requires`
+// asks. The same is asked of words as of bytes in the step over bytes.
 use crate::word;
 use gates::kind;
 ghost use mathlib.Core.Path.{_≡_};
@@ -10,8 +10,8 @@ ghost use Rattle.gates.specs.inner.Step.{StepReady, RunReady};
 ghost use Rattle.batch_lanes.specs.Run.{RunDone};
 ghost use Rattle.batch_lanes.specs.inner.Step.{GateAsks, GateDone, StepDone, CloseFits};
 
-// Evaluates gate g of the table in all lanes: stores its value in wire `own` and, if it is conditional, wire a under
-// the tape's word on the board. Answers the number of shown words after it.
+// Evaluates gate g of the table in all lanes: stores its value in wire `own` and, if it is conditional, puts wire
+// a, masked by the tape's word, on the board. Answers the number of shown words after it.
 fn run_gate(
     marks: &[bool; 8],
     table: &[u32],
@@ -43,8 +43,8 @@ fn run_gate(
     shown
 }
 
-// Evaluates gates from..to of a list. The inputs and the wires of the gates before `from` are in the table already.
-// `shown` is the number of shown words before this range; the answer is their number after it.
+// Evaluates gates from..to of a list. The inputs and the wires of the gates before `from` are already in the wire
+// table. `shown` is the number of shown words before this range; the answer is their number after it.
 pub fn step(
     inputs: usize,
     table: &[u32],
@@ -71,7 +71,7 @@ pub fn step(
     next
 }
 
-// Puts the last wires after the shown words.
+// Copies the last wires to the board, after the shown words.
 fn close(outputs: usize, wires: &[u64], shown: usize, board: &mut [u64])
     requires { ⌜ CloseFits outputs (now wires) shown (now board) ⌝ }
     ensures { λ _.

@@ -27,7 +27,7 @@ pub fn value(kind: u32, a: u64, b: u64, c: u64) -> u64
     }
 }
 
-// Whether there are first + second words. The sum is never formed, because it could wrap.
+// Whether there are first + second words. The sum is never computed, because it could wrap.
 pub fn has_length(words: &[u64], first: usize, second: usize) -> bool
     ensures { λ r. ⌜ r ≡ eqb (length (now (words .entry))) (first + second) ⌝ }
 {

@@ -1,4 +1,4 @@
--- What each layer proved.
+-- `AllDemands` holds: each field is what a layer has proved.
 -- Assumes nothing.
 use mathlib.Core.List.{List, [], _∷_}
 use Prim.Native.Nat.{ℕ}

@@ -1,6 +1,6 @@
--- The demands on every call of the core, side by side: each layer states its part about the definitions that its
--- contracts equate with answers and all that is lent. That a call ends, and reads and writes only inside what it was
--- lent, is part of what is proved for every function.
+-- All demands on all calls of the core, in one record. Each layer states its part about the definitions that its
+-- contracts equate with answers and lent tables. It is not stated here that a call ends, and reads and writes only
+-- inside what it was lent: the checker asks that of every function.
 use mathlib.Core.Path.{_≡_}
 use mathlib.Core.List.{List, [], _∷_}
 use Prim.Native.Nat.{ℕ}
@@ -28,8 +28,8 @@ use Rattle.dispatch.specs.Theorems.{Dispatching}
 use Rattle.batch.specs.Theorems.{EachAsAlone, AcceptedIfAll, RefusedAsAlone, FaultAsAlone}
 use Rattle.batch.specs.Theorems.{BatchMemory, BatchAccuracy, BatchHiding}
 
--- The crate of the season sheet knows no answers of the core, so its instance is here: it is lent nothing to write to,
--- and refuses with 21 or 22.
+-- The demand [memory] for the season sheet, which is lent no table to write to and is refused only for 21 or 22. It
+-- is stated here because the crate of the sheet does not know `KeepsMemory`.
 abbrev pub SheetMemory : Type 0
 SheetMemory =
     (bytes : List ℕ)
@@ -44,27 +44,28 @@ pub record Memory : Type 0 where
   pub urn : UrnMemory
   pub lanes : BatchMemory
 
--- The demand [accuracy] for the five entry points: with the own list of a shape, and for the plain count by itself.
+-- The demand [accuracy] for the five entry points: for runs of the own list, and for the plain count.
 pub record TallyAccuracy : Type 0 where
-  -- within the limits the own list passes its test, keeps its bound, and its closing bytes are the rule's
+  -- within the limits, the own list passes its test, is within its bound, and its closing bytes are the rule's
   pub own-list-holds : (s : Shape) → HoldsWithin s
-  -- a run of the list that was written
+  -- runs of the list that a write left
   pub own-list : (s : Shape) (table : List ℕ) (size : Size) → writeOutcome s table ≡ accepted size
       → RunAccuracy s table size
   pub plain-count : CountAccuracy
 
--- The rules: their winners are the ones that the rules describe in words.
+-- The rules: who wins, as statements instead of computations.
 pub record Rules : Type 0 where
-  -- majority judgment: a byte says who wins; somebody wins; only candidates with equal counts share a win; the
-  -- gauge's winner wins alone [judgment-gauge]
+  -- majority judgment: a byte says who wins; somebody wins; sequences are equal exactly if all counts are; the
+  -- gauge's winner is the only winner [judgment-gauge]
   pub judgment-bytes : BytesSay
   pub judgment-somebody : SomebodyWins
   pub judgment-shared : EqualSequences
   pub gauge-kept : GaugeKept
-  -- Schulze's rule: strongest paths, somebody wins, a Condorcet winner wins alone
+  -- Schulze's rule: strongest paths exist and have one strength; somebody wins; a Condorcet winner is the only
+  -- winner
   pub schulze : SchulzeHolds
 
--- All of it: the three demands on a run, and what each request adds.
+-- Everything: the three demands on a run, and what each request adds.
 pub record AllDemands : Type 0 where
   pub memory : Memory
   pub accuracy : TallyAccuracy
@@ -74,19 +75,19 @@ pub record AllDemands : Type 0 where
   pub text : RoundTrip
   -- [sheet]: the totals are sums over the runs
   pub sheet : SheetSums
-  -- [monotone]
+  -- [monotone]: a better grade costs nobody the win
   pub monotone : MonotoneOnGates
-  -- [urn], [preview]
+  -- [urn], [preview]: what emptying, admission and withdrawal leave, and what the previews reveal
   pub urn : UrnHolds
   pub previews : PreviewsTell
   -- [urn-run]: memory, accuracy, hiding
   pub urn-run : UrnRunHolds
-  -- [trustees]: memory, accuracy, and that views reveal no more than the closing bytes
+  -- [trustees]: memory, accuracy, and that views reveal only the closing bytes
   pub by-trustees : TrusteesHold
-  -- [dispatcher]: rounds, memory, refusals, each jury as if alone, accuracy, hiding
+  -- [dispatcher]: rounds, memory, refusals, each jury as in a run of its own, accuracy, hiding
   pub dispatcher : Dispatching
-  -- [lanes]: each jury of an accepted call as if alone, which calls are accepted, what a refusal says about the
-  -- juries; accuracy, hiding
+  -- [lanes]: each jury of an accepted call as in a run of its own, which calls are accepted, what a refusal says
+  -- about the juries; accuracy, hiding
   pub lanes-alone : EachAsAlone
   pub lanes-accepted : AcceptedIfAll
   pub lanes-refused : RefusedAsAlone

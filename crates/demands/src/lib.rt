@@ -1,1 +1,1 @@
-// What is shown of every call, side by side. There is no program here.
+// What is proved about all calls, in one record. There is no program here.

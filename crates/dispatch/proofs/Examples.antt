@@ -1,4 +1,4 @@
--- The pair of calls of `Examples`: each jury's pieces are those of one of tally's example runs.
+-- The calls of `Examples`: each jury's pieces are those of one of tally's example runs.
 -- Assumes nothing.
 use mathlib.Core.Path.{_≡_, _∙_, refl, sym, ap, subst}
 use mathlib.Core.Option.{none}
@@ -141,7 +141,7 @@ first-call =
         (its-board (oneJury .tables) _ _ _ _ first-front better-ran ∙ better-board)
         ∙ ap (λ (u : Tables). 1 ∷ 0 ∷ u .boards) first-left
 
--- two juries, once the second one's run is known
+-- the call with two juries, given what the run of the second one leaves
 module _ (mask : ℕ) (board : List ℕ)
     (second-ran : runResult oneBallot oneGate (0 ∷ 1 ∷ []) (mask ∷ []) (7 ∷ 7 ∷ 7 ∷ []) (7 ∷ 7 ∷ []) .answer
     ≡ accepted (record { gates = 1; conditional = 1 }))

@@ -41,7 +41,7 @@ fitting-most n m = go (leb n m) refl
     go true e = leb-true n m e
     go false e = omega arith
 
--- the pieces, by the lengths that the program finds for them
+-- the pieces, from the lengths that the program computes for them
 module _ (s : JuryHeader) (t : Tables) where
   pub list-piece : (n : ℕ) → n ≡ fitting (4 * s .gates) (length (t .lists)) → take n (t .lists) ≡ piecesOf s t .lists
   unfolding piecesOf listOf pieceOf
@@ -71,7 +71,7 @@ module _ (s : JuryHeader) (t : Tables) where
   unfolding piecesOf pieceOf
   board-piece c n h e = ap (λ (x : ℕ). take x (t .boards)) (e ∙ ap (λ (x : ℕ). fitting (x + s .candidates) (length (t .boards))) h)
 
-  -- after a jury that passes, the next ones decide; a bad one decides itself
+  -- if a jury passes, the next ones decide; if it does not, its reason decides
   pub next-jury : (j : ℕ) (ss : List JuryHeader) → firstOf (reasonsOf s t) ≡ none
       → firstOf (juryReasons j (s ∷ ss) t) ≡ firstOf (juryReasons (suc j) ss (behind s t))
   unfolding juryReasons atJury firstOf
@@ -90,7 +90,7 @@ refusal-is (answer.Accepted g c) (some r) size e = never (record { gates = g; co
 refusal-is (answer.Refused q) none size e = never size (reasonOf q) e
 refusal-is (answer.Refused q) (some r) size e = let same : reasonOf q ≡ r = cc in ap some same
 
--- a bad jury means a refusal
+-- a jury with a reason is refused
 pub at-jury-some : {A : Type 0} (j : ℕ) (r : Reason) → atJury j (some r) ≡ none → A
 unfolding atJury
 at-jury-some j r e = let z : _≡_ {A = ℕ} 0 1 = cc in absurd (omega arith)
@@ -107,7 +107,7 @@ accepted-mark a none gs g c e f =
     same-size h = cc
 accepted-mark a (some r) gs g c e f = never (record { gates = g; conditional = c }) r (sym e ∙ ap outcomeOf f)
 
--- The juries before j passed, so the first reason is that of the juries ahead.
+-- The juries before j have passed, so the first reason is that of the juries `left`.
 pub record TestedSoFar (ss : List JuryHeader) (t : Tables) (j : ℕ) (left : List JuryHeader) (at : Places)
     (conditional : List ℕ) : Type 0 where
   pub reasons : firstOf (juryReasons j left (from at t)) ≡ firstOf (juryReasons 0 ss t)

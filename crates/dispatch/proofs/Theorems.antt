@@ -1,4 +1,4 @@
--- The theorems of `specs/Theorems`.
+-- Proofs of the theorems of `specs/Theorems`.
 -- Assumes nothing.
 use mathlib.Core.Path.{_≡_, _∙_, refl, sym, ap, subst}
 use mathlib.Core.Bool.{Bool, true, false, _&&_, _||_}
@@ -46,7 +46,7 @@ use Rattle.dispatch_rounds.proofs.Passed.{Passed, jury-passed, first-accepted}
 use Rattle.dispatch_rounds.proofs.MidRound.{padding}
 use Rattle.dispatch.proofs.Whole.{result-by, bad-count, bad-per-round, by-juries, wires-start, wires-emptied, wires-room}
 
--- rounding up
+-- `roundsFor` rounds up
 rounds-most : (gates gatesPerRound r : ℕ) → 1 ≤ gatesPerRound → (roundsFor gates gatesPerRound ≤ r) ↔ (gates ≤ r * gatesPerRound)
 unfolding roundsFor
 rounds-most gates gatesPerRound r h =
@@ -87,7 +87,7 @@ exact =
         not-most : (a b : ℕ) → (a ≤ b → ⊥) → b < a
         not-most a b g = omega (arith, g)
 
--- a number between two others, as a flag and as a fact
+-- a number between two others, as a test and as a fact
 between : (least n most : ℕ) → (leb least n && leb n most) ≡ true → (least ≤ n) × (n ≤ most)
 between least n most e = (
   leb-true least n (and-first (leb least n) (leb n most) e),
@@ -126,7 +126,7 @@ accepted-at i j [] t e h = absurd (omega arith)
 accepted-at i zero (s ∷ ss) t e h = first-accepted i s ss t e .0
 accepted-at i (suc j) (s ∷ ss) t e h = accepted-at (suc i) j ss (behind s t) (first-accepted i s ss t e .1) (omega arith)
 
--- a run on the pieces of a jury that is not refused
+-- a run on the pieces of a jury that is not refused is accepted
 run-accepted : (ss : List JuryHeader) (t : Tables) (j : ℕ) → firstOf (reasonsOf (juryAt j ss) (tablesFrom j ss t)) ≡ none → RunsAt j ss t
 run-accepted ss t j e =
     let p = piecesAt j ss t in
@@ -180,7 +180,7 @@ board-at i (suc j) (s ∷ ss) t w e h =
     x) .boards) cut
     ∙ board-at (suc i) j ss (behind s t) (drop (ballotBytes (headerShape s) + s .gates) w) (a .1) (omega arith)
 
--- zeros in place of a jury's wires
+-- the number of zeros in place of a jury's wires
 zeros-long : (s : JuryHeader) (t : Tables) → firstOf (reasonsOf s t) ≡ none → length (zeroWires s (piecesOf s t))
     ≡ ballotBytes (headerShape s) + s .gates
 zeros-long s t e = length-replicate {A = ℕ} (length (piecesOf s t .wires)) 0 ∙ jury-passed s t e .wiresLong
@@ -307,7 +307,7 @@ all-boards i (s ∷ ss) t e =
       jury-passed s t (a .0) .inBoards,
     )
 
--- the first bad jury, where the first of these is jury i
+-- the first bad jury; the first jury here is jury i
 record Found (i : ℕ) (ss : List JuryHeader) (t : Tables) (r : Reason) : Type 0 where
   pub which : ℕ
   pub its : Reason
@@ -440,7 +440,7 @@ accepted-as-all c = (
         (sym (x .2 .run) ∙ h .2 (r .place) (x .2 .among))))
         (refusals .named c r e)
 
--- the place of the largest of some numbers
+-- the place of the largest of n + 1 numbers
 largest-at : (n : ℕ) (g : ℕ → ℕ) → (j : ℕ) × (j < suc n) × ((i : ℕ) → i < suc n → g i ≤ g j)
 largest-at zero g = (0, omega arith, λ (i : ℕ) h. let e : i ≡ 0 = omega arith in subst (λ (k : ℕ). g k ≤ g 0) (sym e) (omega arith))
 largest-at (suc n) g = go (largest-at n g)
@@ -461,7 +461,7 @@ largest-at (suc n) g = go (largest-at n g)
         (λ (l : g (suc n) ≤ g (b .0)). (b .0, omega (arith, b .1), λ (i : ℕ) h. last (g (b .0)) i h (b .2) l))
         (below-or-not (g (b .0)) (g (suc n)))
 
--- the rounds of the jury that takes the most
+-- the rounds of the jury that takes the most rounds
 module _ (c : Call) (j : ℕ) (a : AcceptedJury c j) where
   abbrev its : ℕ → ℕ
   its i = getD (dispatchResult c .rounds) i 0
@@ -538,7 +538,7 @@ lengths c = by (firstOf (dispatchReasons c)) refl
           ap (λ (d : DispatchResult). length (d .boards)) q ∙ all-boards 0 (juriesIn c) (c .tables) pass,
         )
 
--- reasons of one number
+-- a reason with one of these numbers has one of more numbers
 either-same : (a : Bool) (b c : Bool) → (T b → T c) → T (a || b) → T (a || c)
 either-same true b c f h = tt
 either-same false b c f h = f h
@@ -594,7 +594,7 @@ memory c =
 abbrev left : List JuryHeader → Tables → DispatchResult → Tables
 left qs t d = tablesFrom (length qs) qs (tablesOf (t .lists) (t .ballots) (t .tapes) (d .wires) (d .boards))
 
--- none of it changes
+-- nothing that follows the pieces changes
 untouched : (c : Call) → Untouched c
 untouched c = by (firstOf (dispatchReasons c)) refl
   where
@@ -619,7 +619,7 @@ untouched c = by (firstOf (dispatchReasons c)) refl
               ∙ boards-behind 0 qs t (through zeroWires (λ (t : Tables). t .wires) qs t) pass;
         })
 
--- demand 3 for two juries, by their runs
+-- demand 3 for two juries, from their runs
 hidden : (s s′ : JuryHeader) (p q : Tables) (x y : List ℕ)
     → runResult (headerShape s) (p .lists) (p .ballots) (p .tapes) (p .wires) (p .boards) .answer ≡ accepted (sizeOf (gatesOf (p .lists)))
     → runResult (headerShape s′) (q .lists) (q .ballots) (q .tapes) (q .wires) (q .boards) .answer ≡ accepted (sizeOf (gatesOf (q .lists)))
@@ -642,7 +642,7 @@ hidden s s′ p q x y runs runs′ e f st list closing =
     board-tells-no-more (headerShape s) (p .lists) (p .ballots) (q .ballots) (p .tapes) (q .tapes) (p .wires) (q .wires)
     (p .boards) (q .boards) _ _ runs first ends .2
 
--- demand 2 for a jury, by its run
+-- demand 2 for a jury, from its run
 accuracy : (c : Call) (j : ℕ) (table : List ℕ) (size : Size) → EachJury c j
     → writeOutcome (headerShape (jury c j)) table ≡ accepted size
     → pieces c j .lists ≡ listIn (headerShape (jury c j)) size table

@@ -79,7 +79,7 @@ shown-start ss t few = eight-zeros (juryShown 0) none-shown ss t few
         (ap (λ (n : ℕ). conditionalCount (take n (gatesOf (p .lists)))) {x = min 0 (s .gates)} {y = 0} (omega arith)
         ∙ count-nil)
 
--- no jury has too many gates
+-- a bound for the gates of all juries
 pub few-gates : (j : ℕ) (ss : List JuryHeader) (t : Tables) → firstOf (juryReasons j ss t) ≡ none → mostGates ss ≤ 1048576
 unfolding mostGates
 few-gates j [] t e = omega arith
@@ -87,7 +87,7 @@ few-gates j (s ∷ ss) t e =
     let a = first-accepted j s ss t e in
     omega (arith, jury-passed s t (a .0) .few-gates, few-gates (suc j) ss (behind s t) (a .1))
 
--- nor have the juries from j on
+-- the same bound for the juries from j on
 pub most-left : (j : ℕ) (ss : List JuryHeader) → mostGates (drop j ss) ≤ mostGates ss
 unfolding mostGates
 most-left zero ss = omega arith
@@ -159,7 +159,7 @@ wires-room given j (s ∷ ss) t e =
       wires-room given (suc j) ss (behind s t) (a .1),
     )
 
--- the reasons of a call, by its first two tests
+-- the first reason of a call, given its first two tests
 module _ (c : Call) where
   pub bad-count : (leb 1 (c .count) && leb (c .count) 8) ≡ false → firstOf (dispatchReasons c) ≡ some (reasonAt 19 0)
   unfolding dispatchReasons unless firstOf
@@ -213,7 +213,7 @@ state-start ss t conditional few e c =
       long = boards-long-start 0 ss t e;
     }
 
--- the wire table once the wires of all juries are emptied
+-- the wire table after the wires of all juries are emptied
 pub emptied : (given : ℕ) (ss : List JuryHeader) (t : Tables) → firstOf (juryReasons 0 ss t) ≡ none
     → (n : ℕ) (w last : List ℕ) → n ≡ wireBytes ss → w ≡ wiresGiven given ss t
     → last ≡ replicate (length (take n w)) 0 → last ++ drop n w ≡ through zeroWires (λ (t : Tables). t .wires) ss t

@@ -1,6 +1,6 @@
--- Demand 3 on two concrete calls: a jury of one has the board of a jury of the other, though ballots, masks, gates per
--- round and the other juries differ. Each jury has one candidate, two grades and one ballot; the list is a stranger's,
--- one gate that says whether wires 0 and 1 are both 1.
+-- Demand 3 on two concrete calls: a jury of the first and one of the second have the same board, although ballots,
+-- masks, S and the other juries differ. Each jury has one candidate, two grades and one ballot; the list is a
+-- stranger's: one gate that says whether wires 0 and 1 are both 1.
 use mathlib.Core.Path.{_≡_}
 use mathlib.Core.Option.{none}
 use mathlib.Core.List.{[], _∷_, _++_}
@@ -15,7 +15,7 @@ use Rattle.dispatch.specs.Result.{dispatchResult}
 unfoldable pub oneHeader : JuryHeader
 oneHeader = record { candidates = 1; grades = 2; ballots = 1; gates = 1 }
 
--- One jury with the better grade under the mask 0. It is lent one wire and one board byte too many.
+-- One jury with the better grade under the mask 0. The wire table and the boards are one byte longer than it needs.
 unfoldable pub oneJury : Call
 oneJury =
     record {
@@ -25,7 +25,7 @@ oneJury =
       tables = tablesOf oneGate (1 ∷ 0 ∷ []) (0 ∷ []) (9 ∷ 9 ∷ 9 ∷ 9 ∷ []) (9 ∷ 9 ∷ 9 ∷ []);
     }
 
--- After such a jury a second one, with the worse grade under this mask.
+-- The same jury, then a second one with the worse grade under this mask.
 unfoldable pub twoJuries : (mask : ℕ) → Call
 twoJuries mask =
     record {
@@ -53,5 +53,5 @@ pub record PairOfCalls : Type 0 where
         wires = 0 ∷ 0 ∷ 0 ∷ 0 ∷ 0 ∷ 0 ∷ [];
         boards = 1 ∷ 0 ∷ 1 ∷ 0 ∷ [];
       }
-  -- under the mask 0 it is another board
+  -- under the mask 0, the second jury's board is another one
   pub other-tape : dispatchResult (twoJuries 0) .boards ≡ 1 ∷ 0 ∷ 0 ∷ 0 ∷ []

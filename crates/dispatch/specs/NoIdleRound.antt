@@ -13,10 +13,10 @@ abbrev pub GetsGate : (gatesPerRound r : ℕ) → List JuryHeader → ℕ → Ty
 GetsGate gatesPerRound r ss j =
     min (r * gatesPerRound) (juryAt j ss .gates) < min (suc r * gatesPerRound) (juryAt j ss .gates)
 
--- In each of `done` rounds, counted from 0, some jury gets a gate; a round gives a jury at least one gate.
+-- In each of the first `done` rounds, which are counted from 0, some jury gets at least one gate.
 abbrev pub NoIdleRound : (gatesPerRound done : ℕ) → List JuryHeader → Type 0
 NoIdleRound gatesPerRound done ss = (r : ℕ) → r < done → (j : ℕ) × (j < length ss) × GetsGate gatesPerRound r ss j
 
--- After `done` rounds every jury has all its gates.
+-- After `done` rounds every jury has done all its gates.
 abbrev pub AllDone : (gatesPerRound done : ℕ) → List JuryHeader → Type 0
 AllDone gatesPerRound done ss = (j : ℕ) → j < length ss → juryAt j ss .gates ≤ done * gatesPerRound

@@ -1,4 +1,4 @@
--- The reasons to refuse a call of the dispatcher, in checking order (request 2.8).
+-- The reasons to refuse a call of the dispatcher, in the order of their tests (request 2.8).
 use mathlib.Core.Bool.{_&&_}
 use mathlib.Core.Option.{Option, none, some}
 use mathlib.Core.List.{List, _∷_}
@@ -9,7 +9,7 @@ use Rattle.dispatch.specs.Call.{Call, juriesIn}
 use Rattle.dispatch.specs.declared.verdict.JuriesVerdict.{JuriesVerdict}
 use Rattle.dispatch.specs.declared.verdict.JuriesVerdict.the-variants.{Accepted, Refused}
 
--- All of them: 19 for the number of juries, 20 for the gates per round, then those of the juries.
+-- All reasons: 19 for the number of juries, 20 for the gates per round, then those of the juries.
 unfoldable pub dispatchReasons : Call → List (Option Reason)
 dispatchReasons c =
     unless (leb 1 (c .count) && leb (c .count) 8) 19

@@ -15,7 +15,7 @@ use Rattle.dispatch_rounds.specs.Rounds.{eightOf, roundsFor}
 unfoldable pub runBoard : JuryHeader → Tables → List ℕ
 runBoard s p = runResult (headerShape s) (p .lists) (p .ballots) (p .tapes) (p .wires) (p .boards) .board
 
--- Zeros, as many as it has wires.
+-- As many zeros as the jury has wires.
 abbrev pub zeroWires : JuryHeader → Tables → List ℕ
 zeroWires s p = replicate (length (p .wires)) 0
 
@@ -26,8 +26,8 @@ pub record DispatchResult : Type 0 where
   pub wires : List ℕ
   pub boards : List ℕ
 
--- A refusal changes nothing and answers no rounds. An accepted call answers each jury's rounds, empties its wires
--- (request 2.13) and leaves the boards of undivided runs; what follows the last piece stays.
+-- A refusal changes nothing and answers 0 rounds. An accepted call answers each jury's rounds, empties the juries'
+-- wires (request 2.13) and leaves the boards of undivided runs. What follows the last jury's piece stays.
 unfoldable pub dispatchResultAfter : Option Reason → Call → DispatchResult
 dispatchResultAfter (some r) c =
     record { reason = some r; rounds = replicate 8 0; wires = c .tables .wires; boards = c .tables .boards }
@@ -40,5 +40,6 @@ dispatchResultAfter none c =
       boards = through runBoard (λ (t : Tables). t .boards) (juriesIn c) (c .tables);
     }
 
+-- What a call leaves: the contract of `dispatch` is an equation with this.
 unfoldable pub dispatchResult : Call → DispatchResult
 dispatchResult c = dispatchResultAfter (firstOf (dispatchReasons c)) c

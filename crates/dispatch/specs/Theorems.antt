@@ -1,5 +1,5 @@
--- What holds for every call of the dispatcher (requests 2.8 and 2.13), about the definition that its contract equates
--- with the answer and all that is lent.
+-- What holds for every call of the dispatcher (requests 2.8 and 2.13), stated about the definition that its
+-- contract equates with the answer and with all that is lent.
 use mathlib.Core.Path.{_≡_}
 use mathlib.Core.Logic.{_↔_, _⊎_}
 use mathlib.Core.Option.{none, some}
@@ -32,13 +32,13 @@ tablesFrom (suc j) (s ∷ ss) t = tablesFrom j ss (behind s t)
 abbrev pub piecesAt : ℕ → List JuryHeader → Tables → Tables
 piecesAt j ss t = piecesOf (juryAt j ss) (tablesFrom j ss t)
 
--- What an undivided run on them answers and leaves.
+-- What an undivided run on jury j's pieces answers and leaves.
 abbrev pub runAt : ℕ → List JuryHeader → Tables → RunResult
 runAt j ss t =
     let p = piecesAt j ss t in
     runResult (headerShape (juryAt j ss)) (p .lists) (p .ballots) (p .tapes) (p .wires) (p .boards)
 
--- Such a run is accepted.
+-- The undivided run on jury j's pieces is accepted.
 abbrev pub RunsAt : ℕ → List JuryHeader → Tables → Type 0
 RunsAt j ss t = runAt j ss t .answer ≡ accepted (sizeOf (gatesOf (piecesAt j ss t .lists)))
 
@@ -48,18 +48,20 @@ tablesAfter c =
     let t = c .tables in
     tablesOf (t .lists) (t .ballots) (t .tapes) (dispatchResult c .wires) (dispatchResult c .boards)
 
--- Jury j of a call: its header, its pieces as they are lent, and its pieces after the call.
+-- Jury j's header.
 abbrev pub jury : Call → ℕ → JuryHeader
 jury c j = juryAt j (juriesIn c)
 
+-- Jury j's pieces as they are lent.
 abbrev pub pieces : Call → ℕ → Tables
 pieces c j = piecesAt j (juriesIn c) (c .tables)
 
+-- Jury j's pieces after the call.
 abbrev pub piecesAfter : Call → ℕ → Tables
 piecesAfter c j = piecesAt j (juriesIn c) (tablesAfter c)
 
--- The number of rounds: after r rounds a jury has done all its gates exactly if r is at least that number, and the
--- next round gives it a gate exactly if r is below it.
+-- `roundsFor` is the exact number of rounds: after r rounds a jury has done all its gates exactly if r is at least
+-- that number, and the next round gives it a gate exactly if r is below that number.
 pub record RoundsExact : Type 0 where
   pub finished : (gates gatesPerRound r : ℕ) → 1 ≤ gatesPerRound
       → (min (r * gatesPerRound) gates ≡ gates) ↔ (roundsFor gates gatesPerRound ≤ r)
@@ -71,18 +73,19 @@ pub record AcceptedJury (c : Call) (j : ℕ) : Type 0 where
   pub accepts : dispatchResult c .reason ≡ none
   pub among : j < length (juriesIn c)
 
--- What holds for such a jury, whatever the other juries are.
+-- What holds for jury j of an accepted call, whatever the other juries are.
 pub record EachJury (c : Call) (j : ℕ) : Type 0 where
   pub rounds : getD (dispatchResult c .rounds) j 0 ≡ roundsFor (jury c j .gates) (c .gatesPerRound)
-  -- an undivided run on its pieces is accepted, and leaves the same board
+  -- an undivided run on its pieces is accepted
   pub runs : RunsAt j (juriesIn c) (c .tables)
   -- its wires are emptied
   pub emptied : piecesAfter c j .wires ≡ replicate (length (pieces c j .wires)) 0
+  -- its board is that of the undivided run
   pub board : piecesAfter c j .boards ≡ runBoard (jury c j) (pieces c j)
 
--- The rounds of an accepted call are those of the jury that needs most. After them every jury has done all its gates;
--- in each of them some jury gets a gate; and no other number of rounds has both properties. So these are the rounds
--- in the contract of `run_rounds`.
+-- An accepted call has as many rounds as the jury that needs the most. After them every jury has done all its
+-- gates; in each of them some jury gets a gate; and no other number of rounds has both properties. So these are the
+-- rounds in the contract of `run_rounds`.
 pub record RoundsOfCall (c : Call) : Type 0 where
   pub longest : ℕ
   pub among : longest < length (juriesIn c)
@@ -100,15 +103,15 @@ pub record SameInputs (c c′ : Call) (j i : ℕ) : Type 0 where
   pub ballots : pieces c j .ballots ≡ pieces c′ i .ballots
   pub tape : pieces c j .tapes ≡ pieces c′ i .tapes
 
--- They have the same board, whatever else the two calls are lent, and however many gates their rounds have. If both
--- calls have equally many gates per round, the two juries take equally many rounds.
+-- Such juries have the same board, whatever else the two calls are given, S included. If both calls have the same
+-- S, the two juries take equally many rounds.
 pub record SameJury (c c′ : Call) (j i : ℕ) : Type 0 where
   pub board : piecesAfter c j .boards ≡ piecesAfter c′ i .boards
   pub rounds : c .gatesPerRound ≡ c′ .gatesPerRound
       → getD (dispatchResult c .rounds) j 0 ≡ getD (dispatchResult c′ .rounds) i 0
 
 -- The reason r is that of the first jury that is refused: its place is that jury, runs on the pieces of all juries
--- before it are accepted, and a run on its own pieces is refused with the number of r.
+-- before it are accepted, and a run on its own pieces is refused for a reason with the same number.
 pub record FirstRefused (ss : List JuryHeader) (t : Tables) (r : Reason) : Type 0 where
   pub among : r .place < length ss
   pub before : (j : ℕ) → j < r .place → RunsAt j ss t
@@ -116,10 +119,11 @@ pub record FirstRefused (ss : List JuryHeader) (t : Tables) (r : Reason) : Type 
   pub number : r .number ≡ its .number
   pub run : runAt (r .place) ss t .answer ≡ refused its
 
--- One to eight juries, and 1 to 65,536 gates per round.
+-- There are one to eight juries.
 abbrev pub JuriesFit : Call → Type 0
 JuriesFit c = (1 ≤ c .count) × (c .count ≤ 8)
 
+-- S is 1 to 65,536.
 abbrev pub GatesPerRoundFit : Call → Type 0
 GatesPerRoundFit c = (1 ≤ c .gatesPerRound) × (c .gatesPerRound ≤ 65536)
 
@@ -129,8 +133,8 @@ AcceptedAsAll =
     (c : Call) → (dispatchResult c .reason ≡ none)
     ↔ (JuriesFit c × GatesPerRoundFit c × ((j : ℕ) → j < length (juriesIn c) → RunsAt j (juriesIn c) (c .tables)))
 
--- A refusal is 19 at place 0 if the number of juries does not fit, else 20 at place 0 if the gates per round do not,
--- else the reason of the first jury that is refused. It answers no rounds.
+-- A refusal is 19 at place 0 if the number of juries does not fit, else 20 at place 0 if the gates per round do not
+-- fit, else the reason of the first jury that is refused. It answers 0 rounds.
 pub record Refusals : Type 0 where
   pub named : (c : Call) (r : Reason) → dispatchResult c .reason ≡ some r
       → ((¬ JuriesFit c) × (r ≡ reasonAt 19 0))
@@ -163,12 +167,13 @@ pub record Dispatching : Type 0 where
   pub refusals : Refusals
   pub each : (c : Call) (j : ℕ) → AcceptedJury c j → EachJury c j
   pub same : (c c′ : Call) (j i : ℕ) → AcceptedJury c j → AcceptedJury c′ i → SameInputs c c′ j i → SameJury c c′ j i
-  -- demand 2, for a jury whose list is the one that the core writes for its shape, into any table
+  -- demand 2, for a jury whose list is the one that a write for its shape left in some table
   pub accuracy : (c : Call) (j : ℕ) (table : List ℕ) (size : Size) → AcceptedJury c j
       → writeOutcome (headerShape (jury c j)) table ≡ accepted size
       → pieces c j .lists ≡ listIn (headerShape (jury c j)) size table
       → let s = headerShape (jury c j) in SaysWhoWins s (pieces c j .ballots) (closingBytes s (piecesAfter c j .boards))
-  -- demand 3, for two juries with one shape and one list whose boards end with the same closing bytes
+  -- demand 3, for two juries with the same header and list whose boards end with the same closing bytes; it is
+  -- stated for the undivided runs on their pieces, which by `EachJury` leave the same boards
   pub hiding : (c c′ : Call) (j i : ℕ) → AcceptedJury c j → AcceptedJury c′ i
       → jury c j ≡ jury c′ i → pieces c j .lists ≡ pieces c′ i .lists
       → let s = headerShape (jury c j) in closingBytes s (piecesAfter c j .boards)

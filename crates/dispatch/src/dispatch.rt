@@ -29,7 +29,7 @@ pub struct Dispatched {
     pub rounds: [usize; 8],
 }
 
-// Whether a number lies between two others.
+// Whether least ≤ n ≤ most.
 fn is_between(least: usize, n: usize, most: usize) -> bool
     ensures { λ r. ⌜ r ≡ (leb least n && leb n most) ⌝ }
 {
@@ -58,7 +58,7 @@ fn most_gates(count: usize, headers: [JuryHeader; 8]) -> usize
     most
 }
 
-// How many rounds each jury takes. No other jury changes that.
+// How many rounds each jury takes. This does not depend on the other juries.
 fn rounds_of(count: usize, headers: [JuryHeader; 8], gates_per_round: usize) -> [usize; 8]
     requires { ⌜ RoundsSmall count headers «gates_per_round» ⌝ }
     ensures { λ r.
@@ -76,7 +76,7 @@ fn rounds_of(count: usize, headers: [JuryHeader; 8], gates_per_round: usize) -> 
     rounds
 }
 
-// Round after round, until the longest jury is finished.
+// Does one round after the other until the longest jury is finished.
 fn run_rounds(
     count: usize,
     headers: [JuryHeader; 8],
@@ -125,8 +125,8 @@ fn run_rounds(
     }
 }
 
-// Runs up to eight juries in rounds. The juries' pieces follow each other in the five tables; headers past the number
-// of juries are not read. In the end the wires are emptied.
+// Runs up to eight juries in rounds. The juries' pieces follow each other in the five tables; headers past the
+// number of juries are not read. At the end the juries' wires are emptied.
 pub fn dispatch(
     count: usize,
     headers: [JuryHeader; 8],

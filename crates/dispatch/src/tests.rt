@@ -15,7 +15,8 @@ ghost use Rattle.dispatch_rounds.specs.Reasons.{atJury};
 ghost use Rattle.dispatch.specs.Reasons.{verdictReason};
 ghost use Rattle.dispatch.specs.inner.Rounds.{refusalIn, JuryTested, TestsFound};
 
-// The length of a piece of first + second bytes if that many are left, else 0. The sum is formed only if it fits.
+// The length of a piece of first + second bytes if that many are left, else 0. The sum is computed only if the
+// piece fits, so it does not wrap.
 fn bytes_fitting(first: usize, second: usize, left: usize) -> usize
     ensures { λ r. ⌜ r ≡ fitting (first + second) left ⌝ }
 {
@@ -28,15 +29,15 @@ fn bytes_fitting(first: usize, second: usize, left: usize) -> usize
     first + second
 }
 
-// The length of a list of this many gates if that many numbers are left, else 0. Before this test the product could
-// wrap.
+// The length of a list of this many gates if so many numbers are left, else 0. The product is computed only if the
+// list fits, so it does not wrap.
 fn numbers_fitting(gates: usize, left: usize) -> usize
     ensures { λ r. ⌜ r ≡ fitting (4 * gates) left ⌝ }
 {
     if gates <= left / 4 { 4 * gates } else { 0 }
 }
 
-// All reasons of one jury, on what is left of the tables.
+// All tests of one jury, on what is left of the tables.
 fn test_jury(
     header: JuryHeader,
     lists: &[u32],
@@ -82,7 +83,7 @@ fn test_jury(
     }
 }
 
-// The verdict if a jury's tests gave this answer: its reason, with the jury as place.
+// The verdict for the answer of a jury's tests: its reason, with the jury as place.
 fn verdict_of(answer: Answer, jury: usize) -> JuriesVerdict
     ensures { λ r. ⌜ verdictReason r ≡ atJury jury (refusalIn answer) ⌝ }
 {
@@ -95,7 +96,7 @@ fn verdict_of(answer: Answer, jury: usize) -> JuriesVerdict
     }
 }
 
-// Tests jury after jury: all tests of one before those of the next.
+// Tests the juries in order: all tests of one jury come before those of the next.
 pub(crate) fn test_juries(
     count: usize,
     headers: [JuryHeader; 8],

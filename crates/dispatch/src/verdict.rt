@@ -1,8 +1,8 @@
 // What the tests of all juries answer.
 use jury::reason::Refusal;
 
-// The verdict of a call: accepted, or the first reason of the first bad jury. A reason that concerns no jury has jury
-// 0.
+// The verdict of a call: accepted, or the first reason of the first bad jury. For a reason that concerns no jury,
+// `jury` is 0.
 pub enum JuriesVerdict {
     Accepted,
     Refused { reason: Refusal, jury: usize },

@@ -1,4 +1,4 @@
--- One jury's share of a round.
+-- One jury's turn in a round.
 -- Assumes nothing.
 use mathlib.Core.Path.{_≡_, _∙_, refl, sym, ap}
 use mathlib.Core.Bool.{Bool, false, cond}
@@ -21,7 +21,7 @@ use Rattle.dispatch_rounds.specs.Tables.{Tables}
 use Rattle.dispatch_rounds.specs.Rounds.{wiresAfter, boardAfter, juryWires, juryBoard, juryShown}
 use Rattle.dispatch_rounds.specs.inner.State.{JuryState}
 
--- the definitions, by how many gates are done
+-- the definitions, for some and for all gates
 after-wires : (b : List ℕ) (gs : List Gate) (m : ℕ) (ws : List ℕ) → 1 ≤ m → wiresAfter b gs m ws
     ≡ wiresOf b (take m gs) ++ drop (length b + m) ws
 unfolding wiresAfter
@@ -38,7 +38,7 @@ pub after-all : (b : List ℕ) (gs : List Gate) (k : ℕ) (tape : List ℕ) (m :
 unfolding boardAfter
 after-all b gs k tape m board h = rw (le-ltb m (length gs) h)
 
--- the length of the wire table stays
+-- the length of the wire table stays the same
 after-wires-long : (b : List ℕ) (gs : List Gate) (m : ℕ) (ws : List ℕ) → m ≤ length gs → length ws ≡ length b
     + length gs → length (wiresAfter b gs m ws) ≡ length ws
 unfolding wiresAfter
@@ -73,7 +73,7 @@ module _ (s : JuryHeader) (p : Tables) where
       let later : eqb (suc m) 0 ≡ false = ne-eqb (suc m) 0 (λ (q : suc m ≡ 0). omega arith) in
       record { wiresAre = e ∙ ap (λ (x : Bool). cond x (take i (p .ballots) ++ drop i ws) ws) later ∙ w; boardIs = o; count = n }
 
-  -- a jury that is not finished, once its ballots are in its wire table
+  -- a jury that is not finished, after its ballots were put into its wire table
   pub turn-begins : (given : ℕ) (ws ws′ board : List ℕ) (shown : ℕ) → JuryState given s p ws board shown → given < s .gates
       → ws′ ≡ cond (eqb given 0) (take (length (p .ballots)) (p .ballots) ++ drop (length (p .ballots)) ws) ws
       → Stands (p .ballots) (p .lists) (p .tapes) (p .wires) (p .boards) given ws′ board shown

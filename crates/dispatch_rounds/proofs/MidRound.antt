@@ -1,4 +1,5 @@
--- A round, jury after jury: those passed have had their turn, and those ahead are as after the round before.
+-- A round, one jury after the other: the juries before j have had their turn, and the others are as they were after
+-- the round before.
 -- Assumes nothing.
 use mathlib.Core.Path.{_≡_, _∙_, refl, sym, ap, subst}
 use mathlib.Core.Option.{none}
@@ -40,7 +41,7 @@ from-after at s t =
     let e₄ = drop-drop (c + s .candidates) (at .boards) (t .boards) in
     λ x. record { lists = e₀ x; ballots = e₁ x; tapes = e₂ x; wires = e₃ x; boards = e₄ x }
 
--- places that lie in the tables, or at their ends
+-- places within the tables, or at their ends
 pub record Inside (at : Places) (t : Tables) : Type 0 where
   pub lists : at .lists ≤ length (t .lists)
   pub ballots : at .ballots ≤ length (t .ballots)
@@ -72,7 +73,7 @@ marks s p = conditionalCount (gatesOf (p .lists))
 abbrev pub padding : List JuryHeader → Tables → List ℕ
 padding ss t = replicate (8 - length ss) 0
 
--- in the middle of a round; the juries `left` are ahead
+-- the middle of a round: the juries `left` have not had their turn
 pub record Mid (ss : List JuryHeader) (t : Tables) (given next : ℕ) (conditional : List ℕ) (j : ℕ)
     (left : List JuryHeader) (at : Places) (wires boards shown : List ℕ) : Type 0 where
   pub wiresUp : Upto (juryWires given) (juryWires next) (λ (t : Tables). t .wires) left (from at t) (at .wires) wires (wiresGiven next ss t)
@@ -128,7 +129,7 @@ mid-end ss t given next conditional j at wires boards shown a c m =
 module _ (ss : List JuryHeader) (t : Tables) (given next : ℕ) (conditional : List ℕ) (j : ℕ) (s : JuryHeader)
     (left : List JuryHeader) (at : Places) (wires boards shown : List ℕ)
     (m : Mid ss t given next conditional j (s ∷ left) at wires boards shown) where
-  -- what is known of the jury whose turn it is
+  -- facts about the jury whose turn it is
   pub mid-passed : Passed s (from at t)
   mid-passed = jury-passed s (from at t) (first-accepted j s left (from at t) (m .accepted) .0)
 
@@ -226,7 +227,7 @@ module _ (ss : List JuryHeader) (t : Tables) (given next : ℕ) (conditional : L
             finalIs = u .finalIs ∙ sym (append-snoc (u .front) y (through (oneOf marks) (padding ss) left (behind s (from at t))));
           })
 
--- parts of a table, from one place up to another
+-- the part of a table from one place up to another
 pub slice-is : (n a e : ℕ) (xs : List ℕ) → e ≡ a + n → take (e - a) (drop a xs) ≡ take n (drop a xs)
 slice-is n a e xs h = ap (λ (k : ℕ). take k (drop a xs)) {x = e - a} {y = n} (omega arith)
 
@@ -245,7 +246,7 @@ spliced-long n a xs q h l =
       length-drop a xs,
     )
 
--- the same jury under other names for its pieces
+-- the same jury, with equal lists for its pieces
 pub jury-as : (given : ℕ) (s : JuryHeader) (p : Tables) (l b m w o w′ o′ : List ℕ) (n n′ : ℕ) → l ≡ p .lists → b
     ≡ p .ballots → m ≡ p .tapes → w ≡ w′ → o ≡ o′ → n ≡ n′
     → JuryState given s p w′ o′ n′ → JuryState given s (tablesOf l b m (p .wires) (p .boards)) w o n
@@ -258,7 +259,7 @@ jury-back given s p l b m w o n e₀ e₁ e₂ j =
     (subst (λ (x : List ℕ). JuryState given s (tablesOf (p .lists) x m (p .wires) (p .boards)) w o n) e₁
     (subst (λ (x : List ℕ). JuryState given s (tablesOf x b m (p .wires) (p .boards)) w o n) e₀ j))
 
--- the same point of a round under other names
+-- the same point of a round, with equal values
 pub mid-as : (ss : List JuryHeader) (t : Tables) (given next : ℕ) (conditional : List ℕ) (j j′ : ℕ)
     (left left′ : List JuryHeader) (at at′ : Places) (wires wires′ boards boards′ shown : List ℕ)
     → j′ ≡ j → left′ ≡ left → at′ ≡ at → wires′ ≡ wires → boards′ ≡ boards → Mid ss t given next conditional j left at wires boards shown

@@ -1,4 +1,4 @@
--- What is known of a jury that is not refused: its pieces fit.
+-- What holds for a jury that is not refused: its pieces fit.
 -- Assumes nothing.
 use mathlib.Core.Path.{_≡_, refl, ap}
 use mathlib.Core.Option.{Option, none, some}
@@ -24,7 +24,7 @@ use Rattle.dispatch_rounds.specs.Tables.{Tables, headerShape, pieceOf, l
 use Rattle.dispatch_rounds.specs.Reasons.{reasonsOf, atJury, juryReasons}
 use Rattle.dispatch_rounds.proofs.Pieces.{piece-fits, full-fits, some-fits}
 
--- if no jury is bad, the first is not, and none after it is
+-- if no jury is refused, the first is not, and none after it is
 pub first-accepted : (j : ℕ) (s : JuryHeader) (ss : List JuryHeader) (t : Tables) → firstOf (juryReasons j (s ∷ ss) t) ≡ none
     → (firstOf (reasonsOf s t) ≡ none) × (firstOf (juryReasons (suc j) ss (behind s t)) ≡ none)
 unfolding juryReasons

@@ -1,4 +1,4 @@
--- A table of pieces, one for each jury, of which the first are replaced already.
+-- A table of pieces, one for each jury, of which the first ones are already replaced.
 -- Assumes nothing.
 use mathlib.Core.Path.{_≡_, _∙_, refl, sym, ap}
 use mathlib.Core.Bool.{Bool, true, false, cond}
@@ -35,7 +35,7 @@ some-fits n xs e = go (leb n (length xs)) refl e
     go true p q = leb-true n (length xs) p
     go false p q = absurd (omega arith)
 
--- The table half done: the front is as it will be in the end, then come the old pieces.
+-- The table up to a place: before that place it is as it will be in the end; then come the old pieces.
 pub record Upto (f g : JuryHeader → Tables → List ℕ) (rest : Tables → List ℕ) (ss : List JuryHeader) (t : Tables)
     (at : ℕ) (here final : List ℕ) : Type 0 where
   pub front : List ℕ
@@ -75,7 +75,7 @@ module _ (f g : JuryHeader → Tables → List ℕ) (rest : Tables → List ℕ)
         length-append (f s (piecesOf s t)) (through f rest ss (behind s t)),
       )
 
-  -- once it is replaced
+  -- the table after this piece is replaced
   pub upto-next : (q : List ℕ) → q ≡ g s (piecesOf s t) → length q ≡ n
       → Upto f g rest ss (behind s t) (at + n) (take at here ++ (q ++ drop n (drop at here))) final
   unfolding through
@@ -94,7 +94,7 @@ module _ (f g : JuryHeader → Tables → List ℕ) (rest : Tables → List ℕ)
             ∙ sym (append-assoc (u .front) q (through g rest ss (behind s t)));
       }
 
--- Numbers, one for each jury.
+-- A piece of one number for each jury.
 abbrev pub oneOf : (JuryHeader → Tables → ℕ) → JuryHeader → Tables → List ℕ
 oneOf number s p = number s p ∷ []
 
@@ -131,7 +131,7 @@ through-same f g rest e (s ∷ ss) t =
     ap (λ (x : List ℕ). x ++ through f rest ss (behind s t)) (e s (piecesOf s t))
     ∙ ap (λ (x : List ℕ). g s (piecesOf s t) ++ x) (through-same f g rest e ss (behind s t))
 
--- eight zeros
+-- zeros for all juries
 zeros-through : (pad : List ℕ) (ss : List JuryHeader) (t : Tables)
     → through (oneOf (λ (s : JuryHeader) (p : Tables). 0)) (λ (t : Tables). pad) ss t ≡ replicate (length ss) 0 ++ pad
 unfolding through

@@ -7,7 +7,7 @@ use Rattle.tally.specs.Run.{runReasons}
 use Rattle.dispatch_rounds.specs.declared.header.JuryHeader.{JuryHeader}
 use Rattle.dispatch_rounds.specs.Tables.{Tables, headerShape, piecesOf, behind}
 
--- The first jury's reasons are those of a run on its pieces.
+-- The reasons of the jury whose pieces come first in the tables: those of a run on these pieces.
 unfoldable pub reasonsOf : JuryHeader → Tables → List (Option Reason)
 reasonsOf s t =
     runReasons (headerShape s) (piecesOf s t .lists) (piecesOf s t .ballots) (piecesOf s t .tapes) (piecesOf s t .wires)
@@ -18,7 +18,8 @@ unfoldable pub atJury : ℕ → Option Reason → Option Reason
 atJury j none = none
 atJury j (some r) = some (reasonAt (r .number) j)
 
--- Jury after jury: all reasons of one before those of the next. The first of these is jury j.
+-- The reasons of all juries, in order: all tests of one jury come before those of the next. The first jury here is
+-- jury j.
 unfoldable pub juryReasons : ℕ → List JuryHeader → Tables → List (Option Reason)
 juryReasons j [] t = []
 juryReasons j (s ∷ ss) t = atJury j (firstOf (reasonsOf s t)) ∷ juryReasons (suc j) ss (behind s t)

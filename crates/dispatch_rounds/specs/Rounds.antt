@@ -16,34 +16,37 @@ use Rattle.dispatch_rounds.specs.Tables.{Tables, conditionalIn, piecesOf
 use Rattle.dispatch_rounds.specs.Reasons.{juryReasons}
 
 -- A jury's wire table after its first m gates: the ballots, the wires of these gates, then the old contents. The
--- ballots come with the first gate.
+-- ballots are put in with the first gate, so before it nothing has changed.
 unfoldable pub wiresAfter : List ℕ → List Gate → ℕ → List ℕ → List ℕ
 wiresAfter ballots gs zero ws = ws
 wiresAfter ballots gs (suc m) ws = wiresOf ballots (take (suc m) gs) ++ drop (length ballots + suc m) ws
 
--- Its board: the bits that these gates show, then the old contents; once all gates are done, the whole board with the
--- closing bytes.
+-- A jury's board after its first m gates: the bits that these gates show, then the old contents. After all gates,
+-- it is the whole board with the closing bytes.
 unfoldable pub boardAfter : List ℕ → List Gate → ℕ → List ℕ → ℕ → List ℕ → List ℕ
 boardAfter ballots gs k tape m board =
     cond (ltb m (length gs))
     (shownBits (wiresOf ballots gs) (take m gs) tape ++ drop (conditionalCount (take m gs)) board)
     (boardOf (wiresOf ballots gs) gs k tape)
 
--- A jury on its pieces p, once it was given `given` gates, or all its gates if it has fewer.
+-- The wire table of a jury with the pieces p, after it was given `given` gates, or all its gates if it has fewer.
 unfoldable pub juryWires : ℕ → JuryHeader → Tables → List ℕ
 juryWires given s p = wiresAfter (p .ballots) (gatesOf (p .lists)) (min given (s .gates)) (p .wires)
 
+-- Its board then.
 unfoldable pub juryBoard : ℕ → JuryHeader → Tables → List ℕ
 juryBoard given s p = boardAfter (p .ballots) (gatesOf (p .lists)) (s .candidates) (p .tapes) (min given (s .gates))
     (p .boards)
 
+-- How many bits it has shown then.
 unfoldable pub juryShown : ℕ → JuryHeader → Tables → ℕ
 juryShown given s p = conditionalCount (take (min given (s .gates)) (gatesOf (p .lists)))
 
--- The tables of all juries.
+-- The wire table of all juries.
 unfoldable pub wiresGiven : ℕ → List JuryHeader → Tables → List ℕ
 wiresGiven given = through (juryWires given) (λ (t : Tables). t .wires)
 
+-- The boards of all juries.
 unfoldable pub boardsGiven : ℕ → List JuryHeader → Tables → List ℕ
 boardsGiven given = through (juryBoard given) (λ (t : Tables). t .boards)
 
@@ -59,8 +62,8 @@ BoardsLong given (s ∷ ss) t = (length (juryBoard given s (piecesOf s t)) ≡ c
     × BoardsLong given ss (behind s t)
 
 -- A call between two rounds: t is what was lent, no jury is refused, and each was given `given` gates, or all its
--- gates if it has fewer. `wires` and `boards` are what the two tables hold then; then come each jury's number of
--- conditional gates, and of bits shown so far.
+-- gates if it has fewer. `wires` and `boards` are what the two tables hold then. `conditional` and `shown` have
+-- each jury's number of conditional gates, and of bits shown so far.
 pub record RoundState (given : ℕ) (ss : List JuryHeader) (t : Tables) (conditional wires boards shown : List ℕ) : Type
     0 where
   pub accepted : firstOf (juryReasons 0 ss t) ≡ none

@@ -29,20 +29,20 @@ tablesOf lists ballots tapes wires boards = record {
 abbrev pub headerShape : JuryHeader → Shape
 headerShape s = record { candidates = s .candidates; grades = s .grades; ballots = s .ballots }
 
--- The length of a piece of n elements where m are left: n if they fit, else 0.
+-- The length of a piece of n elements if m are left: n if they fit, else 0.
 unfoldable pub fitting : ℕ → ℕ → ℕ
 fitting n m = cond (leb n m) n 0
 
--- The first n elements if there are that many. A piece without room is empty, and so too short: only the tape of a
--- list without conditional gates has length 0, and that always fits.
+-- The first n elements if there are that many. A piece that does not fit is empty, and so its length is refused:
+-- only the tape of a list without conditional gates may have length 0, and that always fits.
 unfoldable pub pieceOf : ℕ → List ℕ → List ℕ
 pieceOf n xs = take (fitting n (length xs)) xs
 
--- The numbers of the first jury's list: four a gate.
+-- The numbers of the first jury's list: four for each gate.
 unfoldable pub listOf : JuryHeader → Tables → List ℕ
 listOf s t = pieceOf (4 * s .gates) (t .lists)
 
--- C of the first jury, by the marks of its own list.
+-- C of the first jury, counted in its list.
 unfoldable pub conditionalIn : JuryHeader → Tables → ℕ
 conditionalIn s t = conditionalCount (gatesOf (listOf s t))
 
@@ -56,7 +56,7 @@ piecesOf s t =
     (pieceOf (ballotBytes (headerShape s) + s .gates) (t .wires))
     (pieceOf (conditionalIn s t + s .candidates) (t .boards))
 
--- The rest of the tables after these pieces, where the next jury's begin.
+-- The rest of the tables after these pieces. The next jury's pieces come first in it.
 unfoldable pub behind : JuryHeader → Tables → Tables
 behind s t =
     tablesOf
@@ -66,7 +66,7 @@ behind s t =
     (drop (ballotBytes (headerShape s) + s .gates) (t .wires))
     (drop (conditionalIn s t + s .candidates) (t .boards))
 
--- A table made of one piece for each jury, in order, then what follows the last.
+-- A table made of one piece for each jury, in order, and then `rest` of what follows the last one.
 unfoldable pub through : (JuryHeader → Tables → List ℕ) → (Tables → List ℕ) → List JuryHeader → Tables → List ℕ
 through piece rest [] t = rest t
 through piece rest (s ∷ ss) t = piece s (piecesOf s t) ++ through piece rest ss (behind s t)

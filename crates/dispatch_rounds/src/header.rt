@@ -3,7 +3,7 @@ use jury::shape::Shape;
 ghost use mathlib.Core.Path.{_≡_};
 ghost use Rattle.dispatch_rounds.specs.inner.State.{placesAfter, PlacesFit};
 
-// A jury's shape and its number of gates. They may be any numbers until they are tested.
+// A jury's shape and its number of gates. Before they are tested, these may be any numbers.
 pub struct JuryHeader {
     pub candidates: usize,
     pub grades: usize,

@@ -26,8 +26,8 @@ fn load(given: usize, ballots: &[u8], wires: &mut [u8])
     }
 }
 
-// One jury's part of a round, on its own pieces: its next gates, at most `gates_per_round` of them. With its last gate
-// it puts the closing bytes on the board. Answers how many bits the jury has shown so far.
+// One jury's turn in a round, on its own pieces: its next gates, at most `gates_per_round` of them. After its last
+// gate, the closing bytes are put on the board. Answers how many bits the jury has shown so far.
 fn turn(
     header: JuryHeader,
     given: usize,
@@ -70,9 +70,9 @@ fn turn(
     )
 }
 
-// One more round after `done` rounds. `RoundState` says what the tables hold between two rounds: for each jury the
-// gates of all rounds so far, and nothing of a later gate. `before` has the number of bits that each jury has shown,
-// the answer their number after the round.
+// One more round after `done` rounds. `RoundState` says what the tables hold between two rounds: each jury's gates
+// of all rounds so far, and nothing of a later gate. `before` has the number of bits that each jury has shown; the
+// answer has their number after the round.
 pub fn round(
     count: usize,
     headers: [JuryHeader; 8],

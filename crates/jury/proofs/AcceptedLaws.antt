@@ -1,4 +1,4 @@
--- The ballots that no test refuses, as facts about their bytes and rows; and back, from these facts to the tests.
+-- Ballots pass their tests exactly if they have the facts of `AcceptedBallots`.
 -- Assumes nothing.
 use mathlib.Core.Path.{_≡_, _∙_, refl, sym, ap}
 use mathlib.Core.Bool.{Bool, true, false, cond}
@@ -26,7 +26,7 @@ use Rattle.jury.proofs.Limits.{within, graded-is}
 use Rattle.jury.proofs.BallotLaws.{judged, kindReason, judged-by, graded-reason, ranked-reason}
 use Rattle.jury.proofs.RankingLaws.{passes-orders}
 
--- if the answer is none, no test applies
+-- if no reason is answered, every test passed
 size-passed : (size : Bool) (byte : Place) (kind : Option Reason) → judged size byte kind ≡ none → size ≡ true
 unfolding judged unless firstOf
 size-passed true byte kind e = refl
@@ -54,19 +54,19 @@ ranks-passed (At i) notWeakOrder e = let z : _≡_ {A = ℕ} 0 1 = cc in absurd 
 ranks-passed Nowhere (At b) e = let z : _≡_ {A = ℕ} 0 1 = cc in absurd (omega arith)
 ranks-passed Nowhere Nowhere e = (refl, refl)
 
--- a search that finds nothing: its test passes here, and further on it finds nothing
+-- if a search finds nothing, its test passes here, and the rest of the search finds nothing
 passed-over : (t : Bool) (i : ℕ) (rest : Place) → cond t rest (At i) ≡ Nowhere → (t ≡ true) × (rest ≡ Nowhere)
 passed-over true i rest e = (refl, e)
 passed-over false i rest e = let z : _≡_ {A = ℕ} 0 1 = cc in absurd (omega arith)
 
--- row j of these bytes, from the first and from the second row on
+-- row 0 begins at the first byte; row j after the first row is row j + 1
 pub row-first : (d : ℕ) (xs : List ℕ) → drop (0 * d) xs ≡ xs
 row-first d xs = ap (λ (m : ℕ). drop m xs) (zero-mul d)
 
 pub row-next : (d j : ℕ) (xs : List ℕ) → drop (j * d) (drop d xs) ≡ drop (suc j * d) xs
 row-next d j xs = drop-drop (j * d) d xs ∙ ap (λ (m : ℕ). drop m xs) (add-comm d (j * d) ∙ sym (suc-mul j d))
 
--- if no bad row is found, every row holds one 1
+-- if no bad row is found, every row has a single 1
 pub all-rows : (d r : ℕ) (xs : List ℕ) (n : ℕ) → firstBadRow n (rowsOf d r xs) ≡ Nowhere → (j : ℕ) → j < r
     → ones (take d (drop (j * d) xs)) ≡ 1
 unfolding firstBadRow rowsOf
@@ -130,7 +130,7 @@ module _ (s : Shape) (xs : List ℕ) where
       (ranks-passed (firstNotAsymmetric (s .candidates) (s .ballots) xs)
       (firstNotWeakOrder (s .candidates) (s .ballots) xs) (sym (ranked-reason s xs f) ∙ kind-of e))
 
-  -- what the tests of a shape and its ballots establish
+  -- ballots that pass all tests are accepted
   pub accepted : withinLimits s ≡ true → firstOf (ballotReasons s xs) ≡ none → AcceptedBallots s xs
   unfolding size-test byte-test
   accepted w e = record {
@@ -152,13 +152,13 @@ module _ (s : Shape) (xs : List ℕ) where
       ∙ ap (λ (q : Place). firstOf (foundAt 11 q ∷ foundAt 12 (firstNotWeakOrder (s .candidates) (s .ballots) xs) ∷ [])) (p .0)
       ∙ ap (λ (q : Place). firstOf (foundAt 11 Nowhere ∷ foundAt 12 q ∷ [])) (p .1)
 
-  -- and back
+  -- the converse
   pub accepted-back : AcceptedBallots s xs → firstOf (ballotReasons s xs) ≡ none
   unfolding judged unless foundAt firstOf
   accepted-back a =
       judged-by s xs true Nowhere none (eq-eqb (length xs) (ballotBytes s) (a .size)) (none-above 0 xs (a .bits))
       (no-kind-reason a (isRanking s) refl)
 
-  -- graded ballots among them
+  -- accepted ballots of a graded shape
   pub graded : AcceptedBallots s xs → gradedLimits s ≡ true → GradedBallots s xs
   graded a g = record { within = g; size = a .size; bits = a .bits; rows = a .rows (graded-is s (within s g)) }

@@ -1,4 +1,4 @@
--- The ballots and their tests, one step at a time.
+-- The tests of ballots, one step at a time.
 -- Assumes nothing.
 use mathlib.Core.Path.{_≡_, _∙_, refl, ap}
 use mathlib.Core.Bool.{Bool, true, false, cond}
@@ -20,7 +20,7 @@ use Rattle.jury.specs.Reason.{Reason, unless, foundAt, firstOf}
 use Rattle.jury.specs.Ballots.{ones, rowsOf, firstBadRow, gradedReasons, rankedReasons, ballotReasons}
 use Rattle.basics.proofs.Cases.{below-or-not}
 
--- the ones from place i on: byte i first
+-- the ones from place i on: first byte i, then the rest
 ones-step : (xs : List ℕ) (i : ℕ) → i < length xs → ones (drop i xs)
     ≡ cond (eqb (getD xs i 0) 1) (suc (ones (drop (suc i) xs))) (ones (drop (suc i) xs))
 unfolding ones
@@ -34,21 +34,21 @@ pub ones-later : (xs : List ℕ) (i : ℕ) → i < length xs → (getD xs i 0 �
 ones-later xs i h e = ones-step xs i h
     ∙ ap (λ (t : Bool). cond t (suc (ones (drop (suc i) xs))) (ones (drop (suc i) xs))) (ne-eqb (getD xs i 0) 1 e)
 
--- for a bit, both cases in one
+-- a bit at place i counts as itself
 pub ones-bit : (xs : List ℕ) (i : ℕ) → i < length xs → getD xs i 0 ≤ 1 → ones (drop i xs) ≡ getD xs i 0 + ones (drop (suc i) xs)
 ones-bit xs i h b = ⊎-elim
     (λ (l : 0 < getD xs i 0). omega (arith, ones-here xs i h (omega arith)))
     (λ (l : getD xs i 0 ≤ 0). omega (arith, ones-later xs i h (λ e. omega arith)))
     (below-or-not 0 (getD xs i 0))
 
--- the bits of a part
+-- every part of a list of bits has bits
 pub part-bits : (xs : List ℕ) (from n i : ℕ) → ((j : ℕ) → getD xs j 0 ≤ 1) → i < length (take n (drop from xs))
     → getD (take n (drop from xs)) i 0 ≤ 1
 part-bits xs from n i b l =
     let short : i < n = omega (arith, length-take n (drop from xs)) in
     omega (arith, getD-take n (drop from xs) i 0 short, getD-drop from xs i 0, b (from + i))
 
--- the rows from place `row` on: that row first
+-- the rows from `row` on: first that row, then the rest
 rows-step : (d row rows : ℕ) (xs : List ℕ) → row < rows → rowsOf d (rows - row) xs ≡ take d xs ∷ rowsOf d (rows - suc row) (drop d xs)
 unfolding rowsOf
 rows-step d row rows xs h = ap (λ (n : ℕ). rowsOf d n xs) {x = rows - row} {y = suc (rows - suc row)} (omega arith)
@@ -75,7 +75,7 @@ pub bad-end : (d row rows : ℕ) (xs : List ℕ) → rows ≤ row → firstBadRo
 unfolding firstBadRow rowsOf
 bad-end d row rows xs h = ap (λ (n : ℕ). firstBadRow row (rowsOf d n xs)) {x = rows - row} {y = 0} (omega arith)
 
--- what the tests of ballots answer, from the outcomes of 4, of 5, and of those of the shape's kind
+-- the answer of the tests of ballots, from the outcomes of test 4, of test 5, and of those of the shape's kind
 unfoldable pub judged : Bool → Place → Option Reason → Option Reason
 judged size byte kind = firstOf (unless size 4 ∷ foundAt 5 byte ∷ kind ∷ [])
 

@@ -28,7 +28,7 @@ sum-derived f (List·Permᴰ·trans p q) = sum-derived f p ∙ sum-derived f q
 sum-permuted : (f : List ℕ → ℕ) (l m : List (List ℕ)) → Perm l m → sum (map f l) ≡ sum (map f m)
 sum-permuted f l m p = ∥∥₁-elim p (ℕ-set (sum (map f l)) (sum (map f m))) (λ d. sum-derived f d)
 
--- rows as a table
+-- row b begins after b rows of w bytes
 rows-table : (w n : ℕ) (xs : List ℕ) → rowsOf w n xs ≡ tabulate n (λ b. take w (drop (b * w) xs))
 unfolding rowsOf tabulate
 rows-table w zero xs = refl

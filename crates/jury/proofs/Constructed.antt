@@ -1,4 +1,4 @@
--- What the constructor's answer says about the shape that was asked for.
+-- What the constructor's answer says about the shape that was requested.
 -- Assumes nothing.
 use mathlib.Core.Path.{_≡_, refl, sym, ap}
 use mathlib.Core.Bool.{Bool, true, false, cond}
@@ -8,12 +8,12 @@ use Rattle.jury.specs.declared.shape.Shape.{Shape}
 use Rattle.jury.specs.declared.shape.ShapeResult.{ShapeResult}
 use Rattle.jury.specs.declared.shape.ShapeResult.the-variants.{Within, Outside}
 
--- the shape in an answer, or any other if there is none
+-- the shape in an answer; if the answer has none, s
 held : Shape → ShapeResult → Shape
 held s (Within x) = x
 held s Outside = s
 
--- an accepted shape is the one that was asked for
+-- an accepted shape is the one that was requested
 pub shape-is : (b : Bool) (s x : Shape) → cond b (Within s) Outside ≡ Within x → x ≡ s
 unfolding held
 shape-is true s x e = sym (ap (held s) e)

@@ -41,7 +41,7 @@ unfolding countUpTo sum tabulate addend
 column-addends s xs zero c g = refl
 column-addends s xs (suc b) c g = omega (arith, column-addends s xs b c g, sum-last b (λ i. addend (byteOf s xs i c g)))
 
--- so for accepted ballots it is the sum of the bytes in its column
+-- so for accepted ballots a count is the sum of the bytes in its column
 pub column-sum : (s : Shape) (xs : List ℕ) → GradedBallots s xs → (b c g : ℕ) → countUpTo s xs b c g
     ≡ sum (tabulate b (λ i. byteOf s xs i c g))
 unfolding addend byteOf
@@ -51,7 +51,7 @@ column-sum s xs a b c g =
     (tabulate-cong b (λ i. addend (byteOf s xs i c g)) (λ i. byteOf s xs i c g)
     (λ i h. bit-added (byteOf s xs i c g) (a .bits ((i * s .candidates + c) * s .grades + g))))
 
--- the bytes of a column, by their places
+-- the same, with the places of the bytes
 pub column-bytes : (s : Shape) (xs : List ℕ) → GradedBallots s xs → (c g : ℕ)
     → countOf s xs c g ≡ sum (tabulate (s .ballots) (λ i. getD xs ((i * s .candidates + c) * s .grades + g) 0))
 unfolding countOf byteOf
@@ -87,7 +87,7 @@ reads-ballots s xs ys e =
         ∙ ap (λ (l : List ℕ). getD l ((b * s .candidates + c) * s .grades + g) 0) e
         ∙ getD-take (ballotBytes s) ys ((b * s .candidates + c) * s .grades + g) 0 h
 
--- one row of a ballot adds 1 in all
+-- one row of a ballot adds 1 to the candidate's counts together
 one-addend : (s : Shape) (xs : List ℕ) → GradedBallots s xs → (c b : ℕ) → c < s .candidates → b < s .ballots
     → sum (tabulate (s .grades) (λ g. addend (byteOf s xs b c g))) ≡ 1
 unfolding byteOf
@@ -114,7 +114,7 @@ pub counts-sum : (s : Shape) (xs : List ℕ) → GradedBallots s xs → (c : ℕ
 unfolding countOf
 counts-sum s xs a c h = ap sum (counts-row s xs c h) ∙ sum-up-to s xs a c h (s .ballots) (omega arith)
 
--- and so do those in the program's array
+-- the same for the counts in the program's array
 pub array-sum : (s : Shape) (xs : List ℕ) → GradedBallots s xs → (c : ℕ) → c < s .candidates
     → sum (getD (rowsIn (s .candidates) (s .grades) (countArray s xs)) c []) ≡ s .ballots
 array-sum s xs a c h = ap (λ (m : List (List ℕ)). sum (getD m c [])) (array-rows s xs (within s (a .within))) ∙ counts-sum s xs a c h

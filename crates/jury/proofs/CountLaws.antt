@@ -72,7 +72,7 @@ module _ (s : Shape) (xs : List ℕ) where
       go true = count-most s xs b c g
       go false = omega arith
 
-  -- so is whatever is read from the array
+  -- so is every number that is read from the array
   pub read-most : (b c g : ℕ) → getD (getD (arrayAfter s xs b) c []) g 0 ≤ b
   unfolding arrayAfter rowAfter
   read-most b c g = ⊎-elim inside outside (below-or-not c 8)
@@ -94,7 +94,7 @@ module _ (s : Shape) (xs : List ℕ) where
       outside l = rw (List·getD-eq-default (tabulate 8 (rowAfter s xs b)) [] {n = c}
           (omega (arith, length-tabulate 8 (rowAfter s xs b)))) (omega arith)
 
-  -- the array is eight by seven, and has room for one ballot more
+  -- the array is eight by seven, and its counts have room for one more ballot
   pub array-eight-by-seven : (b : ℕ) → b < 256 → EightBySeven (arrayAfter s xs b)
   unfolding arrayAfter rowAfter
   array-eight-by-seven b h = record {
@@ -110,7 +110,7 @@ module _ (s : Shape) (xs : List ℕ) where
       tabulate-cong 8 (rowAfter s xs 0) (λ c. tabulate 7 (λ g. 0))
       (λ c l. tabulate-cong 7 (entryAfter s xs 0 c) (λ g. 0) (λ g m. omega (arith, entry-most 0 c g)))
 
-  -- after the last ballot it is the array of counts
+  -- after the last ballot this is the array of counts
   pub array-end : arrayAfter s xs (s .ballots) ≡ countArray s xs
   unfolding arrayAfter rowAfter entryAfter countArray countOf
   array-end = refl
@@ -137,7 +137,7 @@ module _ (s : Shape) (xs : List ℕ) where
       d : ℕ
       d = s .grades
 
-  -- and in that row of it
+  -- and in row c of that ballot
   pub byte-at : (b c g : ℕ) → c < s .candidates → g < s .grades → getD (ballotRow b c) g 0 ≡ byteOf s xs b c g
   byte-at b c g hc hg =
       getD-take (s .grades) (drop (c * s .grades) (ballotAt b)) g 0 hg ∙ getD-drop (c * s .grades) (ballotAt b) g 0

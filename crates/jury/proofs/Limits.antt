@@ -1,4 +1,4 @@
--- A shape within its limits, as facts about its numbers: for each kind, then for both.
+-- A shape within its limits, as facts about its numbers: for each of the two kinds, then for both.
 -- Assumes nothing.
 use mathlib.Core.Path.{_≡_, _∙_, sym, ap, subst}
 use mathlib.Core.Bool.{Bool, true, false, cond, _&&_, true≢false}
@@ -21,7 +21,7 @@ pub record Within (s : Shape) : Type 0 where
   pub n-least : 1 ≤ s .ballots
   pub n-most : s .ballots ≤ 255
 
--- the test of the limits says the six facts
+-- if the test of the limits passes, the six facts hold
 pub within : (s : Shape) → gradedLimits s ≡ true → Within s
 unfolding gradedLimits
 within s e =
@@ -47,7 +47,7 @@ within s e =
 pub within-T : (s : Shape) → T (gradedLimits s) → Within s
 within-T s h = within s (T-true (gradedLimits s) h)
 
--- and back
+-- the converse
 pub within-back : (s : Shape) → Within s → gradedLimits s ≡ true
 unfolding gradedLimits
 within-back s w =
@@ -60,7 +60,7 @@ within-back s w =
       le-leb _ _ (w .n-most),
     )
 
--- there are few rows in all ballots, and few ballot bytes
+-- bounds for the rows of all ballots, and for the ballot bytes
 pub rows-bound : (s : Shape) → Within s → s .ballots * s .candidates ≤ 2040
 rows-bound s w = mul-le-mul (w .n-most) (w .k-most)
 
@@ -161,7 +161,7 @@ bounds s e = ⊎-elim graded rank (kinds s e)
 pub bounds-T : (s : Shape) → T (withinLimits s) → Bounds s
 bounds-T s h = bounds s (T-true (withinLimits s) h)
 
--- a shape within its limits has ballot bytes, graded or ranked
+-- a shape within its limits has at least one ballot byte
 pub some-bytes : (s : Shape) → withinLimits s ≡ true → 1 ≤ ballotBytes s
 some-bytes s e = ⊎-elim graded rank (kinds s e)
   where
@@ -180,7 +180,7 @@ some-bytes s e = ⊎-elim graded rank (kinds s e)
         let all : 0 < s .ballots * s .candidates * s .candidates = mul-pos rows (w .k-least) in
         omega (arith, ranked-bytes s (w .ranking))
 
--- ballots of either kind have few bytes
+-- a bound for the ballot bytes of either kind
 pub inputs-bound : (s : Shape) → Bounds s → ballotBytes s ≤ 16320
 unfolding ballotBytes
 inputs-bound s b =

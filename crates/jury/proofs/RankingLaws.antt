@@ -15,7 +15,7 @@ use Rattle.jury.proofs.Searches.{first-none, none-first, some-here, som
 use Rattle.basics.proofs.Flags.{either}
 
 module _ (k : ℕ) (xs : List ℕ) (b : ℕ) where
-  -- one ballot passes 11: it is asymmetric
+  -- what it means that ballot b passes test 11: it is asymmetric
   abbrev NoClash : Type 0
   NoClash = (i j : ℕ) → i < k → j < k → before k xs b i j ≡ true → before k xs b j i ≡ false
 
@@ -38,7 +38,7 @@ module _ (k : ℕ) (xs : List ℕ) (b : ℕ) where
       first-none (notAsymmetricAt k xs b i) k
       (λ j hj. either (before k xs b i j) (λ f. clash-not-back k xs b i j f (h i j hi hj f)) (clash-not-forth k xs b i j)))
 
-  -- one ballot passes 12: it leaves no gap between two candidates
+  -- what it means that ballot b passes test 12: it is negatively transitive
   abbrev NoGap : Type 0
   NoGap = (i l j : ℕ) → i < k → l < k → j < k → before k xs b i l ≡ false → before k xs b l j ≡ false → before k xs b i j ≡ false
 

@@ -23,7 +23,7 @@ row-at k d counts i h =
     ∙ List·getD-map (take d) (take k counts) i []
     ∙ ap (take d) (getD-take k counts i [] h)
 
--- eight bytes are the bytes given, and 0 past their end
+-- the eight bytes are the given bytes, then 0
 pub eight-at : (bytes : List ℕ) (j : ℕ) → j < 8 → getD (eightBytes bytes) j 0 ≡ getD bytes j 0
 unfolding eightBytes
 eight-at bytes j h = getD-take 8 (bytes ++ replicate 8 0) j 0 h ∙ ⊎-elim within past (below-or-not j (length bytes))

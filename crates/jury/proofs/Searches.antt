@@ -1,4 +1,4 @@
--- Searches in order, and tests of the numbers below m: what the loops that make them know.
+-- Searches in order, and tests of the numbers below m: the facts that loops over them need.
 -- Assumes nothing.
 use mathlib.Core.Path.{_≡_, _∙_, refl, ap}
 use mathlib.Core.Bool.{Bool, true, false, _||_}
@@ -16,12 +16,12 @@ use Rattle.basics.proofs.Cases.{below-or-not}
 use Rattle.basics.proofs.Flags.{or-first, or-second}
 use Rattle.basics.proofs.Arithmetic.{row-within}
 
--- nothing was found so far, and nothing here
+-- if the searches below i and search i find nothing, those below i + 1 find nothing
 pub first-later : (found : ℕ → Place) (i : ℕ) → firstOver i found ≡ Nowhere → found i ≡ Nowhere → firstOver (i + 1) found ≡ Nowhere
 unfolding firstOver orElse
 first-later found i none here = ap (λ (m : ℕ). firstOver m found) (add-one i) ∙ ap (λ (r : Place). orElse r (found i)) none ∙ here
 
--- what is found at the first place that finds anything
+-- the first search that finds a place decides
 pub first-here : (found : ℕ → Place) (m i place : ℕ) → i < m → firstOver i found ≡ Nowhere → found i ≡ At place
     → firstOver m found ≡ At place
 unfolding firstOver orElse
@@ -30,7 +30,7 @@ first-here found (suc m) i place h none here =
     ⊎-elim (λ l. ap (λ (r : Place). orElse r (found m)) (first-here found m i place l none here))
     (λ l. let e : m ≡ i = omega arith in rw e (ap (λ (r : Place). orElse r (found i)) none ∙ here)) (below-or-not i m)
 
--- nothing is found exactly if no search finds anything
+-- the whole search finds nothing exactly if no single search finds anything
 pub first-none : (found : ℕ → Place) (m : ℕ) → ((i : ℕ) → i < m → found i ≡ Nowhere) → firstOver m found ≡ Nowhere
 unfolding firstOver orElse
 first-none found zero h = refl
@@ -53,7 +53,7 @@ none-first found (suc m) e i h =
     ⊎-elim (none-first found m (or-else-first (firstOver m found) (found m) e) i)
     (λ l. let s : i ≡ m = omega arith in ap found s ∙ or-else-second (firstOver m found) (found m) e) (below-or-not i m)
 
--- a test of some number below m
+-- the same for a test of the numbers below m
 pub some-later : (test : ℕ → Bool) (i : ℕ) → someBelow i test ≡ false → test i ≡ false → someBelow (i + 1) test ≡ false
 unfolding someBelow
 some-later test i none here = ap (λ (m : ℕ). someBelow m test) (add-one i) ∙ ap (λ (t : Bool). t || test i) none ∙ here
@@ -96,7 +96,8 @@ rank-within k b i j hi hj =
 row-below : (k row : ℕ) → 0 < k → row ≤ row * k
 row-below k row h = let l : row * 1 ≤ row * k = mul-le-mul {n₁ = row} {m₁ = 1} {n₂ = row} {m₂ = k} (omega arith) h in omega arith
 
--- what the loops over a ballot know about a place: it lies within the ballot, and its row's number is no larger
+-- the facts about a place that the loops over a ballot need: it lies within the ballots so far, and its row's
+-- number is no larger than the place where the row begins
 pub rank-known : (k b i j : ℕ) → i < k → j < k → ((b * k + i) * k + j < (b + 1) * k * k) × (b * k + i ≤ (b * k + i) * k)
 rank-known k b i j hi hj = (rank-within k b i j hi hj, row-below k (b * k + i) (omega arith))
 
@@ -105,7 +106,7 @@ pub ballot-within : (k n b : ℕ) → b < n → (b + 1) * k * k ≤ n * k * k
 ballot-within k n b h = mul-le-mul {n₁ = (b + 1) * k} {m₁ = k} {n₂ = n * k} {m₂ = k}
     (mul-le-mul {n₁ = b + 1} {m₁ = k} {n₂ = n} {m₂ = k} (omega arith) (omega arith)) (omega arith)
 
--- a byte that is 1 with its opposite, and one that is not
+-- a byte that is 1 together with its opposite is found; any other byte is not
 pub clash-here : (k : ℕ) (xs : List ℕ) (b i j : ℕ) → before k xs b i j ≡ true → before k xs b j i ≡ true
     → notAsymmetricAt k xs b i j ≡ At (rankPlace k b i j)
 unfolding notAsymmetricAt

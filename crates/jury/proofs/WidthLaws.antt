@@ -57,7 +57,7 @@ below-within (suc steps) m h =
 pub below-width : (m : ℕ) → m < 2 ^ widthOf m
 below-width m = below-within m m (omega arith)
 
--- and not below half of that
+-- and at least half of that
 least-step : (m : ℕ) → (0 < m / 2 → 2 ^ widthOf (m / 2 / 2) ≤ m / 2) → 0 < m → 2 ^ widthOf (m / 2) ≤ m
 least-step m ih h =
     ⊎-elim (λ e. rw (width-of-zero (m / 2) e) (omega arith))
@@ -73,7 +73,7 @@ least-within (suc steps) m h l = least-step m (least-within steps (m / 2) (omega
 pub least-width : (m : ℕ) → 0 < m → 2 ^ (widthOf m - 1) ≤ m
 least-width m h = rw (width-half m h, sub-one-suc (widthOf (m / 2))) (least-within m m (omega arith) h)
 
--- up to 255 ballots, the width is at most 8
+-- the width of a number up to 255 is at most 8
 pub width-most : (m : ℕ) → m ≤ 255 → widthOf m ≤ 8
 width-most m h = ⊎-elim (λ e. rw (width-of-zero m e) (omega arith)) most (eq-zero-or-pos m)
   where

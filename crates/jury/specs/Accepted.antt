@@ -1,5 +1,5 @@
--- Accepted ballots, as facts. `AcceptedLaws` of proofs/ shows that these facts hold exactly if the tests 1, 4, 5, and
--- 6 or 11 and 12, pass.
+-- Accepted ballots, as facts. `AcceptedLaws` of proofs/ shows that these facts hold exactly if none of the reasons
+-- 1, 4, 5, 6 (grades), 11 and 12 (rankings) applies.
 use mathlib.Core.Path.{_≡_}
 use mathlib.Core.Bool.{true, false}
 use mathlib.Core.List.{List}
@@ -11,8 +11,8 @@ use Rattle.jury.specs.Ballots.{ones}
 use Rattle.jury.specs.Rankings.{before}
 use Rattle.jury.specs.WeakOrder.{StrictWeakOrder}
 
--- The shape is within its limits, the length is I, all bytes are bits (past the end `getD` gives 0). Every row of
--- grades has a single 1, and every ranking is a strict weak order.
+-- The shape is within its limits, there are I bytes, and all of them are bits (past the end `getD` gives 0). Every
+-- row of grades has a single 1, and every ranking is a strict weak order.
 pub record AcceptedBallots (s : Shape) (xs : List ℕ) : Type 0 where
   pub within : withinLimits s ≡ true
   pub size : length xs ≡ ballotBytes s

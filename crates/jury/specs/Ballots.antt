@@ -18,27 +18,28 @@ unfoldable pub ones : List ℕ → ℕ
 ones [] = 0
 ones (x ∷ xs) = cond (eqb x 1) (suc (ones xs)) (ones xs)
 
--- The first rows of d bytes each. Rows, and ballots, follow each other without gaps.
+-- `rowsOf d rows xs`: the first `rows` rows of xs, each of d bytes. There are no gaps between rows, nor between
+-- ballots.
 unfoldable pub rowsOf : ℕ → ℕ → List ℕ → List (List ℕ)
 rowsOf d zero xs = []
 rowsOf d (suc rows) xs = take d xs ∷ rowsOf d rows (drop d xs)
 
--- The place of the first row that has no 1 or several, where the first row here has place i.
+-- The place of the first row that has no 1 or several. The first of these rows has place i.
 unfoldable pub firstBadRow : ℕ → List (List ℕ) → Place
 firstBadRow i [] = Nowhere
 firstBadRow i (row ∷ rows) = cond (eqb (ones row) 1) (firstBadRow (suc i) rows) (At i)
 
--- The test of graded ballots: 6.
+-- The reasons of graded ballots: only 6.
 unfoldable pub gradedReasons : Shape → List ℕ → List (Option Reason)
 gradedReasons s xs = foundAt 6 (firstBadRow 0 (rowsOf (s .grades) (s .ballots * s .candidates) xs)) ∷ []
 
--- The tests of rankings: 11 over all ballots, then 12.
+-- The reasons of rankings: 11 over all ballots, then 12.
 unfoldable pub rankedReasons : Shape → List ℕ → List (Option Reason)
 rankedReasons s xs =
     foundAt 11 (firstNotAsymmetric (s .candidates) (s .ballots) xs)
     ∷ foundAt 12 (firstNotWeakOrder (s .candidates) (s .ballots) xs) ∷ []
 
--- The tests of ballots in checking order: 4, then 5 over all bytes, then those of the shape's kind.
+-- The reasons of ballots, in the order of their tests: 4, then 5 over all bytes, then those of the shape's kind.
 unfoldable pub ballotReasons : Shape → List ℕ → List (Option Reason)
 ballotReasons s xs =
     unless (eqb (length xs) (ballotBytes s)) 4

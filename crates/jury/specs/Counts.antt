@@ -9,8 +9,8 @@ use Rattle.jury.specs.declared.shape.Shape.{Shape}
 use Rattle.basics.specs.Lists.{sum}
 use Rattle.basics.specs.Lists.{tabulate}
 
--- The byte of ballot b, candidate c and grade g. A ballot has a row for each candidate, a row a byte for each grade,
--- best first.
+-- The byte of ballot b, candidate c and grade g. A ballot has a row for each candidate, and a row has a byte for
+-- each grade, best first.
 unfoldable pub byteOf : Shape → List ℕ → ℕ → ℕ → ℕ → ℕ
 byteOf s xs b c g = getD xs ((b * s .candidates + c) * s .grades + g) 0
 
@@ -23,11 +23,11 @@ countUpTo s xs (suc b) c g = countUpTo s xs b c g + cond (eqb (byteOf s xs b c g
 unfoldable pub countOf : Shape → List ℕ → ℕ → ℕ → ℕ
 countOf s xs c g = countUpTo s xs (s .ballots) c g
 
--- The matrix of grade counts: a row for each candidate, and in it a count for each grade, best first.
+-- The matrix of grade counts: a row for each candidate, and in each row a count for each grade, best first.
 unfoldable pub countsOf : Shape → List ℕ → List (List ℕ)
 countsOf s xs = tabulate (s .candidates) (λ c. tabulate (s .grades) (countOf s xs c))
 
--- The same as the program keeps it, in an array of eight rows of seven, 0 outside the shape.
+-- The same matrix in the program's array of eight rows of seven counts, which has 0 outside the shape.
 unfoldable pub countArray : Shape → List ℕ → List (List ℕ)
 countArray s xs =
     tabulate 8 (λ c. tabulate 7 (λ g. cond (ltb c (s .candidates) && ltb g (s .grades)) (countOf s xs c g) 0))

@@ -19,7 +19,7 @@ pub record Reason : Type 0 where
   pub number : ℕ
   pub place : ℕ
 
--- The reason of that number at that place.
+-- A reason from its number and its place.
 unfoldable pub reasonAt : ℕ → ℕ → Reason
 reasonAt number place = record { number = number; place = place }
 
@@ -51,23 +51,23 @@ unfoldable pub refusedFor : Verdict → Option Reason
 refusedFor Accepted = none
 refusedFor (Refused r) = some (reasonOf r)
 
--- The reason for which the constructor of shapes refuses, if it does.
+-- The reason for which the constructor of shapes refuses: 1, or none if it does not refuse.
 unfoldable pub shapedFor : ShapeResult → Option Reason
 shapedFor (Within s) = none
 shapedFor Outside = some (reasonAt 1 0)
 
--- The reason of that number, which has no place, unless its test passes.
+-- No reason if the test passes; else the reason with this number. It has no place, so its place is 0.
 unfoldable pub unless : Bool → ℕ → Option Reason
 unless true number = none
 unless false number = some (reasonAt number 0)
 
--- The reason of that number at the place that was found, if one was.
+-- No reason if a search found nothing; else the reason with this number, at the place that was found.
 unfoldable pub foundAt : ℕ → Place → Option Reason
 foundAt number Nowhere = none
 foundAt number (At place) = some (reasonAt number place)
 
--- The number and place [order] of each answer of the gate layer's test: 2 if the numbers are no whole gates, or the
--- gates too few or too many; 3 at the first bad gate.
+-- The reason [order] for each answer of the gate layer's test: 2 if the table has no whole number of gates, or too
+-- few or too many gates; 3 at the first bad gate.
 unfoldable pub listReason : ListCheck → Option Reason
 listReason (tested.Accepted gates conditional) = none
 listReason tested.PartOfAGate = some (reasonAt 2 0)
@@ -75,7 +75,7 @@ listReason tested.TooFewGates = some (reasonAt 2 0)
 listReason tested.TooManyGates = some (reasonAt 2 0)
 listReason (tested.BadGate g) = some (reasonAt 3 g)
 
--- The first reason that applies, in a list of tests.
+-- The first reason that applies, from the outcomes of the tests in their order.
 unfoldable pub firstOf : List (Option Reason) → Option Reason
 firstOf [] = none
 firstOf (none ∷ rest) = firstOf rest

@@ -4,7 +4,7 @@ use Prim.Native.Nat.{ℕ, _*_}
 use lib.Dec.{leb, eqb}
 use Rattle.jury.specs.declared.shape.Shape.{Shape}
 
--- A shape without grades is a ranking: its jurors rank the candidates (request 2.2).
+-- With 0 grades, the jurors rank the candidates (request 2.2).
 unfoldable pub isRanking : Shape → Bool
 isRanking s = eqb (s .grades) 0
 
@@ -26,10 +26,10 @@ rankedLimits s =
 unfoldable pub withinLimits : Shape → Bool
 withinLimits s = gradedLimits s || rankedLimits s
 
--- The bytes of a row: one for each grade, or one for each candidate in a ranking.
+-- How many bytes a row has: one for each grade or, in a ranking, one for each candidate.
 unfoldable pub columns : Shape → ℕ
 columns s = cond (isRanking s) (s .candidates) (s .grades)
 
--- I: a byte for each ballot, candidate and column.
+-- I, the number of ballot bytes: one for each ballot, candidate and column.
 unfoldable pub ballotBytes : Shape → ℕ
 ballotBytes s = s .ballots * s .candidates * columns s

@@ -7,7 +7,7 @@ use Rattle.jury.specs.declared.shape.ShapeResult.the-variants.{Within, O
 use Rattle.jury.specs.Shape.{withinLimits}
 use Rattle.jury.specs.Reason.{shapedFor, unless}
 
--- A shape within the limits is answered itself; any other is refused for reason 1.
+-- The answer is s itself if s is within the limits; otherwise it is a refusal, for reason 1.
 pub record Shaped (s : Shape) (r : ShapeResult) : Type 0 where
   pub result : r ≡ cond (withinLimits s) (Within s) Outside
   pub reason : shapedFor r ≡ unless (withinLimits s) 1

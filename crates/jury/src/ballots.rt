@@ -32,7 +32,7 @@ pub fn test(shape: Shape, ballots: &[u8]) -> Verdict
     }
 }
 
-// Reason 6, of graded ballots.
+// Tests graded ballots for reason 6.
 fn test_grades(shape: Shape, ballots: &[u8]) -> Verdict
     requires { ⌜ GradedBits shape (now ballots) ⌝ }
     ensures { λ r. ⌜ refusedFor r ≡ firstOf (gradedReasons shape (now (ballots .entry))) ⌝ }
@@ -43,7 +43,7 @@ fn test_grades(shape: Shape, ballots: &[u8]) -> Verdict
     }
 }
 
-// Reasons 11 and 12, of rankings. 11 looks at all ballots before 12 begins.
+// Tests rankings: all ballots for reason 11, then all ballots for 12.
 fn test_rankings(shape: Shape, ballots: &[u8]) -> Verdict
     requires { ⌜ length (now ballots) ≡ shape .ballots * shape .candidates * shape .candidates ⌝ }
     ensures { λ r. ⌜ refusedFor r ≡ firstOf (rankedReasons shape (now (ballots .entry))) ⌝ }
@@ -61,7 +61,7 @@ fn test_rankings(shape: Shape, ballots: &[u8]) -> Verdict
     }
 }
 
-// The first row of d bytes that has no 1, or more than one.
+// The place of the first row, of d bytes, that has no 1 or several.
 fn first_bad_row(bytes: &[u8], d: usize, rows: usize) -> Place
     requires { ⌜ RowsOfBits (now bytes) d rows ⌝ }
     ensures { λ r. ⌜ r ≡ firstBadRow 0 (rowsOf d rows (now (bytes .entry))) ⌝ }
@@ -79,7 +79,7 @@ fn first_bad_row(bytes: &[u8], d: usize, rows: usize) -> Place
     Place::Nowhere
 }
 
-// How many of these bytes, which are 0 or 1, are 1: their sum.
+// How many of the bytes are 1. Each is 0 or 1, so this is their sum.
 fn ones_in(bytes: &[u8]) -> usize
     requires { ⌜ ((i : ℕ) → i < length (now bytes) → getD (now bytes) i 0 ≤ 1) ⌝ }
     ensures { λ r. ⌜ r ≡ ones (now (bytes .entry)) ⌝ }

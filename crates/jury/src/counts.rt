@@ -1,4 +1,4 @@
-// The matrix of grade counts, one row a candidate, filled ballot by ballot.
+// The matrix of grade counts, with one row for each candidate, filled ballot by ballot.
 use crate::shape::Shape;
 ghost use mathlib.Core.Path.{_≡_};
 ghost use Rattle.jury.specs.Accepted.{GradedBallots};
@@ -24,8 +24,8 @@ pub fn counts(shape: Shape, ballots: &[u8]) -> [[u16; 7]; 8]
     counts
 }
 
-// Adds one ballot, k rows of d bytes, to the counts. They are lent and not passed by value: the processor would wait
-// at each row for a copy of what was just stored.
+// Adds one ballot, k rows of d bytes, to the counts. They are lent, not passed by value: copying what was just
+// stored would stall the processor at each row.
 fn add_ballot(counts: &mut [[u16; 7]; 8], ballot: &[u8], k: usize, d: usize)
     requires { ⌜ BallotReady (now counts) (now ballot) k d ⌝ }
     ensures { λ _. ⌜ now (counts .exit) ≡ plusBallot k d (now (counts .entry)) (now (ballot .entry)) ⌝ }
@@ -40,7 +40,8 @@ fn add_ballot(counts: &mut [[u16; 7]; 8], ballot: &[u8], k: usize, d: usize)
     }
 }
 
-// Adds one row of a ballot to the counts of one candidate. A byte is the 0 or 1 that it adds.
+// Adds one row of a ballot to the counts of one candidate. Each byte is added as it is: in accepted ballots it is 0
+// or 1.
 fn add_row(counts: &mut [u16; 7], row: &[u8])
     requires { ⌜ RowReady (now counts) (now row) ⌝ }
     ensures { λ _. ⌜ now (counts .exit) ≡ plusRow (now (counts .entry)) (now (row .entry)) ⌝ }

@@ -21,7 +21,7 @@ pub fn first_not_asymmetric(ballots: &[u8], k: usize, n: usize) -> Place
     Place::Nowhere
 }
 
-// The first such byte of ballot b.
+// Reason 11 in ballot b only.
 fn not_asymmetric_in_ballot(ballots: &[u8], k: usize, b: usize) -> Place
     requires { ⌜ (b + 1) * k * k ≤ length (now ballots) ⌝ }
     ensures { λ r. ⌜ r ≡ spec.notAsymmetricInBallot k (now (ballots .entry)) b ⌝ }
@@ -37,7 +37,7 @@ fn not_asymmetric_in_ballot(ballots: &[u8], k: usize, b: usize) -> Place
     Place::Nowhere
 }
 
-// The first such byte of row i of ballot b.
+// Reason 11 in row i of ballot b only.
 fn not_asymmetric_in_row(ballots: &[u8], k: usize, b: usize, i: usize) -> Place
     requires { ⌜ ((b + 1) * k * k ≤ length (now ballots)) × (i < k) ⌝ }
     ensures { λ r. ⌜ r ≡ spec.notAsymmetricInRow k (now (ballots .entry)) b i ⌝ }
@@ -52,7 +52,8 @@ fn not_asymmetric_in_row(ballots: &[u8], k: usize, b: usize, i: usize) -> Place
     Place::Nowhere
 }
 
-// Reason 12: the first ballot in which i is before j and a third candidate is not after i and not before j.
+// Reason 12: the first ballot in which some i is before some j, and a third candidate is not after i and not before
+// j.
 pub fn first_not_weak_order(ballots: &[u8], k: usize, n: usize) -> Place
     requires { ⌜ length (now ballots) ≡ n * k * k ⌝ }
     ensures { λ r. ⌜ r ≡ spec.firstNotWeakOrder k n (now (ballots .entry)) ⌝ }
@@ -67,7 +68,7 @@ pub fn first_not_weak_order(ballots: &[u8], k: usize, n: usize) -> Place
     Place::Nowhere
 }
 
-// Whether ballot b is such a ballot.
+// Whether reason 12 applies to ballot b.
 fn not_weak_order(ballots: &[u8], k: usize, b: usize) -> bool
     requires { ⌜ (b + 1) * k * k ≤ length (now ballots) ⌝ }
     ensures { λ r. ⌜ r ≡ spec.notWeakOrder k (now (ballots .entry)) b ⌝ }
@@ -82,7 +83,7 @@ fn not_weak_order(ballots: &[u8], k: usize, b: usize) -> bool
     false
 }
 
-// Whether i is before some j while a third candidate is not after i and not before j.
+// Whether i is before some j, and a third candidate is not after i and not before j.
 fn not_weak_order_after(ballots: &[u8], k: usize, b: usize, i: usize) -> bool
     requires { ⌜ ((b + 1) * k * k ≤ length (now ballots)) × (i < k) ⌝ }
     ensures { λ r. ⌜ r ≡ spec.notWeakOrderAfter k (now (ballots .entry)) b i ⌝ }

@@ -2,8 +2,8 @@
 ghost use mathlib.Core.Path.{_≡_};
 ghost use Rattle.jury.specs.Reason.{reasonOf};
 
-// In checking order 1 to 10, with 11 and 12 of rankings after 6; then 13 to 15 of the urn, 16 to 18 of the trustees,
-// 19 and 20 of the dispatcher. The number in a case is the place.
+// First the reasons of a run, in the order of its tests; then those of the urn (13 to 15), of the trustees (16 to
+// 18) and of the dispatcher (19, 20). If a case holds a number, that is the place.
 pub enum Refusal {
     Shape,
     Table,
@@ -27,7 +27,7 @@ pub enum Refusal {
     GatesPerRound,
 }
 
-// The outcome of a test: passed, or the reason.
+// The outcome of a test: it passed, or the reason why not.
 pub enum Verdict {
     Accepted,
     Refused(Refusal),

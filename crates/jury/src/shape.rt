@@ -1,12 +1,13 @@
-// The shape of a jury: how many candidates, grades and ballots, and their limits. Without grades, the candidates are
-// ranked.
+// The shape of a jury: its numbers of candidates, grades and ballots, and their limits. With 0 grades, the jurors
+// rank the candidates.
 ghost use mathlib.Core.Path.{_≡_};
 ghost use lib.Dec.{T};
 ghost use Rattle.jury.specs.Shape.{isRanking, gradedLimits, rankedLimits, withinLimits, ballotBytes};
 ghost use Rattle.jury.specs.Shaped.{Shaped};
 ghost use Rattle.jury.specs.Shape as spec;
 
-// Candidates are blends [limits]. The numbers can also hold what lies outside the limits, so that it can be refused.
+// A candidate is a blend. The fields can also hold numbers outside the limits [limits], so that a call can refuse
+// them.
 pub struct Shape {
     pub candidates: usize,
     pub grades: usize,
@@ -32,7 +33,7 @@ impl Shape {
 
     pub const MOST_BALLOTS: usize = 255;
 
-    // A shape within the limits, or its refusal.
+    // The shape with these numbers, or `Outside` if one of them is outside its limits.
     pub fn new(candidates: usize, grades: usize, ballots: usize) -> ShapeResult
         ensures { λ r. ⌜ Shaped (record { candidates = candidates; grades = grades; ballots = ballots }) r ⌝ }
     {
@@ -48,7 +49,7 @@ impl Shape {
         }
     }
 
-    // Whether the candidates are ranked.
+    // Whether the jurors rank the candidates.
     pub fn is_ranking(self) -> bool
         ensures { λ r. ⌜ r ≡ isRanking self ⌝ }
     {
@@ -78,7 +79,8 @@ impl Shape {
             && self.ballots <= Shape::MOST_BALLOTS
     }
 
-    // Whether a shape is within the limits of either kind. Its fields are public, so it may not come from `new`.
+    // Whether a shape is within the limits of either kind. The fields are public, so not every shape comes from
+    // `new`.
     pub fn is_within_limits(self) -> bool
         ensures { λ r. ⌜ r ≡ withinLimits self ⌝ }
     {
@@ -89,7 +91,7 @@ impl Shape {
         }
     }
 
-    // The bytes of a row: one for each grade, or one for each candidate in a ranking.
+    // How many bytes a row has: one for each grade or, in a ranking, one for each candidate.
     pub fn columns(self) -> usize
         ensures { λ r. ⌜ r ≡ spec.columns self ⌝ }
     {

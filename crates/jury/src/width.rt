@@ -2,7 +2,7 @@
 ghost use mathlib.Core.Path.{_≡_};
 ghost use Rattle.jury.specs.Width.{widthOf};
 
-// How many binary digits n has: none for 0.
+// How many binary digits n has; 0 has none.
 pub fn width(n: usize) -> usize
     ensures { λ r. ⌜ r ≡ widthOf n ⌝ }
 {

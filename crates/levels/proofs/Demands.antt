@@ -1,4 +1,4 @@
--- What is shown of the call [levels].
+-- Proofs of what holds for the call [levels].
 -- Assumes nothing.
 use mathlib.Core.Path.{_≡_, _∙_, refl, sym, ap, subst}
 use mathlib.Core.Bool.{Bool, cond}
@@ -48,7 +48,7 @@ levels-number s table levels r e =
     refused-fine numbers (levelsOutcome s table levels) r
     (outcome-fine numbers _ _ (first-fine numbers (levelsReasons s table levels) (all-numbers s table levels))) e
 
--- what is known of the reasons, from the answer
+-- the reasons, from the answer
 refused-by : (s : Shape) (table levels : List ℕ) (r : Reason) → levelsOutcome s table levels ≡ refused r
     → firstOf (levelsReasons s table levels) ≡ some r
 unfolding levelsOutcome
@@ -78,7 +78,7 @@ memory s table levels =
       lengths = (written-length s table levels, tt);
     }
 
--- gate g's level is that of its operands
+-- the level of gate g is computed from the levels of its operands
 level-at : (inputs : ℕ) (ls : List ℕ) (n : ℕ) (gs : List Gate) → Leveled inputs ls n gs
     → (g : ℕ) (x : Gate) (rest : List Gate) → drop g gs ≡ x ∷ rest → getD ls (n + g) 0 ≡ gateLevel inputs ls x
 level-at inputs ls n [] l zero x rest e = let z : _≡_ {A = ℕ} 0 1 = cc in absurd (omega arith)
@@ -132,7 +132,7 @@ module _ (s : Shape) (table levels : List ℕ) (depths : Depths) (e : levelsOutc
       ∙ level-at (ballotBytes s) (levelsWritten s table levels) 0 (gatesOf table) leveled g (gateAt table g)
       (drop (suc g) (gatesOf table)) (gates-from table g (omega (arith, gates-own)))
 
-  -- an operand with its bound
+  -- the level of an operand is below the gate's, as `OperandBelow` says
   operand : (g x : ℕ) → g < depths .gates → wireLevel (ballotBytes s) (levelsWritten s table levels) x
       + cond (conditionalOf (gateAt table g .kind)) 1 0
       ≤ gateLevel (ballotBytes s) (levelsWritten s table levels) (gateAt table g) → OperandBelow s table levels g x

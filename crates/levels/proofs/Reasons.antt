@@ -1,4 +1,4 @@
--- What the call [levels] answers and leaves, by the outcomes of its tests.
+-- What the call [levels] answers and leaves, from the outcomes of its tests.
 -- Assumes nothing.
 use mathlib.Core.Path.{_≡_, _∙_, refl, sym, ap}
 use mathlib.Core.Bool.{Bool, true, false}
@@ -75,7 +75,7 @@ module _ (s : Shape) (table levels : List ℕ) where
   unfolding orElse unless firstOf
   all-pass e h = by none true e (eq-eqb (length levels) (length (gatesOf table)) h)
 
-  -- and back: which tests an accepted call has passed
+  -- the converse: an accepted call has passed both tests
   pub both-passed : firstOf (levelsReasons s table levels) ≡ none → (firstOf (testReasons s table) ≡ none)
       × (length levels ≡ length (gatesOf table))
   unfolding orElse unless firstOf
@@ -102,7 +102,7 @@ module _ (s : Shape) (table levels : List ℕ) where
   unfolding levelsOutcome levelsWritten outcome afterwards
   call-accepted e = rw e
 
--- two parts make the result of a call
+-- two results are equal if their two parts are
 pub same-result : {answer answer′ : Outcome Depths} {levels levels′ : List ℕ} → answer ≡ answer′ → levels ≡ levels′
     → _≡_ {A = LevelsResult} (record { answer = answer; levels = levels }) (record { answer = answer′; levels = levels′ })
 same-result {answer} {answer′} {levels} e f =

@@ -1,4 +1,4 @@
--- What the calls by levels answer, by the numbers of the reasons.
+-- What the calls that use levels answer: a reason, or G, C and R.
 use Prim.Native.Nat.{ℕ}
 use lib.ListN.{length}
 use mathlib.Core.List.{List}
@@ -12,8 +12,8 @@ use Rattle.levels.specs.declared.answer.LevelRefusal.the-variants.{OfCor
 use Rattle.levels.specs.declared.answer.Answer.{Answer}
 use Rattle.levels.specs.declared.answer.Answer.the-variants.{Accepted, Refused}
 
--- The number and place of each case. Our own are 200, a level table that does not fit the list; 201, a round that the
--- list does not have; 202, sums that cannot have been heard.
+-- The number and place of each case. Our own are 200 (the level table does not fit the list), 201 (the list has no
+-- such round) and 202 (the sums that a trustee heard are not two bits for each conditional gate).
 unfoldable pub levelReasonOf : LevelRefusal → Reason
 levelReasonOf (OfCore r) = reasonOf r
 levelReasonOf Levels = reasonAt 200 0
@@ -26,10 +26,11 @@ pub record Depths : Type 0 where
   pub conditional : ℕ
   pub rounds : ℕ
 
--- Those of a list with this many inputs.
+-- G, C and R of a list with this many inputs.
 unfoldable pub depthsOf : ℕ → List Gate → Depths
 depthsOf inputs gs = record { gates = length gs; conditional = conditionalCount gs; rounds = roundsOf inputs gs }
 
+-- What each case of the program's enum means.
 unfoldable pub depthsOutcome : Answer → Outcome Depths
 depthsOutcome (Accepted gates conditional rounds) =
     accepted (record { gates = gates; conditional = conditional; rounds = rounds })

@@ -1,5 +1,5 @@
--- What is shown of the call [levels], about the definitions that its contract equates with its answer and the level
--- table.
+-- What holds for the call [levels], stated about the definitions that its contract equates with its answer and with
+-- the level table.
 use mathlib.Core.Path.{_≡_}
 use mathlib.Core.Bool.{true}
 use mathlib.Core.List.{List, [], _∷_}
@@ -31,8 +31,8 @@ pub record OperandBelow (s : Shape) (table levels : List ℕ) (g x : ℕ) : Type
   pub below : conditionalOf (gateAt table g .kind) ≡ true
       → wireLevel (ballotBytes s) (levelsWritten s table levels) x < getD (levelsWritten s table levels) g 0
 
--- For an accepted call: G, C and R are the list's own, R is at most C, no level is above R, and opening level by
--- level gives every operand before it is needed.
+-- For an accepted call: G, C and R are the list's own, R is at most C, and no level is above R. If gates are opened
+-- level by level, every operand is there before its gate needs it.
 pub record Depth (s : Shape) (table levels : List ℕ) (depths : Depths) : Type 0 where
   pub own : depths ≡ depthsOf (ballotBytes s) (gatesOf table)
   pub few : depths .rounds ≤ depths .conditional

@@ -13,24 +13,27 @@ use Rattle.tally.specs.Answer.{Outcome, outcome, afterwards}
 use Rattle.tally.specs.Test.{testReasons}
 use Rattle.levels.specs.Answer.{Depths, depthsOf}
 
--- The reasons in checking order: 1, 2 and 3 as in the test of a list, then 200 if the table has not one number for
--- each gate.
+-- The reasons, in the order of their tests: 1, 2 and 3 as in the test of a list, then 200 if the level table has
+-- not exactly one number for each gate.
 unfoldable pub levelsReasons : Shape → List ℕ → List ℕ → List (Option Reason)
 levelsReasons s table levels = testReasons s table ++ unless (eqb (length levels) (length (gatesOf table))) 200 ∷ []
 
+-- The answer: the first reason, or G, C and R.
 unfoldable pub levelsOutcome : Shape → List ℕ → List ℕ → Outcome Depths
 levelsOutcome s table levels =
     outcome (firstOf (levelsReasons s table levels)) (depthsOf (ballotBytes s) (gatesOf table))
 
+-- The level table after the call: the gates' levels, or on a refusal its old contents.
 unfoldable pub levelsWritten : Shape → List ℕ → List ℕ → List ℕ
 levelsWritten s table levels =
     afterwards (firstOf (levelsReasons s table levels)) (levelsOf (ballotBytes s) (gatesOf table)) levels
 
--- What a call leaves: its answer and the table.
+-- What a call leaves: its answer and the level table.
 pub record LevelsResult : Type 0 where
   pub answer : Outcome Depths
   pub levels : List ℕ
 
+-- The contract of `write` is an equation with this.
 abbrev pub levelsResult : Shape → List ℕ → List ℕ → LevelsResult
 levelsResult s table levels =
     record { answer = levelsOutcome s table levels; levels = levelsWritten s table levels }

@@ -1,4 +1,4 @@
-// What the calls by levels answer: `write` here, and those of a trustee on its own machine.
+// What the calls that use levels answer: `write` here, and the calls of a trustee on its own machine.
 use jury::reason::Refusal;
 ghost use mathlib.Core.Path.{_≡_};
 ghost use Rattle.levels.specs.Answer.{levelReasonOf};

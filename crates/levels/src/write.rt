@@ -7,7 +7,7 @@ ghost use mathlib.Core.Path.{_≡_};
 ghost use Rattle.levels.specs.Answer.{depthsOutcome};
 ghost use Rattle.levels.specs.Levels.{levelsResult};
 
-// Writes the level of each gate of a list, whoever wrote it.
+// Writes the level of each gate of a list, whoever wrote the list.
 pub fn write(shape: Shape, table: &[u32], levels: &mut [u32]) -> Answer
     ensures { λ r.
         ⌜ record { answer = depthsOutcome r; levels = now (levels .exit) }

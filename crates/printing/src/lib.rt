@@ -1,8 +1,8 @@
-// What the two programs print with.
+// The functions with which the two programs print.
 use libc::STDOUT_FILENO;
 ghost use Prim.Native.Nat.{_<_};
 
-// A byte as a wider number that is known to be small.
+// A byte as a wider number. The contract says that it is still below 256.
 fn wide(x: u8) -> u32
     ensures { λ r. ⌜ r < 256 ⌝ }
 {
@@ -13,13 +13,13 @@ pub fn print_text(text: &[u8]) {
     io::write_all(STDOUT_FILENO, text);
 }
 
-// A space and a number.
+// Prints a space and a number.
 pub fn print_number(n: usize) {
     io::write_all(STDOUT_FILENO, b" ");
     io::print_decimal(STDOUT_FILENO, n as u64);
 }
 
-// The line of a refusal: its number and its place.
+// Prints the line of a refusal: the number and the place.
 pub fn print_refused(number: usize, place: usize) {
     print_text(b"refused");
     print_number(number);
@@ -27,7 +27,7 @@ pub fn print_refused(number: usize, place: usize) {
     print_text(b"\n");
 }
 
-// A line: the text, the bytes as numbers, each with a space before it, and a line feed.
+// Prints a line: the text, the bytes as numbers, each with a space before it, and a line feed.
 pub fn print_bytes(text: &[u8], bytes: &[u8]) {
     io::write_all(STDOUT_FILENO, text);
     let mut i = 0;

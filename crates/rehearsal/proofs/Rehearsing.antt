@@ -41,7 +41,7 @@ bits-take (suc n) [] b i = omega arith
 bits-take (suc n) (x ∷ xs) b zero = b 0
 bits-take (suc n) (x ∷ xs) b (suc i) = bits-take n xs (λ (j : ℕ). b (suc j)) i
 
--- the first bytes of a buffer that is long enough
+-- a buffer that is long enough, cut to its first n bytes
 pub cut-long : (n : ℕ) (xs : List ℕ) → n ≤ length xs → n ≡ length (take n xs)
 cut-long n xs h = omega (arith, length-take n xs)
 
@@ -103,7 +103,7 @@ module _ (s : Shape) (list : List ℕ) (gates conditional : ℕ) (tape wires boa
         sym (ap (λ (o : Option Reason). outcome o (printedOf s ballots))
         (outcome-refused o (sizeOf (ownList s)) (reasonOf reason) (sym (e ∙ answers))))
 
-    -- the closing bytes on the board, whatever follows
+    -- the closing bytes are on the board, whatever comes after them
     placed : (b rest : List ℕ) → b ≡ runResult s list ballots tape′ wires′ board′ .board → firstOf (ballotReasons s ballots) ≡ none
         → take (s .candidates) (drop (conditionalCount (ownList s)) (b ++ rest)) ≡ closingFor s ballots
     placed b rest e none-applies =
@@ -135,7 +135,7 @@ module _ (s : Shape) (list : List ℕ) (gates conditional : ℕ) (tape wires boa
         (ap (λ (m : ℕ). take (s .candidates) (drop m (b ++ rest))) n ∙ placed b rest f h)
         ∙ sym (ap (λ (o : Option Reason). outcome o (printedOf s ballots)) h)
 
-    -- they lie on the board
+    -- the closing bytes end within the board
     pub winners-end : (g c : ℕ) (b rest : List ℕ) → outcomeOf (answer.Accepted g c)
         ≡ runResult s list ballots (take conditional tape) (take (inputs + gates) wires)
         (take (conditional + s .candidates) board) .answer
@@ -155,7 +155,7 @@ module _ (s : Shape) (list : List ℕ) (gates conditional : ℕ) (tape wires boa
         ap length (f ∙ ap (λ (l : List ℕ). runResult s l ballots tape′ wires′ board′ .board) (u .list-is)) ∙ p .0 in
         omega (arith, length-append b rest)
 
--- after an accepted write, the list and the buffers are what the run asks for
+-- after an accepted write, the list and the buffers are what the run requires
 module _ (s : Shape) (table tape wires board : List ℕ) (l : Buffers table tape wires board) (g c : ℕ)
     (e : outcomeOf (answer.Accepted g c) ≡ writeOutcome s table) where
   passed : WritePassed s table (record { gates = g; conditional = c })
@@ -197,7 +197,7 @@ module _ (s : Shape) (table tape wires board : List ℕ) (l : Buffers table tape
       (first-append (writeReasons (shapeOfInput input) table) ballots
       ∙ ap (λ (o : Option Reason). orElse o (firstOf ballots)) none-applies))
 
--- a refused write decides
+-- if the write is refused, its reason is the answer
 pub by-the-write : (input table : List ℕ) (s : Shape) (reason : Refusal) → s ≡ shapeOfInput input
     → outcomeOf (answer.Refused reason) ≡ writeOutcome s table → refused (reasonOf reason)
     ≡ rehearsalOutcome input table
@@ -210,7 +210,7 @@ by-the-write input table s reason f e =
     (first-append (writeReasons (shapeOfInput input) table) ballots
     ∙ ap (λ (o : Option Reason). orElse o (firstOf ballots)) applies))
 
--- a shape outside the limits is refused as its write would be
+-- a shape outside the limits is refused as a write of its list would be
 pub by-the-limits : (input table : List ℕ) → withinLimits (shapeOfInput input) ≡ false → refused (reasonOf refusal.Shape)
     ≡ rehearsalOutcome input table
 unfolding outcomeOf reasonOf

@@ -1,3 +1,3 @@
--- What the functions of the rehearsal ask and promise each other.
+-- What the functions of the rehearsal require of each other and promise.
 pub mod Buffers
 pub mod Rehearses

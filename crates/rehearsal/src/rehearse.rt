@@ -28,7 +28,7 @@ fn byte(input: &[u8], i: usize) -> usize
     }
 }
 
-// The shape in the first three bytes, or that it is outside the limits.
+// The shape in the first three bytes, or `Outside` if it is outside the limits.
 fn shape(input: &[u8]) -> ShapeResult
     ensures { λ r.
         ⌜ r ≡ cond (withinLimits (shapeOfInput (now (input .entry))))

@@ -1,4 +1,5 @@
--- The tests that compare two candidates: each path through them, and what the answer says about the sequences.
+-- The comparison of two candidates: its answer on each path through the code, and that the answer says whose
+-- sequence comes first.
 -- Assumes nothing.
 use mathlib.Core.Path.{_≡_, _∙_, sym}
 use mathlib.Core.Bool.{Bool, false}
@@ -28,7 +29,7 @@ module _ (n : ℕ) (sums : Sums) where
   half-second h = simp (lt-leb n (2 * sums .a) h)
 
 module _ (n : ℕ) (lower upper : Sums) where
-  -- a larger at the lower difference
+  -- a is larger at the lower difference
   pub first-not-smaller : lower .b < lower .a → upper .b ≤ upper .a → leb (upper .b) (upper .a) ≡ decidedBy n lower upper
   unfolding decidedBy
   first-not-smaller l u = simp (lt-ltb (lower .b) (lower .a) l, le-leb (upper .b) (upper .a) u)
@@ -37,7 +38,7 @@ module _ (n : ℕ) (lower upper : Sums) where
   unfolding decidedBy
   first-smaller l u = simp (lt-ltb (lower .b) (lower .a) l, lt-leb (upper .b) (upper .a) u)
 
-  -- b larger there
+  -- b is larger at the lower difference
   pub second-smaller : lower .a < lower .b → upper .b < upper .a → ltb (lower .b + upper .b) n ≡ decidedBy n lower upper
   unfolding decidedBy
   second-smaller l u = simp (le-ltb (lower .b) (lower .a) (omega arith), lt-ltb (lower .a) (lower .b) l, lt-ltb (upper .b) (upper .a) u)
@@ -46,7 +47,7 @@ module _ (n : ℕ) (lower upper : Sums) where
   unfolding decidedBy
   second-not-smaller l u = simp (le-ltb (lower .b) (lower .a) (omega arith), lt-ltb (lower .a) (lower .b) l, le-ltb (upper .b) (upper .a) u)
 
-  -- neither
+  -- the sums are equal at the lower difference
   pub neither-larger : lower .a ≤ lower .b → lower .b ≤ lower .a → ltb (upper .b) (upper .a) ≡ decidedBy n lower upper
   unfolding decidedBy
   neither-larger l u = simp (le-ltb (lower .b) (lower .a) l, le-ltb (lower .a) (lower .b) u)

@@ -17,7 +17,7 @@ use Rattle.rule_judgment.proofs.Positions.{gradeAt, grade-below, grade-
 use Rattle.rule_judgment.proofs.Outward.{down, turn, turn-within, position-turn}
 use Rattle.rule_judgment.proofs.SumRule.{struckGrade, outward-of}
 
--- equal lists of values come from functions that agree
+-- functions with equal lists of values agree from 1 to n
 down-each : (n : ℕ) (f g : ℕ → ℕ) → down n f ≡ down n g → (m : ℕ) → 0 < m → m ≤ n → f m ≡ g m
 unfolding down
 down-each zero f g e m z l = absurd (omega arith)

@@ -1,4 +1,4 @@
--- A candidate that beats another by the gauge has the earlier sequence, so the gauge's winner wins alone.
+-- A candidate that beats another by the gauge has the earlier sequence, so the gauge's winner is the only winner.
 -- Assumes nothing.
 use mathlib.Core.Path.{_≡_, _∙_}
 use mathlib.Core.Bool.{true, false}
@@ -25,7 +25,7 @@ use Rattle.rule_judgment.proofs.Order.{precedes-one-way, precedes-self}
 use Rattle.rule_judgment.proofs.Winners.{byte-one, byte-zero}
 
 module _ (n : ℕ) (a b : List ℕ) (al : Alike n a b) (some : 0 < n) where
-  -- p and q of a row, by its running sums at its median m
+  -- p and q of a row, from its running sums at its median m
   record Halves (row : List ℕ) (m : ℕ) : Type 0 where
     passed : 2 * running row m < n
     reached : n ≤ 2 * running row (suc m)

@@ -1,4 +1,4 @@
--- The closing bytes, place by place: 1 if the row beats every other row, else 0.
+-- The closing bytes by the gauge, place by place: 1 if the row beats every other row, else 0.
 -- Assumes nothing.
 use mathlib.Core.Path.{_≡_, _∙_, refl, sym, ap}
 use mathlib.Core.Bool.{Bool, true, false, cond, _&&_, and-false, true≢false}
@@ -60,7 +60,7 @@ module _ (rows : List (List ℕ)) (i : ℕ) (h : i < length rows) where
       (λ m l. ⊎-elim (λ b. ap (beats (getD rows i [])) (other-before m b) ∙ beaten m (omega arith) (omega arith))
       (λ b. ap (beats (getD rows i [])) (other-after m b) ∙ beaten (suc m) (omega (arith, others-length)) (omega arith)) (below-or-not m i))
 
-  -- and does not win if it fails to beat one
+  -- row i does not win if there is another row that it does not beat
   pub wins-not : (j : ℕ) → j < length rows → j ≢ i → beats (getD rows i []) (getD rows j []) ≡ false → winsIn rows i ≡ false
   unfolding winsIn
   wins-not j l ne e = ⊎-elim earlier later (below-or-not j i)
@@ -85,7 +85,7 @@ pub closing-length : (rows : List (List ℕ)) → length (closingOf rows) ≡ le
 unfolding closingOf
 closing-length rows = closing-from-length [] rows
 
--- the row after the earlier ones
+-- the first of these rows, seen in the whole matrix: it wins if it beats the earlier and the later ones
 first-wins : (earlier : List (List ℕ)) (a : List ℕ) (later : List (List ℕ)) → beatsAll a (earlier ++ later)
     ≡ winsIn (earlier ++ a ∷ later) (length earlier)
 unfolding winsIn

@@ -1,5 +1,5 @@
--- The four conditions of beating as facts about medians, p and q: they exclude each other, and no two rows beat each
--- other.
+-- The four conditions of `beats` as facts about medians, p and q: they exclude each other, and no two rows beat
+-- each other.
 -- Assumes nothing.
 use mathlib.Core.Path.{_≡_}
 use mathlib.Core.Bool.{true, false, _&&_, _||_}
@@ -13,7 +13,7 @@ use Rattle.rule_judgment.specs.Median.{medianOf}
 use Rattle.rule_judgment.specs.Gauge.{pOf, qOf, betterMedian, equalMedians, strongerMedian, largerP, smallerQ, beats}
 use Rattle.basics.proofs.Flags.{and-first, and-second, or-either, or-first, or-second, never-true}
 
--- to beat is to meet one of the four conditions
+-- a beats b if one of the four conditions holds
 pub data Beats (a b : List ℕ) : Type 0 where
   better-median : medianOf a < medianOf b → Beats a b
   stronger-median : medianOf a ≡ medianOf b → qOf a < pOf a → pOf b < qOf b → Beats a b
@@ -76,7 +76,7 @@ module _ (a b : List ℕ) where
       (λ e₃. let f = smaller-fact e₃ in smaller-q (f .0) (f .1) (f .2) (f .3))
       (or-either (betterMedian a b || strongerMedian a b || largerP a b) (smallerQ a b) e)
 
-  -- and back
+  -- the converse
   beats-passes : Beats a b → beats a b ≡ true
   unfolding beats betterMedian equalMedians strongerMedian largerP smallerQ
   beats-passes (better-median l) = simp (lt-ltb (medianOf a) (medianOf b) l)

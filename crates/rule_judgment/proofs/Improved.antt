@@ -1,5 +1,5 @@
 -- A row whose running sums grow has the same sequence or an earlier one; so a winner still wins, and a sole winner
--- wins alone.
+-- stays the sole winner.
 -- Assumes nothing.
 use mathlib.Core.Path.{_≡_, _∙_, refl, sym, subst, subst₂}
 use mathlib.Core.Bool.{true, false, true≢false}
@@ -20,7 +20,7 @@ use Rattle.rule_judgment.proofs.Order.Compared.{first, equal, second}
 use Rattle.rule_judgment.proofs.SumRule.{struckGrade, outward-of}
 use Rattle.rule_judgment.proofs.Winners.{Unpreceded, byte-one, byte-zero, one-byte}
 
--- as many grades, and for each t at least as many among the t best
+-- `better` has as many grades as `row`, and for each t at least as many among the t best
 pub record Improved (row better : List ℕ) : Type 0 where
   pub sums : sum better ≡ sum row
   pub more : (t : ℕ) → running row t ≤ running better t
@@ -34,7 +34,7 @@ module _ (row better : List ℕ) (up : Improved row better) where
       (omega (arith, g .reached, up .more (suc (gradeAt row p)))) in
       omega arith
 
-  -- the sequence comes earlier, or stays
+  -- the better row's sequence comes earlier, or is the same
   pub sequence-no-later : (precedes (sequenceOf better) (sequenceOf row) ≡ true) ⊎ (sequenceOf better ≡ sequenceOf row)
   sequence-no-later =
       subst₂ (λ (xs ys : List ℕ). (precedes xs ys ≡ true) ⊎ (xs ≡ ys))
@@ -42,13 +42,13 @@ module _ (row better : List ℕ) (up : Improved row better) where
       (never-worse (sum row) (struckGrade (sum row) better) (struckGrade (sum row) row)
       (λ m z l. let w = position-within (sum row) m z l in grade-no-worse (position (sum row) m) (w .0) (w .1)))
 
-  -- what precedes the better row preceded the old one
+  -- whatever precedes the better row precedes the old one
   still-precedes : (xs : List ℕ) → precedes xs (sequenceOf better) ≡ true → precedes xs (sequenceOf row) ≡ true
   still-precedes xs p =
       ⊎-elim (λ q. precedes-trans xs (sequenceOf better) (sequenceOf row) p q)
       (λ e. subst (λ (ys : List ℕ). precedes xs ys ≡ true) e p) sequence-no-later
 
-  -- and what the old row precedes, the better one does
+  -- whatever the old row precedes, the better one precedes too
   precedes-still : (xs : List ℕ) → precedes (sequenceOf row) xs ≡ true → precedes (sequenceOf better) xs ≡ true
   precedes-still xs p =
       ⊎-elim (λ q. precedes-trans (sequenceOf better) (sequenceOf row) xs q p)
@@ -65,7 +65,7 @@ module _ (old new : List (List ℕ)) (i : ℕ) (up : OneImproved old new i) (win
   abbrev sequenceIn : List (List ℕ) → ℕ → List ℕ
   sequenceIn rows j = sequenceOf (getD rows j [])
 
-  -- a row that now precedes the winner's did so before
+  -- no other row precedes the winner's row now, since it would have done so before
   preceded-before : (j : ℕ) → j < length old → j ≢ i → precedes (sequenceIn new j) (sequenceIn new i) ≡ true → ⊥
   preceded-before j l ne p =
       true≢false
@@ -96,7 +96,7 @@ module _ (old new : List (List ℕ)) (i : ℕ) (up : OneImproved old new i) (win
           absurd (omega arith)
       go (second p) = absurd (true≢false (sym p ∙ unpreceded j l))
 
-  -- whoever lost to the winner still loses
+  -- a candidate that did not win before does not win now
   pub still-loses : (j : ℕ) → j < length old → j ≢ i → getD (judgmentOf old) j 0 ≡ 0 → getD (judgmentOf new) j 0 ≡ 0
   still-loses j l ne loses =
       byte-zero new j (omega (arith, up .size)) i (omega (arith, up .size, up .candidate))

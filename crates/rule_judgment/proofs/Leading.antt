@@ -1,4 +1,4 @@
--- The first candidate that none of those seen so far precedes, and the closing bytes by comparing counts with a
+-- The search for a candidate that no other precedes, and the closing bytes by comparing all counts with that
 -- winner's.
 -- Assumes nothing.
 use mathlib.Core.Path.{_≡_, _∙_, sym, subst}
@@ -39,7 +39,7 @@ module _ (rows : List (List ℕ)) where
   pub leads-start : Leads rows 0 1
   leads-start = below-more _ 0 (λ j l. absurd (omega arith)) (itself 0)
 
-  -- row c precedes the row that led
+  -- if row c precedes row i, row c leads the first c + 1 rows
   pub leads-next : (i c : ℕ) → Leads rows i c → precedes (sequenceIn rows c) (sequenceIn rows i) ≡ true → Leads rows c (c + 1)
   leads-next i c leads p =
       below-more _ c (λ j l. never-true (precedes (sequenceIn rows j) (sequenceIn rows c))
@@ -47,11 +47,11 @@ module _ (rows : List (List ℕ)) where
       ∙ leads j l)))
       (itself c)
 
-  -- row c does not
+  -- if row c does not precede row i, row i leads them
   pub leads-still : (i c : ℕ) → Leads rows i c → precedes (sequenceIn rows c) (sequenceIn rows i) ≡ false → Leads rows i (c + 1)
   leads-still i c leads p = below-more _ c leads p
 
--- rows of n grades each, and a winner among them: exactly those with the winner's counts win
+-- rows of n grades each, and a winner among them: a row wins exactly if it has the winner's counts
 module _ (n : ℕ) (rows : List (List ℕ)) (each : EachGets n rows) (w : ℕ) (inside : w < length rows)
     (wins : getD (judgmentOf rows) w 0 ≡ 1) where
   pub same-wins : (c : ℕ) → c < length rows → sameNumbers (getD rows c []) (getD rows w []) ≡ true → getD (judgmentOf rows) c 0 ≡ 1

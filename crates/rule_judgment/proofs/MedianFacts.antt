@@ -1,4 +1,5 @@
--- The median grade in words [gauge]: the first grade such that at least half of all grades are as good or better.
+-- The median grade [gauge] as facts: it is the first grade such that at least half of all grades are as good or
+-- better.
 -- Assumes nothing.
 use mathlib.Core.Path.{_≡_, refl}
 use mathlib.Core.Bool.{Bool, true, false, cond}
@@ -33,7 +34,7 @@ pub median-passed : (row : List ℕ) (g : ℕ) → g < medianOf row → 2 * sum 
 unfolding medianOf
 median-passed row g h = omega (arith, passed-from row (sum row) 0 g h)
 
--- at the median, it is at least n
+-- at the median, twice the running sum is at least n
 Reached : ℕ → ℕ → List ℕ → ℕ → Type 0
 Reached n before row m = (m < length row) × (n ≤ 2 * (before + sum (take (suc m) row)))
 

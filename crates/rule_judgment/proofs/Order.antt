@@ -24,7 +24,7 @@ pub precedes-later : (x y : ℕ) (xs ys : List ℕ) → x ≡ y → precedes xs 
 unfolding precedes
 precedes-later x y xs ys e h = or-second (ltb x y) (eqb x y && precedes xs ys) (and-both (eqb x y) (precedes xs ys) (eq-eqb x y e) h)
 
--- and nothing else
+-- there are no other cases
 pub precedes-cases : (x y : ℕ) (xs ys : List ℕ) → precedes (x ∷ xs) (y ∷ ys) ≡ true → (x < y) ⊎ ((x ≡ y) × (precedes xs ys ≡ true))
 unfolding precedes
 precedes-cases x y xs ys h =
@@ -59,7 +59,7 @@ precedes-trans (x ∷ xs) (y ∷ ys) (z ∷ zs) h k = go (precedes-cases x y xs 
     go (inr l) (inl m) ih = precedes-here x z xs zs (omega (arith, l .0))
     go (inr l) (inr m) ih = precedes-later x z xs zs (l .0 ∙ m .0) (ih (l .1) (m .1))
 
--- not both ways
+-- no two sequences precede each other
 pub precedes-one-way : (xs ys : List ℕ) → precedes xs ys ≡ true → precedes ys xs ≡ false
 precedes-one-way xs ys h = never-true (precedes ys xs) (λ k. precedes-self xs (precedes-trans xs ys xs h k))
 
@@ -83,7 +83,8 @@ compared (x ∷ xs) (y ∷ ys) = ⊎-elim (λ l. first (precedes-here x y xs ys 
     go e (equal h) = equal (cc)
     go e (second h) = second (precedes-later y x ys xs (sym e) h)
 
--- f is better than g at some strike after m; strikes are counted down from n
+-- f is better than g at some strike before strike m. Strikes are counted down from n, so an earlier one has a
+-- larger number.
 pub record Ahead (f g : ℕ → ℕ) (m n : ℕ) : Type 0 where
   pub at : ℕ
   pub past : m < at
@@ -102,7 +103,7 @@ ahead-sooner f g m n e a = record {
     same : a .at ≡ suc n → a .at ≤ n
     same s = let l : f (suc n) < g (suc n) = subst (λ (i : ℕ). f i < g i) s (a .better) in absurd (omega arith)
 
--- f comes first if it is better at some strike, and wherever it is worse, it was better at an earlier one
+-- f comes first if it is better at some strike, and was better before every strike at which it is worse
 pub first-better : (n : ℕ) (f g : ℕ → ℕ) → Ahead f g 0 n → ((m : ℕ) → 0 < m → m ≤ n → g m < f m → Ahead f g m n)
     → precedes (down n f) (down n g) ≡ true
 unfolding down
@@ -115,13 +116,13 @@ first-better (suc n) f g a h =
     (first-better n f g (ahead-sooner f g 0 n e a) (λ i p q r. ahead-sooner f g i n e (h i p (omega arith) r))))
     (below-or-not (g (suc n)) (f (suc n)))) (below-or-not (f (suc n)) (g (suc n)))
 
--- the same at every strike
+-- functions that agree at every strike give the same list
 pub down-same : (n : ℕ) (f g : ℕ → ℕ) → ((m : ℕ) → 0 < m → m ≤ n → f m ≡ g m) → down n f ≡ down n g
 unfolding down
 down-same zero f g h = refl
 down-same (suc n) f g h = cc (h (suc n) (omega arith) (omega arith), down-same n f g (λ m l p. h m l (omega arith)))
 
--- never worse: equal, or first
+-- if f is never worse than g, its list comes first or is the same
 pub never-worse : (n : ℕ) (f g : ℕ → ℕ) → ((m : ℕ) → 0 < m → m ≤ n → f m ≤ g m)
     → (precedes (down n f) (down n g) ≡ true) ⊎ (down n f ≡ down n g)
 unfolding down
@@ -132,7 +133,7 @@ never-worse (suc n) f g h =
     ⊎-elim (λ p. inl (precedes-later (f (suc n)) (g (suc n)) (down n f) (down n g) e p)) (λ p. inr (cc))
     (never-worse n f g (λ m z p. h m z (omega arith)))) (below-or-not (f (suc n)) (g (suc n)))
 
--- the first strike at which f and g differ, where f is better
+-- the first strike at which f and g differ; f is better there
 pub record FirstBetter (f g : ℕ → ℕ) (n : ℕ) : Type 0 where
   pub at : ℕ
   pub some : 0 < at

@@ -18,8 +18,8 @@ use Rattle.rule_judgment.specs.Judgment.{strike, strikes, sequenceOf}
 use Rattle.rule_judgment.proofs.Statements.{running}
 use Rattle.rule_judgment.proofs.Positions.{gradeAt, Grade, grade-at, grade-one, Median, median-at}
 
--- the position that is struck when `left` of n grades are left: the lower half's last if the halves are equal, else
--- the upper half's first
+-- the position that is struck when `left` of n grades are left: the last one of the lower half if the halves are
+-- equal, else the first one of the upper half
 unfoldable pub position : ℕ → ℕ → ℕ
 position n left = cond (eqb (left % 2) 0) (left / 2) (n - left / 2)
 
@@ -51,14 +51,15 @@ record Remains (row : List ℕ) (low high : ℕ) (rest : List ℕ) : Type 0 wher
   size : length rest ≡ length row
   sums : (t : ℕ) → running rest t ≡ min (running row t) low + (running row t - high)
 
--- how many are left
+-- how many grades are left in `rest`
 remains-sum : (row : List ℕ) (low high : ℕ) (rest : List ℕ) → Remains row low high rest → sum rest ≡ low + (sum row - high)
 remains-sum row low high rest r =
     sym (running-whole rest (length row) (omega (arith, r .size)))
     ∙ r .sums (length row)
     ∙ omega (arith, running-whole row (length row) (omega arith), r .ordered, r .within)
 
--- the median of the rest, and what is left after its strike
+-- the median of the rest is the grade at position p, and striking it leaves the positions up to `low` and above
+-- `high`
 record Struck (row : List ℕ) (p low high : ℕ) (rest : List ℕ) : Type 0 where
   median : medianOf rest ≡ gradeAt row p
   left : Remains row low high (strike (medianOf rest) rest)
@@ -92,7 +93,7 @@ struck row p low high low′ high′ rest r some l h grade o w under over = reco
         (λ b. strike-before rest m t b ∙ r .sums t ∙ under (running row t) (omega (arith, grade .passed, running-grows row t m b)))
         (below-or-not m t)
 
--- the halves are equal: the lower half's last is struck
+-- if the halves are equal, the last position of the lower half is struck
 low-struck : (row : List ℕ) (low high : ℕ) (rest : List ℕ) → Remains row (suc low) high rest → sum row ≡ suc low
     + high → Struck row (suc low) low high rest
 low-struck row low high rest r e =
@@ -105,7 +106,7 @@ low-struck row low high rest r e =
     })
     (omega (arith, r .ordered)) (r .within) (λ s l. omega arith) (λ s l. omega arith)
 
--- the upper half has one more: its first is struck
+-- if the upper half has one more, its first position is struck
 high-struck : (row : List ℕ) (low high : ℕ) (rest : List ℕ) → Remains row low high rest → sum row ≡ suc (low + high)
     → Struck row (suc high) low (suc high) rest
 high-struck row low high rest r e =
@@ -118,7 +119,8 @@ high-struck row low high rest r e =
     })
     (omega (arith, r .ordered)) (omega arith) (λ s l. omega arith) (λ s l. omega (arith, r .ordered))
 
--- how many are left below and above when `left` of n grades are left
+-- the last position of the lower half, and the one before the first of the upper half, when `left` of n grades are
+-- left
 abbrev lowOf : ℕ → ℕ
 lowOf left = left / 2
 
@@ -166,7 +168,7 @@ outward row =
     strikes-outward (sum row) row row (omega arith)
     (record { ordered = omega arith; within = omega arith; size = refl; sums = λ t. omega arith })
 
--- each position from 1 to n is struck once: position p, when `turn n p` grades are left
+-- each position from 1 to n is struck once: position p is struck when `turn n p` grades are left
 unfoldable pub turn : ℕ → ℕ → ℕ
 turn n p = cond (leb (2 * p) n) (2 * p) (suc (2 * (n - p)))
 

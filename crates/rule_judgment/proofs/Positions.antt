@@ -1,4 +1,4 @@
--- The grades of a row in order, best first, at positions from 1 on; and the row's median among them.
+-- The grades of a row in order, best first, at positions counted from 1; and the row's median among them.
 -- Assumes nothing.
 use mathlib.Core.Path.{_≡_, refl}
 use mathlib.Core.Bool.{Bool, true, false, cond}
@@ -21,7 +21,7 @@ unfoldable pub gradeAt : List ℕ → ℕ → ℕ
 gradeAt [] p = 0
 gradeAt (x ∷ xs) p = cond (leb p x) 0 (suc (gradeAt xs (p - x)))
 
--- it is the grade at which the running sum reaches p
+-- g is the grade at which the running sum reaches p
 pub record Grade (row : List ℕ) (p g : ℕ) : Type 0 where
   pub passed : running row g < p
   pub reached : p ≤ running row (suc g)

@@ -1,4 +1,4 @@
--- A raised grade improves the candidate's counts and leaves the others alone, so nothing is lost by it.
+-- A raised grade improves the candidate's counts and does not change the others' counts, so a winner still wins.
 -- Assumes nothing.
 use mathlib.Core.Path.{_≡_, _∙_, refl, sym, ap}
 use mathlib.Core.Logic.{_⊎_, inl, inr, ⊎-elim, _≢_}
@@ -39,7 +39,7 @@ earlier-one d from to f h l m ef eh e t p = ⊎-elim past before (below-or-not f
     before : t ≤ from → sum (tabulate t f) ≤ sum (tabulate t h)
     before q = omega (arith, sum-grows t from f q, sum-grows (suc from) d f m, sum-last from f)
 
--- a row of an accepted ballot holds one 1
+-- a row of an accepted ballot has a single 1
 one-in-row : (s : Shape) (xs : List ℕ) → GradedBallots s xs → (b c : ℕ) → b < s .ballots → c < s .candidates
     → sum (tabulate (s .grades) (λ g. byteOf s xs b c g)) ≡ 1
 unfolding byteOf addend
@@ -66,7 +66,7 @@ module _ (s : Shape) (candidate : ℕ) (old new : List ℕ) (r : Raised s candid
   new-step : (b c g : ℕ) → countUpTo s new (suc b) c g ≡ countUpTo s new b c g + newByte b c g
   new-step = count-step s new (r .new-accepted .bits)
 
-  -- ballots that agree have the same count
+  -- over ballots that agree, the counts are the same
   same-count : (c g : ℕ) → c < s .candidates → g < s .grades → (b : ℕ) → b ≤ s .ballots
       → ((i : ℕ) → i < b → (i ≢ r .ballot) ⊎ (c ≢ candidate)) → countUpTo s new b c g ≡ countUpTo s old b c g
   unfolding countUpTo
@@ -80,7 +80,7 @@ module _ (s : Shape) (candidate : ℕ) (old new : List ℕ) (r : Raised s candid
         r .others b c g (omega arith) hc hg (apart b (omega arith)),
       )
 
-  -- the raised candidate's counts differ by the bytes of the one row
+  -- the raised candidate's counts differ by the bytes of the changed row
   raised-count : (g : ℕ) → g < s .grades → (b : ℕ) → r .ballot < b → b ≤ s .ballots
       → countUpTo s new b candidate g + oldByte (r .ballot) candidate g ≡ countUpTo s old b candidate g + newByte (r .ballot) candidate g
   raised-count g hg zero l h = absurd (omega arith)
@@ -111,7 +111,7 @@ module _ (s : Shape) (candidate : ℕ) (old new : List ℕ) (r : Raised s candid
   abbrev d : ℕ
   d = s .grades
 
-  -- the first t counts of the raised candidate add up to no less than before
+  -- the sum of the raised candidate's first t counts is at least what it was
   first-counts : (t : ℕ) → t ≤ d → sum (tabulate t (countOf s old candidate)) ≤ sum (tabulate t (countOf s new candidate))
   unfolding countOf
   first-counts t h =

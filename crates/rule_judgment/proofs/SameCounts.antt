@@ -1,4 +1,4 @@
--- Whether two rows of counts are the same: the test one step at a time, and what it says.
+-- Whether two rows of counts are the same: the test one step at a time, and that it is right.
 -- Assumes nothing.
 use mathlib.Core.Path.{_≡_, _∙_, ap}
 use mathlib.Core.Bool.{Bool, true, false, _&&_}
@@ -14,7 +14,7 @@ use Rattle.basics.specs.Lists.{sameNumbers}
 use Rattle.basics.proofs.Same.{same-refl}
 use Rattle.rule_judgment.specs.inner.Decision.{byteBeside}
 
--- the counts from place g on of the first d: that of g first
+-- of the first d counts, those from place g on: first count g, then the rest
 rest-step : (row : List ℕ) (g d : ℕ) → d ≤ length row → g < d → drop g (take d row) ≡ getD row g 0 ∷ drop (suc g) (take d row)
 rest-step row g d h l =
     drop-cons (take d row) g 0 (omega (arith, length-take d row)) ∙ ap (λ (x : ℕ). x ∷ drop (suc g) (take d row)) (getD-take d row g 0 l)
@@ -25,19 +25,19 @@ module _ (a b : List ℕ) (g d : ℕ) (ha : d ≤ length a) (hb : d ≤ length b
   unfolding sameNumbers
   same-step l = rw (rest-step a g d ha l, rest-step b g d hb l)
 
-  -- equal counts: the rest decides
+  -- if the counts at g are equal, the rest decides
   pub same-later : g < d → getD a g 0 ≡ getD b g 0 → sameNumbers (drop g (take d a)) (drop g (take d b))
       ≡ sameNumbers (drop (suc g) (take d a)) (drop (suc g) (take d b))
   same-later l e = same-step l ∙
       ap (λ (t : Bool). t && sameNumbers (drop (suc g) (take d a)) (drop (suc g) (take d b)))
       (eq-eqb (getD a g 0) (getD b g 0) e)
 
-  -- a difference: not the same
+  -- if the counts at g differ, the rows are not the same
   pub same-not : g < d → getD a g 0 ≢ getD b g 0 → sameNumbers (drop g (take d a)) (drop g (take d b)) ≡ false
   same-not l ne = same-step l ∙ ap (λ (t : Bool). t && sameNumbers (drop (suc g) (take d a))
       (drop (suc g) (take d b))) (ne-eqb (getD a g 0) (getD b g 0) ne)
 
-  -- nothing left
+  -- if nothing is left, the rows are the same
   pub same-end : d ≤ g → sameNumbers (drop g (take d a)) (drop g (take d b)) ≡ true
   unfolding sameNumbers
   same-end l =

@@ -1,4 +1,4 @@
--- What other crates use, stated over running sums: which of two rows of counts has the earlier sequence.
+-- The statements that other crates use: which of two rows of counts has the earlier sequence, by running sums.
 -- Assumes nothing.
 use mathlib.Core.Path.{_≡_}
 use mathlib.Core.Bool.{true}
@@ -22,7 +22,8 @@ pub record Alike (n : ℕ) (a b : List ℕ) : Type 0 where
   pub sum-a : sum a ≡ n
   pub sum-b : sum b ≡ n
 
--- a is larger at threshold i, and b is not larger at any threshold j whose positions are struck earlier
+-- a is larger at threshold i. If b is larger at another threshold j, some position between the rows' sums at i is
+-- struck before all those at j.
 pub record Decides (n : ℕ) (a b : List ℕ) (i : ℕ) : Type 0 where
   pub larger : running b i < running a i
   pub above : (j : ℕ) → i < j → running a j < running b j → n ≤ running a i + running a j
@@ -36,8 +37,9 @@ SumRule = (n : ℕ) (a b : List ℕ) → Alike n a b → (i : ℕ) → Decides n
 abbrev pub HalfRule : Type 0
 HalfRule = (n : ℕ) (a b : List ℕ) → Alike n a b → (t : ℕ) → n ≤ 2 * running a t → 2 * running b t < n → Precedes a b
 
--- two thresholds around half: between them the rows agree; below the lower one they may differ only if they differ
--- there too and one of them is below half there; above the upper one likewise
+-- two thresholds around half; between them the rows agree. If they differ below `lower`, they also differ at
+-- `lower`, and one of them is below half there. If they differ above `upper`, they also differ at `upper`, and one
+-- of them has reached half there.
 pub record Bracket (n : ℕ) (a b : List ℕ) (lower upper : ℕ) : Type 0 where
   pub between : (t : ℕ) → lower < t → t < upper → running a t ≡ running b t
   pub lower-half : (t : ℕ) → t < lower → running a t ≢ running b t
@@ -47,12 +49,12 @@ pub record Bracket (n : ℕ) (a b : List ℕ) (lower upper : ℕ) : Type 0 where
 
 -- what two such thresholds decide
 pub record TwoDecide (n : ℕ) (a b : List ℕ) (lower upper : ℕ) : Type 0 where
-  -- equal at both: equal sequences
+  -- if the rows are equal at both, their sequences are equal
   pub equal : running a lower ≡ running b lower → running a upper ≡ running b upper → sequenceOf a ≡ sequenceOf b
-  -- larger at one and not smaller at the other: first
+  -- if a is larger at one and not smaller at the other, a comes first
   pub at-lower : running b lower < running a lower → running b upper ≤ running a upper → Precedes a b
   pub at-upper : running b upper < running a upper → running b lower ≤ running a lower → Precedes a b
-  -- each larger at one threshold, a at the lower one: the sum of a's two running sums decides
+  -- if a is larger at the lower one and b at the upper one, the sum of a's two running sums decides
   pub lower-wins : running b lower < running a lower → running a upper < running b upper → n ≤ running a lower
       + running a upper → Precedes a b
   pub upper-wins : running b lower < running a lower → running a upper < running b upper → running a lower

@@ -37,7 +37,7 @@ module _ (n : ℕ) (a b : List ℕ) (al : Alike n a b) where
         grade-not-below b q (omega arith) (omega (arith, al .sum-b)) i l,
       )
 
-  -- so it is ahead after every strike before that position's
+  -- so a is already ahead at every later strike
   ahead-at : (i q m : ℕ) → running b i < q → q ≤ running a i → m < turn n q → Ahead (struckGrade n a) (struckGrade n b) m n
   ahead-at i q m l h t =
       let inside : q ≤ n = omega (arith, running-most a i, al .sum-a) in
@@ -48,7 +48,7 @@ module _ (n : ℕ) (a b : List ℕ) (al : Alike n a b) where
         better = subst (λ (p : ℕ). gradeAt a p < gradeAt b p) (sym (position-turn n q (omega arith) inside)) (better-at i q l h);
       }
 
-  -- wherever b is better, at strike m, a was better at an earlier one
+  -- if b is better at strike m, a was better at an earlier strike
   ahead-before : (i : ℕ) → Decides n a b i → (m : ℕ) → 0 < m → m ≤ n → struckGrade n b m < struckGrade n a m
       → Ahead (struckGrade n a) (struckGrade n b) m n
   ahead-before i d m z h worse =
@@ -101,7 +101,7 @@ sum-rule n a b al i d =
     (turn-within n (running a i) (omega arith) (omega (arith, running-most a i, al .sum-a)) .0))
     (ahead-before n a b al i d))
 
--- the other way: the grade at the first difference gives the threshold
+-- the converse: the grade at the first difference gives the threshold
 module _ (n : ℕ) (a b : List ℕ) (al : Alike n a b) (d : FirstBetter (struckGrade n a) (struckGrade n b) n) where
   abbrev p : ℕ
   p = position n (d .at)

@@ -1,4 +1,4 @@
--- Proofs of the statements of specs/Theorems.antt, and what accepted ballots give for them.
+-- Proofs of the statements of specs/Theorems.antt, and that accepted ballots meet their conditions.
 -- Assumes nothing.
 use mathlib.Core.List.{List}
 use Prim.Native.Nat.{ℕ}

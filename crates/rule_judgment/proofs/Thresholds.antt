@@ -1,4 +1,4 @@
--- Two thresholds decide between two rows: the nearest differences below and above half.
+-- Two thresholds decide between two rows: the nearest differences below half and from half on.
 -- Assumes nothing.
 use mathlib.Core.Path.{_≡_, sym, subst}
 use mathlib.Core.Logic.{inl, inr, ⊎-elim, _≢_}
@@ -23,7 +23,8 @@ module _ (n : ℕ) (a b : List ℕ) (al : Alike n a b) (lower upper : ℕ) (near
   outside : (t : ℕ) → running a t ≢ running b t → lower < t → upper ≤ t
   outside t ne l = ⊎-elim (λ h. absurd (ne (near .between t l h))) (λ h. h) (below-or-not t upper)
 
-  -- the lower one decides if a is larger there, and b is nowhere larger above or the sum reaches n
+  -- the lower threshold decides for a if a is larger there and, wherever b is larger above, the two sums of a reach
+  -- n
   lower-decides : running b lower < running a lower
       → ((t : ℕ) → upper ≤ t → running a t < running b t → n ≤ running a lower + running a t) → Precedes a b
   lower-decides larger over = sum-rule n a b al lower (record {
@@ -33,7 +34,8 @@ module _ (n : ℕ) (a b : List ℕ) (al : Alike n a b) (lower upper : ℕ) (near
         ⊎-elim (λ h. omega arith) (λ h. omega arith) (near .lower-half j l (omega arith) .0);
   })
 
-  -- the upper one likewise
+  -- the upper threshold decides for a if a is larger there and, wherever b is larger below, the two sums of b stay
+  -- below n
   upper-decides : running b upper < running a upper
       → ((t : ℕ) → t ≤ lower → running a t < running b t → running b t + running b upper < n) → Precedes a b
   upper-decides larger under = sum-rule n a b al upper (record {
@@ -44,7 +46,7 @@ module _ (n : ℕ) (a b : List ℕ) (al : Alike n a b) (lower upper : ℕ) (near
         (⊎-elim (λ m. absurd (omega (arith, outside j (omega arith) m))) (λ m. m) (below-or-not lower j)) differs;
   })
 
-  -- equal at the upper one: equal above it
+  -- rows that are equal at the upper threshold are equal above it
   equal-above : running a upper ≡ running b upper → (t : ℕ) → upper ≤ t → running a t ≡ running b t
   equal-above e t l = ⊎-elim (λ s. s)
       (λ ne. absurd (⊎-elim (λ m. near .upper-half t m ne .1 e)
@@ -57,7 +59,7 @@ module _ (n : ℕ) (a b : List ℕ) (al : Alike n a b) (lower upper : ℕ) (near
       (λ m. ne (subst (λ (x : ℕ). running a x ≡ running b x) {x = lower} {y = t} (omega arith) e))
       (below-or-not t lower))) (same-or-not (running a t) (running b t))
 
-  -- larger at both
+  -- a is larger at both thresholds
   both-larger : running b lower < running a lower → running b upper < running a upper → Precedes a b
   both-larger l u = ⊎-elim
       (λ s. upper-decides u (λ t m differs. omega (arith, running-grows b t lower m)))

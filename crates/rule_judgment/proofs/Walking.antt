@@ -1,4 +1,4 @@
--- The walk over the running sums of two rows, best grade first, up to the first difference at or above half.
+-- The loop over the running sums of two rows, best grade first, up to the first difference from half on.
 -- Assumes nothing.
 use mathlib.Core.Path.{_≡_, _∙_, sym, subst}
 use mathlib.Core.Bool.{true, false, _||_}
@@ -20,8 +20,8 @@ use Rattle.rule_judgment.specs.inner.Decision.{halfReached, decidedBy}
 use Rattle.rule_judgment.proofs.Statements.{running, Alike, Bracket}
 use Rattle.rule_judgment.proofs.Deciding.{At, decided-right, neither-larger, first-not-smaller, second-not-smaller}
 
--- after the first g grades: `lower` has the sums at the last difference, which is below half, and `sums` the sums so
--- far
+-- after the first g grades: `lower` has the sums at the last difference, which is below half, and `sums` has the
+-- sums so far
 pub record Walk (n : ℕ) (a b : List ℕ) (lower sums : Sums) (g : ℕ) : Type 0 where
   pub low : ℕ
   pub lower-at : At a b low lower
@@ -48,12 +48,12 @@ module _ (n : ℕ) (a b : List ℕ) (al : Alike n a b) where
         since = λ t l h. absurd (omega arith);
       }
 
-  -- sums are at most n
+  -- the sums in `lower` are at most n
   pub walk-most : (lower sums : Sums) (g : ℕ) → Walk n a b lower sums g → (lower .a ≤ n) × (lower .b ≤ n)
   walk-most lower sums g w = (omega (arith, w .lower-at .first, w .below-a), omega (arith, w .lower-at .second, w .below-b))
 
   module _ (lower sums next : Sums) (g : ℕ) (w : Walk n a b lower sums g) (s : At a b (suc g) next) where
-    -- a grade at which the sums are equal
+    -- if the sums are equal at the next grade, `lower` stays
     pub walk-equal : next .a ≡ next .b → Walk n a b lower next (suc g)
     walk-equal e = record {
       low = w .low;
@@ -68,7 +68,7 @@ module _ (n : ℕ) (a b : List ℕ) (al : Alike n a b) where
           (sym (s .first) ∙ e ∙ s .second)) (below-or-not t (suc g));
     }
 
-    -- a difference below half
+    -- a difference below half becomes the new `lower`
     pub walk-differs : next .a ≢ next .b → halfReached n next ≡ false → Walk n a b next next (suc g)
     unfolding halfReached
     walk-differs ne h = record {
@@ -87,7 +87,7 @@ module _ (n : ℕ) (a b : List ℕ) (al : Alike n a b) where
             (never-true (leb n (2 * x)) (λ e. let z : true ≡ false = sym (f e) ∙ h in let o : _≡_ {A = ℕ} 0 1 =
             cc in omega arith))
 
-    -- a difference at or above half decides
+    -- the first difference from half on decides
     pub walk-decides : next .a ≢ next .b → halfReached n next ≡ true → decidedBy n lower next ≡ precedes (sequenceOf a) (sequenceOf b)
     unfolding halfReached
     walk-decides ne h = decided-right n a b al (w .low) (suc g) near lower next (w .lower-at) s
@@ -104,7 +104,7 @@ module _ (n : ℕ) (a b : List ℕ) (al : Alike n a b) where
           );
         }
 
-  -- if there is none, the last difference decides
+  -- if there is no difference from half on, the last one below half decides
   pub walk-ends : (lower sums : Sums) (g : ℕ) → Walk n a b lower sums g → length a ≤ g → length b ≤ g
       → ltb (lower .b) (lower .a) ≡ precedes (sequenceOf a) (sequenceOf b)
   walk-ends lower sums g w la lb = answer ∙ decided-right n a b al (w .low) g near lower sums (w .lower-at) (w .sums-at)
@@ -140,6 +140,6 @@ sums-next a b d g sums next l s ea eb = record {
   second = omega (arith, s .second, running-next (take d b) g, getD-take d b g 0 l);
 }
 
--- which are at most the number of grades
+-- each is at most the number of grades
 pub sum-room : (row : List ℕ) (d g s : ℕ) → g < d → s ≡ running (take d row) g → s + getD row g 0 ≤ sum (take d row)
 sum-room row d g s l e = omega (arith, running-next (take d row) g, getD-take d row g 0 l, running-most (take d row) (suc g))

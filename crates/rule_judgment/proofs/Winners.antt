@@ -1,4 +1,4 @@
--- The closing bytes, place by place, and that there is always a winner.
+-- The closing bytes by judgment, place by place, and that there is always a winner.
 -- Assumes nothing.
 use mathlib.Core.Path.{_≡_, _∙_, refl, sym, ap}
 use mathlib.Core.Bool.{Bool, true, false, cond, not, _&&_, and-false, true≢false}
@@ -114,7 +114,7 @@ somebody-wins (row ∷ rows) h =
     let m = least-row row rows in
     record { who = m .at; candidate = m .inside; wins = byte-one (row ∷ rows) (m .at) (m .inside) (m .least) }
 
--- a sequence lists as many grades as there are
+-- a sequence has as many entries as the row has grades
 strikes-length : (left : ℕ) (row : List ℕ) → length (strikes left row) ≡ left
 unfolding strikes
 strikes-length zero row = refl
@@ -124,7 +124,7 @@ pub sequence-length : (row : List ℕ) → length (sequenceOf row) ≡ sum row
 unfolding sequenceOf
 sequence-length row = strikes-length (sum row) row
 
--- the order as a test and as facts
+-- the test `precedes` passes exactly if `Before` holds
 before-from : (place : ℕ) (xs ys : List ℕ) → length xs ≡ length ys → place < length xs
     → ((i : ℕ) → i < place → getD xs i 0 ≡ getD ys i 0) → getD xs place 0 < getD ys place 0 → precedes xs ys ≡ true
 before-from place [] ys e l same better = absurd (omega arith)

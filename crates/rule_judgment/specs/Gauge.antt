@@ -1,5 +1,5 @@
--- The majority gauge [gauge], over grade counts of any size. Full majority judgment has replaced it (request 2.1). It
--- is kept for the theorem that its winner, if there is one, wins alone.
+-- The majority gauge [gauge], over grade counts of any size. Full majority judgment has replaced it (request 2.1).
+-- It is kept for the theorem that its winner, if there is one, is the only winner by judgment.
 use mathlib.Core.Bool.{Bool, true, cond, _&&_, _||_}
 use mathlib.Core.List.{List, [], _∷_, _++_}
 use Prim.Native.Nat.{ℕ, suc, _+_}
@@ -8,14 +8,14 @@ use lib.ListN.{take, drop}
 use Rattle.basics.specs.Lists.{sum}
 use Rattle.rule_judgment.specs.Median.{medianOf}
 
--- p and q: how many grades are better than the median, and how many are worse.
+-- p and q of a row: how many grades are better than the median, and how many are worse.
 unfoldable pub pOf : List ℕ → ℕ
 pOf row = sum (take (medianOf row) row)
 
 unfoldable pub qOf : List ℕ → ℕ
 qOf row = sum (drop (suc (medianOf row)) row)
 
--- Condition 1: the better median.
+-- Condition 1: a has the better median.
 unfoldable pub betterMedian : List ℕ → List ℕ → Bool
 betterMedian a b = ltb (medianOf a) (medianOf b)
 
@@ -34,21 +34,21 @@ largerP a b = equalMedians a b && ltb (qOf a) (pOf a) && ltb (qOf b) (pOf b) && 
 unfoldable pub smallerQ : List ℕ → List ℕ → Bool
 smallerQ a b = equalMedians a b && ltb (pOf a) (qOf a) && ltb (pOf b) (qOf b) && ltb (qOf a) (qOf b)
 
--- A row beats another by one of the four conditions.
+-- a beats b if one of the four conditions holds.
 unfoldable pub beats : List ℕ → List ℕ → Bool
 beats a b = betterMedian a b || strongerMedian a b || largerP a b || smallerQ a b
 
--- Whether a beats each of these.
+-- Whether a beats each of these rows.
 unfoldable pub beatsAll : List ℕ → List (List ℕ) → Bool
 beatsAll a [] = true
 beatsAll a (b ∷ others) = beats a b && beatsAll a others
 
--- A closing byte is 1 for a candidate that beats all others, and so for a single candidate; else 0. `earlier` are the
--- candidates before these.
+-- A closing byte is 1 for a candidate that beats all others, and so for a single candidate; else 0. `earlier` has
+-- the candidates before these.
 unfoldable pub closingFrom : List (List ℕ) → List (List ℕ) → List ℕ
 closingFrom earlier [] = []
 closingFrom earlier (a ∷ later) = cond (beatsAll a (earlier ++ later)) 1 0 ∷ closingFrom (earlier ++ (a ∷ [])) later
 
--- The closing bytes of a matrix of counts, one row a candidate.
+-- The closing bytes of a matrix of counts, with one row for each candidate.
 unfoldable pub closingOf : List (List ℕ) → List ℕ
 closingOf rows = closingFrom [] rows

@@ -6,7 +6,7 @@ use Rattle.basics.specs.Lists.{sum}
 use Rattle.rule_judgment.specs.Gauge.{closingOf, closingFrom, beatsAll, beats, betterMedian, equalMedians, strongerMedian, largerP, smallerQ, pOf, qOf}
 use Rattle.rule_judgment.specs.Median.{medianOf, medianFrom}
 
--- The matrix of each panel, one row a candidate.
+-- The matrix of each panel, with one row for each candidate.
 unfoldable pub panelCounts : List (List (List ℕ))
 panelCounts =
     ((31 ∷ 151 ∷ 529 ∷ 254 ∷ 35 ∷ []) ∷ (21 ∷ 48 ∷ 442 ∷ 301 ∷ 188 ∷ []) ∷ (101 ∷ 7 ∷ 2 ∷ 86 ∷ 804 ∷ []) ∷ [])

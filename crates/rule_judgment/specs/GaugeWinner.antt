@@ -1,4 +1,4 @@
--- Who wins by the majority gauge, said without a computation.
+-- Who wins by the majority gauge, as a statement instead of a computation.
 use mathlib.Core.Path.{_≡_}
 use mathlib.Core.Bool.{true}
 use mathlib.Core.Logic.{_≢_}

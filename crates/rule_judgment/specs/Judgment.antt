@@ -7,22 +7,21 @@ use lib.ListN.{getD, set}
 use Rattle.basics.specs.Lists.{sum}
 use Rattle.rule_judgment.specs.Median.{medianOf}
 
--- A row of counts with one grade g less.
+-- A row of counts after one grade g is struck out.
 unfoldable pub strike : ℕ → List ℕ → List ℕ
 strike g row = set row g (getD row g 0 - 1)
 
--- The medians of a row with this many grades: each is struck before the next is looked for.
+-- The first `left` medians of a row: each is struck out before the next is taken.
 unfoldable pub strikes : ℕ → List ℕ → List ℕ
 strikes zero row = []
 strikes (suc left) row = medianOf row ∷ strikes left (strike (medianOf row) row)
 
--- The sequence of a candidate: as many medians as it has grades. Each is the gauge's median of the grades that are
--- left.
+-- The sequence of a candidate: as many medians as it has grades. Each is the median of the grades that are left.
 unfoldable pub sequenceOf : List ℕ → List ℕ
 sequenceOf row = strikes (sum row) row
 
--- Lexicographic order: at the first place where two sequences differ, the better grade comes first. It is the smaller
--- number.
+-- Lexicographic order: at the first place where two sequences differ, the better grade, which is the smaller
+-- number, comes first. The sequences of one jury are equally long; otherwise a proper prefix would come first.
 unfoldable pub precedes : List ℕ → List ℕ → Bool
 precedes [] [] = false
 precedes [] (y ∷ ys) = true
@@ -34,7 +33,7 @@ unfoldable pub nonePrecedes : List (List ℕ) → List ℕ → Bool
 nonePrecedes [] xs = true
 nonePrecedes (ys ∷ others) xs = not (precedes ys xs) && nonePrecedes others xs
 
--- The closing bytes of a matrix of counts, one row a candidate: 1 for a candidate whose sequence no other precedes,
--- else 0. Candidates with equal sequences win together.
+-- The closing bytes of a matrix of counts, with one row for each candidate: 1 for a candidate whose sequence no
+-- other precedes, else 0. Candidates with equal sequences win together.
 unfoldable pub judgmentOf : List (List ℕ) → List ℕ
 judgmentOf rows = map (λ (row : List ℕ). cond (nonePrecedes (map sequenceOf rows) (sequenceOf row)) 1 0) rows

@@ -4,7 +4,7 @@ pub mod Judgment
 pub mod Winner
 pub mod Theorems
 pub mod Raised
--- The majority gauge, kept for the theorem that its winner wins alone.
+-- The majority gauge, kept for the theorem that its winner is the only winner by judgment.
 pub mod Gauge
 pub mod GaugeWinner
 pub mod GaugePanels

@@ -5,7 +5,8 @@ use Prim.Native.Nat.{ℕ, suc, _+_, _*_}
 use lib.Dec.{leb}
 use Rattle.basics.specs.Lists.{sum}
 
--- The first place where the running sum, this count and `before` included, is at least half of n.
+-- The first place at which the running sum is at least half of n. The sum includes `before` and the count at the
+-- place.
 unfoldable pub medianFrom : ℕ → ℕ → List ℕ → ℕ
 medianFrom n before [] = 0
 medianFrom n before (x ∷ xs) = cond (leb n (2 * (before + x))) 0 (suc (medianFrom n (before + x) xs))

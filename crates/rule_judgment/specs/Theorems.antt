@@ -9,32 +9,35 @@ use Rattle.rule_judgment.specs.Gauge.{closingOf}
 use Rattle.rule_judgment.specs.Judgment.{sequenceOf, judgmentOf}
 use Rattle.rule_judgment.specs.Winner.{JudgmentWinner}
 
--- Every candidate of a matrix of counts has n grades.
+-- Every candidate of a matrix of counts was given n grades.
 abbrev pub EachGets : ℕ → List (List ℕ) → Type 0
 EachGets n rows = (i : ℕ) → i < length rows → sum (getD rows i []) ≡ n
 
--- A closing byte is 1 exactly for a winner, else 0.
+-- Closing byte i is 1 exactly if candidate i wins, and 0 exactly if it does not.
 pub record ByteSays (rows : List (List ℕ)) (i : ℕ) : Type 0 where
   pub one : (getD (judgmentOf rows) i 0 ≡ 1) ↔ JudgmentWinner rows i
   pub zero : (getD (judgmentOf rows) i 0 ≡ 0) ↔ (¬ JudgmentWinner rows i)
 
+-- The same for every candidate, if all candidates were given equally many grades.
 abbrev pub BytesSay : Type 0
 BytesSay = (n : ℕ) (rows : List (List ℕ)) → EachGets n rows → (i : ℕ) → i < length rows → ByteSays rows i
 
--- A jury with a candidate has a winner.
+-- Some candidate has the closing byte 1.
 pub record SomeWinner (rows : List (List ℕ)) : Type 0 where
   pub who : ℕ
   pub candidate : who < length rows
   pub wins : getD (judgmentOf rows) who 0 ≡ 1
 
+-- A jury with at least one candidate has a winner.
 abbrev pub SomebodyWins : Type 0
 SomebodyWins = (rows : List (List ℕ)) → 0 < length rows → SomeWinner rows
 
--- If the gauge names a winner, full majority judgment names that one and nobody else.
+-- Candidate i wins by full majority judgment, and no other candidate does.
 pub record NamedAlone (rows : List (List ℕ)) (i : ℕ) : Type 0 where
   pub wins : getD (judgmentOf rows) i 0 ≡ 1
   pub alone : (j : ℕ) → j < length rows → j ≢ i → getD (judgmentOf rows) j 0 ≡ 0
 
+-- If the gauge has a winner, it is the only winner by full majority judgment [judgment-gauge].
 abbrev pub GaugeKept : Type 0
 GaugeKept =
     (n : ℕ) (rows : List (List ℕ)) → 1 ≤ n → EachGets n rows → (i : ℕ) → getD (closingOf rows) i 0 ≡ 1

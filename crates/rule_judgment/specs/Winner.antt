@@ -1,12 +1,11 @@
--- Who wins by full majority judgment, said without a computation.
+-- Who wins by full majority judgment, as a statement instead of a computation.
 use mathlib.Core.Path.{_≡_}
 use mathlib.Core.List.{List, []}
 use Prim.Native.Nat.{ℕ, _<_}
 use lib.ListN.{length, getD}
 use Rattle.rule_judgment.specs.Judgment.{sequenceOf}
 
--- One sequence comes before another if it has the better grade at some place, and the same grades at all places
--- before that.
+-- xs comes before ys: it has the better grade at some place, and the same grades at all places before.
 pub record Before (xs ys : List ℕ) : Type 0 where
   pub place : ℕ
   pub inside : place < length xs

@@ -1,5 +1,5 @@
-// Full majority judgment on the matrix of grade counts, without striking grade after grade: the running sums of two
-// candidates at two grades tell whose sequence comes first, and equal sequences have equal counts.
+// Full majority judgment from the matrix of grade counts. Nothing is struck out: the running sums of two candidates
+// at two grades decide whose sequence comes first, and sequences are equal only if all counts are equal.
 use jury::shape::Shape;
 ghost use mathlib.Core.Path.{_≡_};
 ghost use Prim.Native.Nat.{_≤_};
@@ -11,14 +11,14 @@ ghost use Rattle.rule_judgment.specs.Judgment.{sequenceOf, precedes, jud
 ghost use Rattle.rule_judgment.specs.inner.Decision.{byteBeside, halfReached, decidedBy};
 ghost use Rattle.rule_judgment.specs.inner.Ready.{WinnersReady, FirstReady, WinningCandidate, RowsReady, Compared, SumsReady};
 
-// Running sums of two candidates: how many of their grades are at least as good as some grade.
+// Running sums of two candidates a and b at one grade: how many of their grades are that good or better.
 pub struct Sums {
     pub a: usize,
     pub b: usize,
 }
 
 // The closing bytes: 1 for each candidate with the first sequence, 0 for the others and from place k on. There is no
-// loop, and the matrix is lent: the processor waits if what was stored in parts is read or copied as a whole.
+// loop, and the matrix is lent: reading or copying as a whole what was just stored in parts would stall the processor.
 pub fn winners(shape: Shape, counts: &[[u16; 7]; 8]) -> [u8; 8]
     requires { ⌜ WinnersReady shape (now counts) ⌝ }
     ensures { λ r.
@@ -122,8 +122,8 @@ fn half_reached(n: usize, sums: Sums) -> bool
     n <= 2 * sums.a || n <= 2 * sums.b
 }
 
-// Whether a comes before b, by their sums at the last grade below half where they differ, and at the first from half
-// on.
+// Whether a comes before b. `lower` has their sums at the last difference below half (0 and 0 if there is none),
+// `upper` their sums at the first difference from half on.
 fn decided(n: usize, lower: Sums, upper: Sums) -> bool
     requires { ⌜ (lower .a ≤ 255) × (lower .b ≤ 255) × (upper .a ≤ 255) × (upper .b ≤ 255) ⌝ }
     ensures { λ r. ⌜ r ≡ decidedBy n lower upper ⌝ }

@@ -1,4 +1,4 @@
--- From the tables of the count to the rule.
+-- The tables of the plain count give the rule's closing bytes.
 -- Assumes nothing.
 use mathlib.Core.Path.{_≡_, _∙_, refl, sym, ap}
 use mathlib.Core.Bool.{Bool, cond, _||_}
@@ -40,7 +40,7 @@ unbeaten-same k p q i h a = all-same (λ j. eqb j i || leb (p j i) (p i j)) (λ 
     other : (j : ℕ) → j < k → j ≢ i → (eqb j i || leb (p j i) (p i j)) ≡ (eqb j i || leb (q j i) (q i j))
     other j l n = rw (a j i l h n, a i j h l (λ e. n (sym e)))
 
--- strengths of links that agree between the k candidates give strongest paths that agree
+-- if the strengths of links agree between the k candidates, so do the strengths of the strongest paths
 pub strongest-agree : (k : ℕ) (s t : ℕ → ℕ → ℕ) → AgreePairs k s t → AgreePairs k (strongest s k) (strongest t k)
 strongest-agree k s t a i j hi hj ne =
     sym (closure-strongest s k i j ne) ∙ closure-agree k k s t (omega arith) a i j hi hj ne ∙ closure-strongest t k i j ne

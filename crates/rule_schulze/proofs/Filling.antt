@@ -1,4 +1,4 @@
--- Loops that put one number a turn into a row, or one row a turn into a table: the entries below i are right, and a
+-- Loops that put one number into a row in each turn, or one row into a table: the entries below i are right, and a
 -- turn adds entry i.
 -- Assumes nothing.
 use mathlib.Core.Path.{_≡_, _∙_, ap}

@@ -1,4 +1,4 @@
--- Who beats whom without the detour over the last candidate: six strengths of the table before it are enough.
+-- Who beats whom, from the table before the detour over the last candidate: six of its strengths are enough.
 -- Assumes nothing.
 use mathlib.Core.Path.{_≡_, _∙_, refl, sym}
 use mathlib.Core.Bool.{_||_}
@@ -14,8 +14,8 @@ use Rattle.rule_schulze.specs.Closure.{detour, closure}
 use Rattle.rule_schulze.proofs.Paths.{detour-more, detour-over, closure-strongest, through}
 use Rattle.rule_schulze.proofs.Tables.{detour-stays}
 
--- j beats i, and the last candidate l does not beat i. a, b are the strengths from i to j and back, α, β those from i
--- to l and back, α′, β′ those from j to l and back.
+-- j beats i, for the case that the last candidate l does not beat i (β ≤ α). a and b are the strengths from i to j
+-- and back, α and β those from i to l and back, α′ and β′ those from j to l and back.
 abbrev pub BeatsBySix : ℕ → ℕ → ℕ → ℕ → ℕ → Type 0
 BeatsBySix a b β α′ β′ = ((β′ < β) × (β′ < α′)) ⊎ ((β ≤ β′) × (a < b) × (β < b))
 
@@ -26,7 +26,8 @@ other-small x y z h l = omega arith
 first-small : (x y z : ℕ) → min x y ≤ z → z < y → x ≤ z
 first-small x y z h l = omega arith
 
--- the strengths a and b with the paths over l, whose parts are α, β′ and α′, β
+-- a and b after the detour over l: the path from i to j over l has the parts α and β′, the one from j to i has α′
+-- and β
 nearer-beats : (a b α β α′ β′ : ℕ) → a ≤ β′ → β′ < β → β′ < α′ → max a (min α β′) < max b (min α′ β)
 nearer-beats a b α β α′ β′ small h g = omega arith
 
@@ -45,7 +46,7 @@ farther-beaten a b α β α′ β′ h g less =
     largest : (a b x y β : ℕ) → β ≤ x → y ≤ β → max a x < max b y → (a < b) × (β < b)
     largest a b x y β h g l = (omega arith, omega arith)
 
--- the statement about numbers, from four facts about them
+-- the statement about the six numbers, from four facts about them
 module _ (a b α β α′ β′ : ℕ) (unbeaten : β ≤ α) (to′ : min b α ≤ α′) (from : min β′ b ≤ β) (from′ : min β a ≤ β′) where
   six-beats : BeatsBySix a b β α′ β′ → max a (min α β′) < max b (min α′ β)
   six-beats h =
@@ -79,7 +80,7 @@ module _ (s : ℕ → ℕ → ℕ) (l : ℕ) where
   unfolding closure
   after-is i j ne = closure-strongest s (suc l) i j ne
 
-  -- that detour changes no strength to or from l
+  -- the detour over l changes no strength to or from l
   pub last-to : (i : ℕ) → i < l → before i l ≡ strongest s (suc l) i l
   last-to i h =
       let il : i ≢ l = λ e. omega arith in
@@ -96,7 +97,7 @@ module _ (s : ℕ → ℕ → ℕ) (l : ℕ) where
     over : strongest s (suc l) i j ≡ max (before i j) (min (before i l) (before l j))
     over = sym (after-is i j ne) ∙ detour-over l before i j (λ e. omega arith) (λ e. omega arith) ne
 
-    -- the path over j is no better, to l and from it
+    -- the path over j is no stronger, neither to l nor from l
     to-last : min (before i j) (before j l) ≤ before i l
     to-last =
         let more : before i j ≤ strongest s (suc l) i j = omega (arith, detour-more l before i j, after-is i j ne) in

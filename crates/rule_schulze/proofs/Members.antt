@@ -68,7 +68,7 @@ of-without {y} x (z ∷ zs) m = here (eqb x z) refl (λ h. let r = of-without x 
     here true e later h = later h
     here false e later h = ⊎-elim (λ s. (List·Memᴰ·head s, λ d. eqb-false x z e (sym d ∙ s))) later (List·Memᴰ·cases-cons h)
 
--- and is no longer; it is shorter if x was in it
+-- a list without x is no longer than before, and shorter if x was in it
 pub without-most : (x : ℕ) (xs : List ℕ) → length (without x xs) ≤ length xs
 unfolding without
 without-most x [] = omega arith
@@ -139,7 +139,7 @@ of-selections {q} (suc most) free m =
         let r = of-map (λ rest. l ∷ rest) (selections most (without l free)) h in
         rw (r .2) (extended l (r .0) m (shorter l (r .0) (r .1)))
 
--- and every such list is a selection
+-- every list of some of the candidates, none of them twice, is a selection
 pub in-selections : (most : ℕ) (free q : List ℕ) → length free ≤ most → Distinct q → ((x : ℕ) → On x q → On x free)
     → List·Memᴰ q (selections most free)
 unfolding selections

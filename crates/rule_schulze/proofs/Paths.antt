@@ -1,5 +1,5 @@
--- The paths theorem: detours over all candidates, one after another, give the strength of the strongest simple path.
--- Strengths are compared by thresholds: a path has strength T or more if each of its links has.
+-- The paths theorem: detours over all candidates, one after another, give the strength of the strongest simple
+-- path. Strengths are compared with a threshold T: a path has at least the strength T if each of its links has.
 -- Assumes nothing.
 use mathlib.Core.Path.{_≡_, _∙_, refl, sym}
 use mathlib.Core.Bool.{Bool, true, false, cond, _||_}
@@ -41,7 +41,7 @@ module _ (s : ℕ → ℕ → ℕ) where
   via-join T i [] l r j g h = (g, h)
   via-join T i (m ∷ q) l r j g h = (g .0, via-join T m q l r j (g .1) h)
 
-  -- the rest of a path after i
+  -- the rest of a path after it has visited i
   record After (T i : ℕ) (q : List ℕ) (j : ℕ) : Type 0 where
     rest : List ℕ
     strong : Via T i rest j
@@ -66,7 +66,7 @@ module _ (s : ℕ → ℕ → ℕ) where
       later : After T i q j → After T i (x ∷ q) j
       later a = record { rest = a .rest; strong = a .strong; never = a .never; once = a .once; part = λ y g. List·Memᴰ·tail (a .part y g) }
 
-  -- a path that visits nobody twice and is at least as strong
+  -- a path from i to j that visits nobody twice and has at least the strength T
   pub record Direct (T k i j : ℕ) : Type 0 where
     pub between : List ℕ
     pub strong : Via T i between j
@@ -171,7 +171,7 @@ module _ (s : ℕ → ℕ → ℕ) where
         part-second = λ y g. (List·Memᴰ·tail (c .part-second y g .0), c .part-second y g .1);
       }
 
--- the listed paths are the simple ones
+-- `simplePaths` lists exactly the simple paths
 module _ (k i j : ℕ) (ne : i ≢ j) where
   listed-simple : (q : List ℕ) → List·Memᴰ q (simplePaths k i j) → SimplePath k i q j
   unfolding simplePaths
@@ -201,7 +201,7 @@ module _ (k i j : ℕ) (ne : i ≢ j) where
       (in-without j (allCandidates k) (in-candidates k x (p .below x g)) (λ e. p .once .1 .0 (Memᴰ·cast (sym e) g)))
       (λ e. p .once .0 (List·Memᴰ·tail (Memᴰ·cast (sym e) g))))
 
-  -- the link itself
+  -- the link by itself is a simple path
   pub direct : SimplePath k i [] j
   direct = record { below = λ x g. absurd (List·Memᴰ·not-nil g); once = (λ m. ne (List·Memᴰ·eq-of-singleton m), (List·Memᴰ·not-nil, tt)) }
 
@@ -214,7 +214,7 @@ detour-more l t i j = go (eqb i l || eqb j l || eqb i j)
     go true = omega arith
     go false = omega arith
 
--- three different candidates
+-- the detour, if i, j and l are three different candidates
 pub detour-over : (l : ℕ) (t : ℕ → ℕ → ℕ) (i j : ℕ) → i ≢ l → j ≢ l → i ≢ j → detour l t i j ≡ max (t i j) (min (t i l) (t l j))
 unfolding detour
 detour-over l t i j a b c = rw (ne-eqb i l a, ne-eqb j l b, ne-eqb i j c)
@@ -302,7 +302,7 @@ module _ (s : ℕ → ℕ → ℕ) where
       }
 
   module _ (k i j : ℕ) (ne : i ≢ j) where
-    -- what the rule computes is the strength of a strongest path
+    -- the rule computes the strength of a strongest path
     pub strongest-is : Strongest s k i j (strongest s k i j)
     unfolding strongest
     strongest-is =
@@ -330,7 +330,7 @@ module _ (s : ℕ → ℕ → ℕ) where
         omega (arith, strong-via s (closure k s i j) i (d .between) j (d .strong), best .largest (d .between) (d .simple)) in
         omega arith
 
--- the path over a third candidate is no stronger than the strongest
+-- a path over a third candidate is no stronger than the strongest path
 pub through : (s : ℕ → ℕ → ℕ) (k i l j : ℕ) → l < k → i ≢ l → l ≢ j → i ≢ j
     → min (strongest s k i l) (strongest s k l j) ≤ strongest s k i j
 through s k i l j h il lj ij =

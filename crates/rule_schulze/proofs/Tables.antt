@@ -1,4 +1,4 @@
--- What the loops of the count find in their tables.
+-- What the loops of the plain count find in their tables.
 -- Assumes nothing.
 use mathlib.Core.Path.{_≡_, _∙_, sym, ap}
 use mathlib.Core.Bool.{Bool, true, false, cond, _||_, true≢false}
@@ -30,14 +30,14 @@ place-within k n b i j hb hi hj =
     let m : (b * k + i) * k + k ≤ n * k * k = row-within (b * k + i) (n * k) k (omega arith) in
     omega arith
 
--- there are few bytes
+-- bounds for the bytes of one ballot and of all ballots
 pub few-bytes : (k n : ℕ) (xs : List ℕ) → RankedSize k n xs → (k * k ≤ 64) × (n * k * k ≤ 16320)
 few-bytes k n xs s = (
   mul-le-mul (s .most-candidates) (s .most-candidates),
   mul-le-mul (mul-le-mul (s .most-ballots) (s .most-candidates)) (s .most-candidates),
 )
 
--- one ballot more
+-- the votes after one more ballot
 votes-more : (k b : ℕ) (xs : List ℕ) (i j : ℕ) → votes k (b + 1) xs i j ≡ votes k b xs i j + cond (before k xs b i j) 1 0
 unfolding votes
 votes-more k b xs i j = ap (λ (n : ℕ). votes k n xs i j) (add-one b)
@@ -58,7 +58,7 @@ votes-none k b xs i j at p e =
     (ne-eqb (getD xs ((b * k + i) * k + j) 0) 1 (λ h. e (ap (λ (m : ℕ). getD xs m 0) p ∙ h)))
     ∙ add-zero (votes k b xs i j)
 
--- the test of one candidate after another
+-- the test of candidate i against one candidate after another
 module _ (t : List (List ℕ)) (k i : ℕ) where
   abbrev unbeatenBy : ℕ → Bool
   unbeatenBy j = eqb j i || leb (entry t j i) (entry t i j)
@@ -75,13 +75,13 @@ module _ (t : List (List ℕ)) (k i : ℕ) where
       fails : unbeatenBy j ≡ false
       fails = rw (ne-eqb j i n, lt-leb (entry t j i) (entry t i j) l)
 
--- the table of the rule after a detour
+-- the entry (i, j) of a table after a detour over l
 module _ (l : ℕ) (t : ℕ → ℕ → ℕ) (i j : ℕ) where
   pub detour-stays : (eqb i l || eqb j l || eqb i j) ≡ true → detour l t i j ≡ t i j
   unfolding detour
   detour-stays e = ap (λ (b : Bool). cond b (t i j) (max (t i j) (min (t i l) (t l j)))) e
 
-  -- if i or j is l itself, the path over l is no detour, and trying it does no harm
+  -- if i or j is l itself, the path over l is no detour, and trying it changes nothing
   pub detour-tried : i ≢ j → max (t i j) (min (t i l) (t l j)) ≡ detour l t i j
   detour-tried ne = ⊎-elim from (λ il. ⊎-elim to (λ jl. sym (detour-over l t i j il jl ne)) (same-or-not j l)) (same-or-not i l)
     where
@@ -99,7 +99,7 @@ module _ (l : ℕ) (t : ℕ → ℕ → ℕ) (i j : ℕ) where
         detour-stays (or-first (eqb i l || eqb j l) (eqb i j) (or-second (eqb i l) (eqb j l) (eq-eqb j l e))),
       )
 
--- tables that agree for every pair of the k candidates still do after a detour
+-- tables that agree for every pair of the k candidates still agree after a detour
 module _ (k : ℕ) (t u : ℕ → ℕ → ℕ) where
   abbrev pub AgreePairs : Type 0
   AgreePairs = (i j : ℕ) → i < k → j < k → i ≢ j → t i j ≡ u i j

@@ -1,4 +1,5 @@
--- Winners by Schulze's rule: the closing bytes say who wins, a Condorcet winner wins alone, and somebody always wins.
+-- Winners by Schulze's rule: the closing bytes say who wins, a Condorcet winner is the only winner, and somebody
+-- wins.
 -- Assumes nothing.
 use mathlib.Core.Path.{_≡_, _∙_, refl, sym, ap}
 use mathlib.Core.Bool.{Bool, true, false, cond, _||_}
@@ -32,7 +33,7 @@ holds-all test [] h = refl
 holds-all test (y ∷ ys) h = and-both (test y) (all test ys) (h y (List·Memᴰ·head refl))
     (holds-all test ys (λ x m. h x (List·Memᴰ·tail m)))
 
--- there is only one greatest strength
+-- there is only one largest strength
 pub strongest-only : (s : ℕ → ℕ → ℕ) (k i j x : ℕ) → i ≢ j → Strongest s k i j x → x ≡ strongest s k i j
 strongest-only s k i j x ne a =
     let b = strongest-is s k i j ne in
@@ -45,7 +46,7 @@ strongest-only s k i j x ne a =
     )
 
 module _ (v : ℕ → ℕ → ℕ) (k i : ℕ) where
-  -- no candidate reaches i better than i reaches it
+  -- no candidate j has a stronger path to i than i has to j
   abbrev pub Unbeaten : Type 0
   Unbeaten = (j : ℕ) → j < k → j ≢ i → strongest (link v) k j i ≤ strongest (link v) k i j
 
@@ -70,7 +71,7 @@ module _ (v : ℕ → ℕ → ℕ) (k i : ℕ) where
       other j h n = or-second (eqb j i) (leb (strongest (link v) k j i) (strongest (link v) k i j))
           (le-leb (strongest (link v) k j i) (strongest (link v) k i j) (u j h n))
 
-  -- if one candidate reaches i better, i does not win
+  -- if some j has a stronger path to i than i has to j, then i does not win
   pub beaten-loses : (j : ℕ) → j < k → j ≢ i → strongest (link v) k i j < strongest (link v) k j i → wins v k i ≡ false
   beaten-loses j h n l = never-true (wins v k i) (λ e. let u = wins-unbeaten e j h n in omega arith)
 
@@ -113,7 +114,7 @@ link-strongest : (s : ℕ → ℕ → ℕ) (k i j : ℕ) → i ≢ j → s i j �
 unfolding weakest
 link-strongest s k i j ne = strongest-is s k i j ne .largest [] (direct k i j ne)
 
--- nobody reaches a candidate to which no link leads
+-- if no link leads to i, every path to i has strength 0
 unreached : (s : ℕ → ℕ → ℕ) (k i T j : ℕ) (q : List ℕ) → ((x : ℕ) → x < k → x ≢ i → s x i ≡ 0) → j < k → j ≢ i
     → ((x : ℕ) → On x q → x < k) → (¬ On i q) → Via s T j q i → T ≡ 0
 unreached s k i T j [] z h n b never w = let e : s j i ≡ 0 = z j h n in omega arith
@@ -143,7 +144,7 @@ module _ (v : ℕ → ℕ → ℕ) (k i : ℕ) (low : i < k) (preferred : (j : �
     λ j h n. beaten-loses v k j i low (λ e. n (sym e)) (omega (arith, none-back j h n, some-forth j h n)),
   )
 
--- a reaches b better than b reaches a
+-- a has a stronger path to b than b has to a
 abbrev Beats : (ℕ → ℕ → ℕ) → ℕ → ℕ → ℕ → Type 0
 Beats s k a b = strongest s k b a < strongest s k a b
 

@@ -8,11 +8,12 @@ use lib.ListN.{getD}
 use Rattle.basics.specs.Lists.{tabulate, all, maximum}
 use Rattle.rule_schulze.specs.Schulze.{link, weakest, allCandidates, without, selections, simplePaths, strongest, wins, schulzeOf}
 
--- A number of equal ballots.
+-- `times` equal ballots; `ranks` has the rank of each candidate.
 pub record Ballots : Type 0 where
   pub times : ℕ
   pub ranks : List ℕ
 
+-- A jury of `size` candidates with its ballots, and its closing bytes.
 pub record Panel : Type 0 where
   pub size : ℕ
   pub ballots : List Ballots
@@ -30,7 +31,7 @@ preferring [] i j = 0
 preferring (b ∷ bs) i j = cond (ltb (getD (b .ranks) i 0) (getD (b .ranks) j 0)) (b .times) 0 + preferring bs i j
 
 -- In this order: a cycle of three; the example with 45 ballots from Schulze's paper; a tie of two; a single
--- candidate; a jury that margins would leave tied; one that needs a path of three links.
+-- candidate; a jury that would be tied if strengths were margins; one that needs a path of three links.
 pub panels : List Panel
 panels =
     panel 3 (ballots 1 (0 ∷ 1 ∷ 2 ∷ []) ∷ ballots 1 (2 ∷ 0 ∷ 1 ∷ []) ∷ ballots 1 (1 ∷ 2 ∷ 0 ∷ []) ∷ []) (1 ∷ 1 ∷ 1 ∷ [])

@@ -26,7 +26,7 @@ pub fn winners(votes: [[u16; 8]; 8], k: usize) -> [u8; 8]
     closing
 }
 
-// Whether no candidate has a stronger path to i than i has to it.
+// Whether no candidate j has a stronger path to i than i has to j.
 fn wins(paths: [[u16; 8]; 8], k: usize, i: usize) -> bool
     requires { ⌜ (k ≤ 8) × (i < k) ⌝ }
     ensures { λ r. ⌜ r ≡ unbeatenIn paths k i ⌝ }
@@ -71,14 +71,14 @@ fn links_of(votes: [[u16; 8]; 8], k: usize, i: usize) -> [u16; 8]
     row
 }
 
-// The strength of a link, from the votes for and against it.
+// The strength of a link, from the votes in its direction and those in the opposite one.
 fn link(forth: u16, back: u16) -> u16
     ensures { λ r. ⌜ r ≡ cond (ltb back forth) forth 0 ⌝ }
 {
     if back < forth { forth } else { 0 }
 }
 
-// The strengths of the strongest paths: detours over one candidate after another.
+// The strengths of the strongest paths, by the algorithm of Floyd and Warshall.
 fn strongest_paths(links: [[u16; 8]; 8], k: usize) -> [[u16; 8]; 8]
     requires { ⌜ k ≤ 8 ⌝ }
     ensures { λ r. ⌜ HoldsPairs k r (closure.closure k (entry links)) ⌝ }
@@ -93,7 +93,7 @@ fn strongest_paths(links: [[u16; 8]; 8], k: usize) -> [[u16; 8]; 8]
     paths
 }
 
-// The strengths once paths over l are allowed too.
+// The strengths if paths over l are allowed too.
 fn detour(paths: [[u16; 8]; 8], k: usize, l: usize) -> [[u16; 8]; 8]
     requires { ⌜ (k ≤ 8) × (l < k) ⌝ }
     ensures { λ r. ⌜ HoldsPairs k r (closure.detour l (entry paths)) ⌝ }
@@ -108,7 +108,7 @@ fn detour(paths: [[u16; 8]; 8], k: usize, l: usize) -> [[u16; 8]; 8]
     after
 }
 
-// The strengths from i once paths over l are allowed too. If i or j is l itself, that path is never better.
+// Row i of the strengths if paths over l are allowed too. If i or j is l itself, the path over l is never stronger.
 fn detour_from(paths: [[u16; 8]; 8], k: usize, l: usize, i: usize) -> [u16; 8]
     requires { ⌜ (k ≤ 8) × (l < k) × (i < k) ⌝ }
     ensures { λ r. ⌜

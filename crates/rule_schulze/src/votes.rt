@@ -5,7 +5,8 @@ ghost use lib.ListN.{getD};
 ghost use Rattle.rule_schulze.specs.Votes as spec;
 ghost use Rattle.rule_schulze.specs.inner.Tables.{Holds, RankedSize, VotesRowReady, VotesReady};
 
-// Row i has the numbers of ballots that put i before each other candidate. Rows and columns from k on stay 0.
+// The matrix of votes: entry (i, j) is the number of ballots that put i before j. Rows and columns from k on stay
+// 0.
 pub fn matrix(ballots: &[u8], k: usize, n: usize) -> [[u16; 8]; 8]
     requires { ⌜ RankedSize k n (now ballots) ⌝ }
     ensures { λ r. ⌜ Holds k r (spec.votes k n (now (ballots .entry))) ⌝ }
@@ -20,7 +21,7 @@ pub fn matrix(ballots: &[u8], k: usize, n: usize) -> [[u16; 8]; 8]
     table
 }
 
-// How many ballots put i before each candidate.
+// Row i of the matrix.
 fn row_of(ballots: &[u8], k: usize, n: usize, i: usize) -> [u16; 8]
     requires { ⌜ VotesRowReady k n (now ballots) i ⌝ }
     ensures { λ r. ⌜ ((j : ℕ) → j < k → getD r j 0 ≡ spec.votes k n (now (ballots .entry)) i j) ⌝ }

@@ -17,7 +17,7 @@ half-below rest m = go (ltb rest (2 ^ suc m)) refl
     go true e = lt-ltb (rest / 2) (2 ^ m) (omega (arith, ltb-true rest (2 ^ suc m) e, two-pow-succ m)) ∙ sym e
     go false e = le-ltb (rest / 2) (2 ^ m) (omega (arith, ltb-false rest (2 ^ suc m) e, two-pow-succ m)) ∙ sym e
 
--- one digit less of the mask, one candidate less
+-- dropping the lowest digit of the mask and one candidate
 pub fits-step : (rest i k : ℕ) → i < k → ltb (rest / 2) (2 ^ (k - (i + 1))) ≡ ltb rest (2 ^ (k - i))
 fits-step rest i k h = half-below rest (k - (i + 1)) ∙ ap (λ (n : ℕ). ltb rest (2 ^ n)) {x = suc (k - (i + 1))} {y = k - i} (omega arith)
 

@@ -21,7 +21,7 @@ use Rattle.season.specs.Season.{runBytes, mostRuns, runsIn, firstBadRun,
 use Rattle.season.specs.declared.run.Run.{Run}
 use Rattle.season.specs.Theorems.{SheetSums}
 
--- the answer of both tests
+-- the first reason, from the outcomes of both tests
 unfoldable pub judged : Bool → Place → Option Reason
 judged size run = firstOf (unless size 21 ∷ foundAt 22 run ∷ [])
 
@@ -33,7 +33,7 @@ unfolding judged sheetReasons
 judged-by bytes size run e₁ e₂ = ap (λ (t : Bool). judged t (firstBadRun 0 (runsIn bytes))) e₁ ∙ ap (judged size) e₂
 
 module _ (bytes : List ℕ) where
-  -- the three ways to be refused, and the one to be accepted
+  -- the three ways in which a sheet is refused, and the one in which it is accepted
   pub part-of-a-run : (length bytes % runBytes ≡ 0 → ⊥) → firstOf (sheetReasons bytes) ≡ some (sheetReasonOf Length)
   unfolding judged unless firstOf sheetReasonOf
   part-of-a-run h = judged-by bytes false (firstBadRun 0 (runsIn bytes))

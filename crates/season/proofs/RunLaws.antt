@@ -13,7 +13,7 @@ use Rattle.gates.specs.declared.place.Place.the-variants.{At, Nowhere}
 use Rattle.season.specs.declared.run.Run.{Run}
 use Rattle.season.specs.Season.{runBytes, numberAt, runOf, firstRuns, goodRun, firstBadRun}
 
--- a run that was read number by number
+-- if each number of a run is the definition's, so is the run
 pub run-is : (bytes : List ℕ) (k d n m g c : ℕ) → k ≡ getD bytes 0 0 → d ≡ getD bytes 1 0 → n ≡ getD bytes 2 0 → m
     ≡ getD bytes 3 0 → g ≡ numberAt 4 bytes → c ≡ numberAt 8 bytes →
     _≡_ {A = Run} (record { candidates = k; grades = d; ballots = n; mask = m; gates = g; conditional = c }) (runOf bytes)
@@ -33,7 +33,7 @@ pub left-is : (i runs at : ℕ) (bytes : List ℕ) → firstRuns (runs - (i + 1)
 left-is i runs at bytes = ap (λ (n : ℕ). firstRuns (runs - n) (drop (at + runBytes) bytes)) (add-one i)
     ∙ ap (firstRuns (runs - suc i)) (sym (drop-drop runBytes at bytes))
 
--- the runs from run i on: that run first
+-- the runs from run i on: first that run, then the rest
 pub runs-step : (i runs : ℕ) (bytes : List ℕ) → i < runs → firstRuns (runs - i) bytes
     ≡ runOf (take runBytes bytes) ∷ firstRuns (runs - suc i) (drop runBytes bytes)
 unfolding firstRuns
@@ -43,7 +43,7 @@ pub runs-end : (i runs : ℕ) (bytes : List ℕ) → runs ≤ i → firstRuns (r
 unfolding firstRuns
 runs-end i runs bytes h = ap (λ (n : ℕ). firstRuns n bytes) {x = runs - i} {y = 0} (omega arith)
 
--- this run is bad; or it is good and the search goes on; or no run is left
+-- the search at run i: the run is bad; or it is good, and the search goes on; or no run is left
 bad-step : (i runs : ℕ) (bytes : List ℕ) (good : Bool) → i < runs → goodRun (runOf (take runBytes bytes)) ≡ good →
     firstBadRun i (firstRuns (runs - i) bytes) ≡ cond good (firstBadRun (suc i) (firstRuns (runs - suc i) (drop runBytes bytes))) (At i)
 unfolding firstBadRun

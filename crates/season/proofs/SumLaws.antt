@@ -1,4 +1,4 @@
--- Sums over the runs of a season: those so far and those of the runs left add up to those of all.
+-- Sums over the runs of a season: the totals so far plus those of the rest are the totals of all.
 -- Assumes nothing.
 use mathlib.Core.Path.{_≡_, _∙_, refl, sym, ap, subst}
 use mathlib.Core.Bool.{Bool, true, false, cond}
@@ -14,7 +14,7 @@ use Rattle.season.specs.Season.{runBytes, runOf, firstRuns, sumOver, win
 use Rattle.season.specs.inner.Sums.{Small, SumsOf, plusRun}
 use Rattle.season.proofs.RunLaws.{runs-step, runs-end, part-is, left-is}
 
--- two totals, number by number
+-- the sum of two totals, number by number
 unfoldable pub plus : Totals → Totals → Totals
 plus t u = record {
   runs = t .runs + u .runs;
@@ -29,18 +29,18 @@ pub same-totals : (r g c b s r' g' c' b' s' : ℕ) → r ≡ r' → g ≡ g' →
     (record { runs = r'; gates = g'; conditional = c'; ballots = b'; shared = s' })
 same-totals r g c b s r' g' c' b' s' e₁ e₂ e₃ e₄ e₅ = cc
 
--- no runs are summed yet
+-- at the start, the totals so far are zeros
 pub plus-start : (u : Totals) → plus (record { runs = 0; gates = 0; conditional = 0; ballots = 0; shared = 0 }) u ≡ u
 unfolding plus
 plus-start u = same-totals _ _ _ _ _ _ _ _ _ _ (zero-add (u .runs)) (zero-add (u .gates))
     (zero-add (u .conditional)) (zero-add (u .ballots)) (zero-add (u .shared))
 
--- the sums over no run
+-- at the end, the totals of the rest are zeros
 pub plus-end : (t : Totals) → plus t (totalsOf []) ≡ t
 unfolding plus totalsOf sumOver
 plus-end t = same-totals _ _ _ _ _ _ _ _ _ _ (omega arith) (omega arith) (omega arith) (omega arith) (omega arith)
 
--- one run moves from what is left to what is summed
+-- adding a run to the totals so far takes it from the rest
 pub plus-run : (t : Totals) (r : Run) (rs : List Run) → plus (plusRun t r) (totalsOf rs) ≡ plus t (totalsOf (r ∷ rs))
 unfolding plus plusRun totalsOf sumOver
 plus-run t r rs = same-totals _ _ _ _ _ _ _ _ _ _ (omega arith) (omega arith) (omega arith) (omega arith) (omega arith)
@@ -56,7 +56,7 @@ sums-step t i runs bytes h = plus-run t (runOf (take runBytes bytes))
 pub sums-end : (t : Totals) (i runs : ℕ) (bytes : List ℕ) → runs ≤ i → plus t (totalsOf (firstRuns (runs - i) bytes)) ≡ t
 sums-end t i runs bytes h = ap (λ (rs : List Run). plus t (totalsOf rs)) (runs-end i runs bytes h) ∙ plus-end t
 
--- a turn of the loop, in the program's words
+-- the same, with the program's values
 pub sums-turn : (t u : Totals) (r : Run) (i runs at : ℕ) (bytes : List ℕ) → i < runs → u ≡ plusRun t r → r
     ≡ runOf (take (at + runBytes - at) (drop at bytes)) →
     plus u (totalsOf (firstRuns (runs - (i + 1)) (drop (at + runBytes) bytes))) ≡ plus t (totalsOf (firstRuns (runs - i) (drop at bytes)))
@@ -82,7 +82,7 @@ shared-most r = go (ltb 1 (winnersOf r)) refl
     go true e = omega (arith, shared-one r e)
     go false e = omega (arith, shared-none r e)
 
--- bounds for a few runs hold for more, and one more run moves to the next bound
+-- bounds for i runs hold for more runs, and after one more run the bounds for i + 1 runs hold
 pub sums-most : (i n : ℕ) (t : Totals) → i ≤ n → SumsOf i t → SumsOf n t
 sums-most i n t h s = record {
   runs-most = omega (arith, s .runs-most);

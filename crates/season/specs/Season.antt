@@ -17,10 +17,11 @@ use Rattle.season.specs.declared.sheet.Refusal.the-variants.{Length, Bad
 use Rattle.season.specs.declared.sheet.Answer.{Answer}
 use Rattle.season.specs.declared.sheet.Answer.the-variants.{Accepted, Refused}
 
--- The bytes of one run, and the most runs of a season.
+-- How many bytes a run has.
 abbrev pub runBytes : ℕ
 runBytes = 12
 
+-- How many runs a season has at most.
 abbrev pub mostRuns : ℕ
 mostRuns = 4096
 
@@ -40,7 +41,7 @@ runOf bytes = record {
   conditional = numberAt 8 bytes;
 }
 
--- The first runs, without gaps.
+-- The first n runs. There are no gaps between them.
 unfoldable pub firstRuns : ℕ → List ℕ → List Run
 firstRuns zero bytes = []
 firstRuns (suc n) bytes = runOf (take runBytes bytes) ∷ firstRuns n (drop runBytes bytes)
@@ -64,19 +65,19 @@ goodRun r =
     withinLimits (record { candidates = r .candidates; grades = r .grades; ballots = r .ballots })
     && ltb (r .mask) (2 ^ r .candidates)
 
--- The first bad run, where the first run here has place i.
+-- The place of the first bad run. The first of these runs has place i.
 unfoldable pub firstBadRun : ℕ → List Run → Place
 firstBadRun i [] = Nowhere
 firstBadRun i (r ∷ rs) = cond (goodRun r) (firstBadRun (suc i) rs) (At i)
 
--- The reasons in checking order: 21 for the length, then 22 at the first bad run.
+-- The reasons, in the order of their tests: 21 for the length, then 22 at the first bad run.
 unfoldable pub sheetReasons : List ℕ → List (Option Reason)
 sheetReasons bytes =
     unless (eqb (length bytes % runBytes) 0 && leb (length bytes) (mostRuns * runBytes)) 21
     ∷ foundAt 22 (firstBadRun 0 (runsIn bytes))
     ∷ []
 
--- The sum of a number over all runs.
+-- The sum of f over these runs.
 unfoldable pub sumOver : (Run → ℕ) → List Run → ℕ
 sumOver f [] = 0
 sumOver f (r ∷ rs) = f r + sumOver f rs
@@ -100,11 +101,12 @@ unfoldable pub sheetReasonOf : Refusal → Reason
 sheetReasonOf Length = reasonAt 21 0
 sheetReasonOf (BadRun i) = reasonAt 22 i
 
--- The reason of an answer if it is a refusal, and its totals if it is not.
+-- The reason of an answer, if it is a refusal.
 unfoldable pub reasonFor : Answer → Option Reason
 reasonFor (Accepted totals) = none
 reasonFor (Refused r) = some (sheetReasonOf r)
 
+-- The totals of an answer, if it is accepted.
 unfoldable pub totalsFor : Answer → Option Totals
 totalsFor (Accepted totals) = some totals
 totalsFor (Refused r) = none

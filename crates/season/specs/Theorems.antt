@@ -1,4 +1,4 @@
--- What holds for the sheet.
+-- What holds for the season sheet.
 use mathlib.Core.Path.{_≡_}
 use mathlib.Core.Option.{none, some}
 use mathlib.Core.List.{List, _++_}
@@ -8,7 +8,8 @@ use Rattle.season.specs.Season.{sheetReasons, sumOver, totalsOf, runsIn,
 use Rattle.season.specs.declared.run.Run.{Run}
 use Rattle.season.specs.declared.sheet.Answer.{Answer}
 
--- An accepted sheet has the totals of its runs, and each total of two seasons in one sheet is the sum of both.
+-- An accepted sheet has the totals of its runs; and a sum over the runs of two seasons is the sum over the first
+-- plus the sum over the second.
 pub record SheetSums : Type 0 where
   pub told : (bytes : List ℕ) (r : Answer) → Sheet bytes r → firstOf (sheetReasons bytes) ≡ none
       → totalsFor r ≡ some (totalsOf (runsIn bytes))

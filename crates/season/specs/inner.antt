@@ -1,2 +1,2 @@
--- What inner functions ask of each other.
+-- What inner functions require of each other.
 pub mod Sums

@@ -7,10 +7,10 @@ ghost use lib.ListN.{length};
 ghost use Rattle.season.specs.Season.{runBytes, onesIn, winnersOf, goodRun};
 ghost use Rattle.season.specs.inner.Sums.{ByteRead, NumberRead, RunRead};
 
-// The bytes of a run.
+// How many bytes a run has.
 pub const RUN_BYTES: usize = 12;
 
-// The bits of a mask.
+// How many bits a mask has.
 const MASK_BITS: usize = 8;
 
 // The shape of a jury, its closing bytes as a mask whose lowest bit is candidate 0, and its list's G and C.
@@ -23,14 +23,14 @@ pub struct Run {
     pub conditional: usize,
 }
 
-// A byte as a wider number that is known to be small.
+// A byte as a wider number. The contract says that it is still below 256.
 fn wide(x: u8) -> usize
     ensures { λ r. ⌜ ByteRead x r ⌝ }
 {
     x as usize
 }
 
-// The number in four bytes, low byte first.
+// The number in the four bytes from place `at` on, low byte first.
 fn number(bytes: &[u8], at: usize) -> usize
     requires { ⌜ at + 4 ≤ length (now bytes) ⌝ }
     ensures { λ r. ⌜ NumberRead at (now (bytes .entry)) r ⌝ }
@@ -83,7 +83,7 @@ impl Run {
         }
     }
 
-    // Whether its shape is within the limits and its mask names candidates only.
+    // Whether the shape is within the limits, and the mask has bits only for candidates.
     pub fn is_good(self) -> bool
         ensures { λ r. ⌜ r ≡ goodRun self ⌝ }
     {

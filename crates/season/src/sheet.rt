@@ -11,8 +11,8 @@ ghost use Rattle.season.specs.inner.Sums.{plusRun, PlusReady, SumsReady}
 // The most bytes of a sheet: 4,096 runs.
 pub const MOST_BYTES: usize = 49152;
 
-// The totals of a sheet: how many runs; their gates, conditional gates and ballots; and how many runs have several
-// winners.
+// The totals of a sheet: the number of runs; the sums of their gates, conditional gates and ballots; and how many
+// runs have several winners.
 pub struct Totals {
     pub runs: usize,
     pub gates: usize,
@@ -27,7 +27,7 @@ pub enum Refusal {
     BadRun(usize),
 }
 
-// The answer of a sheet.
+// The totals of a sheet, or why it is refused.
 pub enum Answer {
     Accepted(Totals),
     Refused(Refusal),
@@ -44,7 +44,7 @@ impl Refusal {
         }
     }
 
-    // Its place, 0 if it has none.
+    // The place of the reason, 0 if it has none.
     pub fn place(self) -> usize
         ensures { λ r. ⌜ r ≡ (sheetReasonOf self) .place ⌝ }
     {
@@ -56,7 +56,7 @@ impl Refusal {
 }
 
 impl Totals {
-    // The totals with one more run. There are few enough runs that no sum wraps.
+    // The totals with one more run. There are so few runs that no sum wraps.
     fn plus(self, run: Run) -> Totals
         requires { ⌜ PlusReady self run ⌝ }
         ensures { λ r. ⌜ r ≡ plusRun self run ⌝ }
@@ -75,7 +75,7 @@ impl Totals {
     }
 }
 
-// The first bad run of this many.
+// The place of the first bad run.
 fn first_bad(bytes: &[u8], runs: usize) -> Place
     requires { ⌜ length (now bytes) ≡ runs * runBytes ⌝ }
     ensures { λ r. ⌜ r ≡ firstBadRun 0 (firstRuns runs (now (bytes .entry))) ⌝ }
@@ -93,7 +93,7 @@ fn first_bad(bytes: &[u8], runs: usize) -> Place
     Place::Nowhere
 }
 
-// The sums over this many runs.
+// The totals of all runs.
 fn sums(bytes: &[u8], runs: usize) -> Totals
     requires { ⌜ SumsReady (now bytes) runs ⌝ }
     ensures { λ r. ⌜ r ≡ totalsOf (firstRuns runs (now (bytes .entry))) ⌝ }
@@ -116,7 +116,7 @@ fn sums(bytes: &[u8], runs: usize) -> Totals
     totals
 }
 
-// The sheet of any bytes. The length is tested before any run is read.
+// The totals of a season's bytes, which may be anything. The length is tested before any run is read.
 pub fn sheet(bytes: &[u8]) -> Answer
     ensures { λ r. ⌜ Sheet (now (bytes .entry)) r ⌝ }
 {

@@ -1,4 +1,4 @@
--- The reason for which a count is refused: by the test of its shape, then those of its ballots.
+-- The reason for which a count is refused: that of its shape, else that of its ballots.
 -- Assumes nothing.
 use mathlib.Core.Path.{_≡_, _∙_, refl, sym, ap}
 use mathlib.Core.Bool.{Bool, true, false}

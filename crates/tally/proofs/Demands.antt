@@ -42,7 +42,7 @@ use Rattle.tally.proofs.Numbering as numbering
 use Rattle.tally.proofs.OwnList.{own-list-holds}
 use Rattle.tally.proofs.Writing as writing
 
--- the whole of a call that was refused
+-- a run that is refused answers its first reason, and does not change the wire table and the board
 module _ (s : Shape) (table ballots tape wires board : List ℕ) where
   after-refusal : (o : Option Reason) (r : Reason) → runResultAfter o s (gatesOf table) ballots tape wires board .answer ≡ refused r
       → (o ≡ some r) × (runResultAfter o s (gatesOf table) ballots tape wires board .wires ≡ wires)
@@ -86,7 +86,7 @@ pub run-lengths : (s : Shape) (table ballots tape wires board : List ℕ)
 run-lengths s table ballots tape wires board =
     lengths s table ballots tape wires board (firstOf (runReasons s table ballots tape wires board)) refl
 
--- reasons after the third have larger numbers
+-- the reasons of ballots and buffers have numbers from 4 on
 row-number : (row : Place) (r : Reason) → firstOf (foundAt 6 row ∷ []) ≡ some r → 4 ≤ r .number
 unfolding foundAt firstOf reasonAt
 row-number (At i) r e = let n : 6 ≡ r .number = cc in omega arith
@@ -122,7 +122,7 @@ lent-number true Nowhere false v r e = let n : 9 ≡ r .number = cc in omega ari
 lent-number true Nowhere true false r e = let n : 10 ≡ r .number = cc in omega arith
 lent-number true Nowhere true true r e = let z : _≡_ {A = ℕ} 0 1 = cc in absurd (omega arith)
 
--- if the list passes its test, the first reason comes after the third
+-- if the list passes its test, the first reason has a number from 4 on
 late : (a b c : Option Reason) (r : Reason) → a ≡ none → ((q : Reason) → b ≡ some q → 4 ≤ q .number)
     → ((q : Reason) → c ≡ some q → 4 ≤ q .number)
     → firstOfThree a b c ≡ some r → 4 ≤ r .number

@@ -47,9 +47,9 @@ refused k d n bytes number place = record {
   closing = 0 ∷ 0 ∷ 0 ∷ 0 ∷ 0 ∷ 0 ∷ 0 ∷ 0 ∷ [];
 }
 
--- Grades: shapes just outside the limits (1), ballots too short and too long (4), a byte 2 (5), a row without a 1 and
--- one with two (6), a byte 2 after an empty row (5). Rankings: 1 and 4 likewise, the earlier of two opposite bytes
--- (11), a candidate tied with two that are ranked (12), and that with a diagonal byte in a later ballot (11).
+-- Grades: shapes just outside the limits (1), ballots too short and too long (4), a byte 2 (5), a row without a 1
+-- and one with two (6), a byte 2 after an empty row (5). Rankings: also 1 and 4, the earlier of two opposite bytes
+-- (11), 2 tied with 0 and 1 while 0 is before 1 (12), and that with a diagonal byte in a later ballot (11).
 pub edges : List Edge
 edges =
     refused 0 2 1 [] 1 0

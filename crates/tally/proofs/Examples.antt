@@ -37,7 +37,7 @@ passed : TestPassed oneBallot oneGate one
 unfolding one
 passed = test-passed oneBallot oneGate one (list-accepted oneBallot oneGate within 1 1 list)
 
--- an accepted run of the list, once its ballots and what is lent pass their tests
+-- a run of the list is accepted if its ballots and buffers pass their tests
 module _ (ballots tape wires board : List ℕ) (b : firstOf (ballotReasons oneBallot ballots) ≡ none)
     (l : firstOf (bufferReasons (ballotBytes oneBallot) (oneBallot .candidates) one tape wires board) ≡ none) where
   outcome : (bs : List ℕ) → boardUnder ballots tape ≡ bs

@@ -23,7 +23,7 @@ use Rattle.tally.proofs.TestReasons.{never}
 use Rattle.tally.proofs.RunReasons.{RunPassed, run-passed, run-passed-back, ran-by}
 
 module _ (s : Shape) (table ballots wires board : List ℕ) where
-  -- a run that answers G and C has no reason that applies, and both numbers are the list's
+  -- if a run answers G and C, no reason applies, and both numbers are the list's
   answered : (t : List ℕ) (size : Size) (o : Option Reason) → firstOf (runReasons s table ballots t wires board) ≡ o
       → runResultAfter o s (gatesOf table) ballots t wires board .answer ≡ accepted size
       → (firstOf (runReasons s table ballots t wires board) ≡ none) × (size ≡ sizeOf (gatesOf table))
@@ -65,7 +65,7 @@ module _ (s : Shape) (table ballots wires board : List ℕ) where
     unfolding runResultAfter
     run-board = ap (λ (r : RunResult). r .board) outcome
 
-    -- and it does not depend on the old contents of the wire table and the board
+    -- the board does not depend on the old contents of the wire table and the board
     pub same-buffers : (wires′ board′ : List ℕ) → length wires′ ≡ length wires → length board′ ≡ length board
         → runResult s table ballots u wires′ board′ .board ≡ boardOf (wiresOf ballots (gatesOf table)) (gatesOf table) (s .candidates) u
     unfolding runResultAfter

@@ -1,5 +1,5 @@
--- A better grade costs nobody the win, on the gates: the closing bytes are the rule's, and by the rule a winner that
--- is graded better still wins.
+-- A better grade costs nobody the win in runs of the own list: the closing bytes are the rule's, and by the rule a
+-- winner that is graded better still wins.
 -- Assumes nothing.
 use mathlib.Core.Path.{_≡_, _∙_, refl, sym, ap}
 use mathlib.Core.Bool.{true, false, true≢false}
@@ -24,7 +24,7 @@ use Rattle.tally.proofs.PlainFacts.{plain-first}
 use Rattle.tally.proofs.Demands.{three-demands}
 use Rattle.basics.proofs.Flags.{either}
 
--- only grades are raised: ballots of a ranking stay as they are
+-- only grades can be raised, so the ballots of a ranking are the same before and after
 unraised : (s : Shape) (candidate : ℕ) → isRanking s ≡ true → {old new : List ℕ} → RaisedOften s candidate old new → old ≡ new
 unraised s candidate e unchanged = refl
 unraised s candidate e (once-more raises once) = absurd (true≢false (sym e ∙ graded-is s (within s (once .old-accepted .within))))
@@ -44,7 +44,7 @@ module _ (s : Shape) (table : List ℕ) (size : Size) (old new : List ℕ) (r : 
       (ran-accepted s (listIn s size table) new (r .after .wires) (r .after .board) (r .after .tape)
       (r .after .answer) (r .after .accepts) .0) .ballotsPassed
 
-  -- so closing bytes are those of the rule
+  -- so the closing bytes are those of the plain count
   before-plain : (c : ℕ) → byteIn (r .before) c ≡ getD (take (s .candidates) (plainClosing s old)) c 0
   before-plain c = ap (λ (bytes : List ℕ). getD bytes c 0)
       (holds .plain old (r .before .tape) (r .before .wires) (r .before .board) (r .before .answer)
@@ -54,7 +54,7 @@ module _ (s : Shape) (table : List ℕ) (size : Size) (old new : List ℕ) (r : 
   after-plain c = ap (λ (bytes : List ℕ). getD bytes c 0)
       (holds .plain new (r .after .tape) (r .after .wires) (r .after .board) (r .after .answer) (r .after .accepts))
 
-  -- no grade of a ranking is raised
+  -- so the closing bytes of a ranking are the same before and after
   same-ballots : isRanking s ≡ true → (candidate : ℕ) → RaisedOften s candidate old new → (c : ℕ)
       → byteIn (r .after) c ≡ byteIn (r .before) c
   same-ballots e candidate raises c =

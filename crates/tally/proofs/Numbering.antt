@@ -23,7 +23,7 @@ use Rattle.tally.specs.Run.{bufferReasons, runReasons, runResultAfter, r
 use Rattle.tally.specs.Test.{testReasons, testOutcome}
 use Rattle.tally.specs.Write.{writeReasons, writeOutcome}
 
--- no reason, or one with one of these numbers
+-- there is no reason, or its number is one of these
 unfoldable pub Fine : List ℕ → Option Reason → Type 0
 Fine ns none = Unit {0}
 Fine ns (some r) = T (hasNumberIn ns r)
@@ -77,7 +77,7 @@ module _ (ns : List ℕ) where
   unfolding FineSaid
   refused-fine answer r f e = subst (FineSaid ns) e f
 
-  -- the tests of either kind of ballots
+  -- the tests of ballots of either kind
   pub kind-fine : (s : Shape) (xs : List ℕ) (ranking : Bool) → ((i : ℕ) → T (hasNumberIn ns (reasonAt 6 i)))
       → ((i : ℕ) → T (hasNumberIn ns (reasonAt 11 i))) → ((b : ℕ) → T (hasNumberIn ns (reasonAt 12 b)))
       → All ns (cond ranking (rankedReasons s xs) (gradedReasons s xs))

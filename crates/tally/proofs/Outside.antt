@@ -1,5 +1,5 @@
--- For a shape outside the limits, entry points answer reason 1 and change nothing. `TestReasons`, `Writing` and
--- `CountReason` have it for test, write and count.
+-- For a shape outside the limits, measure and run answer reason 1 and change nothing. `TestReasons`, `Writing` and
+-- `CountReason` show the same for test, write and count.
 -- Assumes nothing.
 use mathlib.Core.Path.{_≡_, refl}
 use mathlib.Core.Bool.{false}

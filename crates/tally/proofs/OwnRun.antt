@@ -1,5 +1,5 @@
--- A run of the own list with a mask tape and buffers of the right lengths: only the ballots can have it refused, and
--- its closing bytes are the rule's.
+-- A run of the own list with a mask tape and buffers of the right lengths is refused only because of the ballots,
+-- and its closing bytes are the rule's.
 -- Assumes nothing.
 use mathlib.Core.Path.{_≡_, _∙_, refl, sym, ap}
 use mathlib.Core.Bool.{true}

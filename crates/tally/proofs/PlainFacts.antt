@@ -1,5 +1,5 @@
--- What a plain count answers: for accepted ballots the closing bytes of the rule, then zeros; on a refusal only
--- zeros.
+-- The eight bytes of a plain count: for accepted ballots the closing bytes of the rule, then zeros; on a refusal
+-- only zeros.
 -- Assumes nothing.
 use mathlib.Core.Path.{_≡_, _∙_, sym, ap}
 use mathlib.Core.Logic.{⊎-elim}
@@ -27,7 +27,7 @@ unfolding closingAfter
 after-length none bytes = eight-length bytes
 after-length (some r) bytes = eight-length []
 
--- there are eight bytes, whatever was handed in
+-- there are eight bytes, whatever the shape and the ballots are
 pub plain-length : (s : Shape) (xs : List ℕ) → length (plainClosing s xs) ≡ 8
 unfolding plainClosing
 plain-length s xs = after-length (countReason s xs) (closingFor s xs)
@@ -49,7 +49,7 @@ module _ (s : Shape) (xs : List ℕ) (a : AcceptedBallots s xs) where
       ∙ take-append-le (s .candidates) (closingFor s xs) (replicate 8 0) (omega (arith, bytes-length))
       ∙ take-all (s .candidates) (closingFor s xs) (omega (arith, bytes-length))
 
-  -- and each of the eight is that of the rule, or 0
+  -- each of the eight is the rule's byte, or 0 if the rule has none at that place
   plain-byte : (i : ℕ) → getD (plainClosing s xs) i 0 ≡ getD (closingFor s xs) i 0
   plain-byte i = ⊎-elim inside outside (below-or-not i 8)
     where

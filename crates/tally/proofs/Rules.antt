@@ -1,4 +1,4 @@
--- The rule of a shape by its kind: what its closing bytes are, and that they say who wins.
+-- The rule of a shape, for each of the two kinds: what its closing bytes are, and that they say who wins.
 -- Assumes nothing.
 use mathlib.Core.Path.{_≡_, _∙_, sym, ap, subst}
 use mathlib.Core.Bool.{Bool, true, false, cond, true≢false}
@@ -48,7 +48,7 @@ module _ (s : Shape) (xs : List ℕ) where
   closing-ranked e = ap (λ (t : Bool). cond t (schulzeOf (votes (s .candidates) (s .ballots) xs) (s .candidates))
       (judgmentOf (countsOf s xs))) e
 
-  -- a byte for each candidate
+  -- the rule gives one byte for each candidate
   pub closing-length : length (closingFor s xs) ≡ s .candidates
   closing-length =
       either (isRanking s) (λ e. ap length (closing-ranked e) ∙ ranked-length)
@@ -107,7 +107,7 @@ module _ (s : Shape) (xs : List ℕ) where
           past = λ i h. List·getD-eq-default (closingFor s xs) 0 {n = i} (omega (arith, closing-length));
         }
 
--- so do all bytes that agree with them at each place
+-- bytes that agree with these at every place also say who wins
 pub says-same : (s : Shape) (xs bytes others : List ℕ) → ((i : ℕ) → getD others i 0 ≡ getD bytes i 0)
     → SaysWhoWins s xs bytes → SaysWhoWins s xs others
 says-same s xs bytes others same says =

@@ -1,4 +1,4 @@
--- The reasons of a run: what their order answers, and what is known if none applies.
+-- The reasons of a run: which of them is the first, and what holds if none applies.
 -- Assumes nothing.
 use mathlib.Core.Path.{_≡_, _∙_, refl, sym, ap}
 use mathlib.Core.Bool.{Bool, true, false}
@@ -40,7 +40,7 @@ module _ (i k : ℕ) (size : Size) (tape wires board : List ℕ) where
   unfolding bufferReasons lentFound
   lent-by t p u v e f g h = rw (e, f, g, h)
 
-  -- what is known if none of them applies
+  -- what holds if none of them applies
   pub record LentPassed : Type 0 where
     pub tapeLength : length tape ≡ size .conditional
     pub tapeBits : firstAboveOne 0 tape ≡ Nowhere
@@ -74,7 +74,7 @@ module _ (i k : ℕ) (size : Size) (tape wires board : List ℕ) where
       lent-by true Nowhere true true (eq-eqb (length tape) (size .conditional) (l .tapeLength)) (l .tapeBits)
       (eq-eqb (length wires) (i + size .gates) (l .wiresLength)) (eq-eqb (length board) (size .conditional + k) (l .boardLength))
 
--- the first of three groups of tests
+-- the first reason of three groups of tests
 unfoldable pub firstOfThree : Option Reason → Option Reason → Option Reason → Option Reason
 firstOfThree test ballots lent = orElse (orElse test ballots) lent
 
@@ -85,7 +85,7 @@ three-passed none none (some r) e = let z : _≡_ {A = ℕ} 0 1 = cc in absurd (
 three-passed none (some r) c e = let z : _≡_ {A = ℕ} 0 1 = cc in absurd (omega arith)
 three-passed (some r) b c e = let z : _≡_ {A = ℕ} 0 1 = cc in absurd (omega arith)
 
--- the result of a call is equal if its three parts are
+-- two results are equal if their three parts are
 pub same-result : {answer answer′ : Outcome Size} {wires wires′ board board′ : List ℕ} → answer ≡ answer′ → wires ≡ wires′ → board ≡ board′
     → _≡_ {A = RunResult} (record { answer = answer; wires = wires; board = board })
     (record { answer = answer′; wires = wires′; board = board′ })
@@ -94,13 +94,13 @@ same-result {answer} {answer′} {wires} {wires′} {board} {board′} e f g =
     ∙ ap (λ (z : List ℕ). record { answer = answer′; wires = z; board = board }) f
     ∙ ap (λ (z : List ℕ). record { answer = answer′; wires = wires′; board = z }) g
 
--- the reason of an answer
+-- a refusal comes from a reason that applies
 pub outcome-refused : {Values : Type 0} (o : Option Reason) (values : Values) (r : Reason) → outcome o values ≡ refused r → o ≡ some r
 unfolding outcome
 outcome-refused none values r e = let z : _≡_ {A = ℕ} 0 1 = cc in absurd (omega arith)
 outcome-refused (some q) values r e = let same : q ≡ r = cc in ap some same
 
--- if it is accepted there is none, and the values are as given
+-- if an answer is accepted, no reason applies, and the values are the given ones
 pub accepted-values : {A : Type 0} (o : Option Reason) (v w : A) → outcome o v ≡ accepted w → (o ≡ none) × (v ≡ w)
 unfolding outcome
 accepted-values none v w e = (refl, cc)
@@ -119,7 +119,7 @@ module _ (s : Shape) (table ballots tape wires board : List ℕ) where
       first-append (testReasons s table ++ ballotReasons s ballots) lent
       ∙ ap (λ (r : Option Reason). orElse r (firstOf lent)) (first-append (testReasons s table) (ballotReasons s ballots))
 
-  -- the answer by the first group in which a test applies
+  -- the first group with a reason decides the answer
   pub by-test : (r : Reason) → testOutcome s table ≡ refused r → firstOf (runReasons s table ballots tape wires board) ≡ some r
   unfolding testOutcome firstOfThree orElse
   by-test r e =
@@ -182,7 +182,7 @@ module _ (s : Shape) (table ballots tape wires board : List ℕ) where
             }),
       )
 
-  -- what the tests establish is what the evaluation asks
+  -- if the tests pass, the evaluation has what it requires
   pub run-ready : RunPassed → RunReady ballots table (s .candidates) tape wires board
   run-ready r =
       let size = sizeOf (gatesOf table) in
@@ -196,7 +196,7 @@ module _ (s : Shape) (table ballots tape wires board : List ℕ) where
         boardLength = r .boardLength;
       }
 
-  -- the whole of a call by its first reason
+  -- the result of a run, given its first reason
   pub ran-by : (o : Option Reason) → firstOf (runReasons s table ballots tape wires board) ≡ o
       → runResult s table ballots tape wires board ≡ runResultAfter o s (gatesOf table) ballots tape wires board
   unfolding runResult

@@ -1,4 +1,4 @@
--- What the test of a list answers: by the test of its shape, then that of its gates.
+-- What the test of a list answers, from the tests of its shape and of its gates.
 -- Assumes nothing.
 use mathlib.Core.Path.{_≡_, _∙_, refl, sym, ap}
 use mathlib.Core.Bool.{Bool, true, false}
@@ -35,7 +35,7 @@ pub never : {A : Type 0} (values : Size) (r : Reason) → refused r ≡ accepted
 never values r e = let z : _≡_ {A = ℕ} 0 1 = cc in absurd (omega arith)
 
 module _ (s : Shape) (table : List ℕ) where
-  -- the answer by what the tests found
+  -- the first reason, from the outcomes of the two tests
   by : Bool → ListCheck → Option Reason
   by within t = firstOf (unless within 1 ∷ listReason t ∷ [])
 
@@ -109,7 +109,7 @@ module _ (s : Shape) (table : List ℕ) where
       shape true w = list w (tested (ballotBytes s) (s .candidates) table) refl
       shape false w = never values (reasonAt 1 0) (sym (outside-list w) ∙ e)
 
-  -- and back
+  -- the converse
   pub test-passed-back : withinLimits s ≡ true → (gates conditional : ℕ)
       → tested (ballotBytes s) (s .candidates) table ≡ Accepted gates conditional → firstOf (testReasons s table) ≡ none
   test-passed-back w gates conditional e = reasons-by true (Accepted gates conditional) w e ∙ passes gates conditional

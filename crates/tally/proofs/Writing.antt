@@ -1,4 +1,4 @@
--- What a write answers and leaves, by its two tests.
+-- What a write answers and leaves, from the outcomes of its two tests.
 -- Assumes nothing.
 use mathlib.Core.Path.{_≡_, _∙_, refl, sym, ap}
 use mathlib.Core.Bool.{Bool, true, false}
@@ -30,7 +30,7 @@ module _ (s : Shape) (table : List ℕ) where
   unfolding writeReasons by
   reasons-by within long e f = rw (e, f)
 
-  -- the answer and the table, by the first reason that applies
+  -- the answer and the table, for each first reason
   pub write-refused : (r : Reason) → firstOf (writeReasons s table) ≡ some r → (writeOutcome s table ≡ refused r)
       × (writeResult s table ≡ table)
   unfolding writeOutcome outcome writeResult overwritten
@@ -115,7 +115,7 @@ module _ (s : Shape) (table : List ℕ) where
   pub write-length : length (writeResult s table) ≡ length table
   write-length = long-after (firstOf (writeReasons s table)) refl
 
-  -- storing the list's numbers leaves the table that the definition names
+  -- storing the list's numbers gives the table of the definition
   pub stored : 4 * length (ownList s) ≤ length table → sets table (4 * 0) (numbersOf (ownList s))
       ≡ numbersOf (ownList s) ++ drop (length (numbersOf (ownList s))) table
   stored h =

@@ -21,17 +21,17 @@ unfoldable pub outcome : {Values : Type 0} → Option Reason → Values → Outc
 outcome (some r) values = refused r
 outcome none values = accepted values
 
--- A lent table afterwards: new if the call is accepted, unchanged on a refusal.
+-- A lent table after the call: `new` if the call is accepted, `old` if it is refused.
 unfoldable pub afterwards : Option Reason → List ℕ → List ℕ → List ℕ
 afterwards (some r) new old = old
 afterwards none new old = new
 
--- The same for a table of which the new numbers fill only the start: what comes after them is unchanged.
+-- The same if the new numbers fill only the start of the table. What comes after them is unchanged.
 unfoldable pub overwritten : Option Reason → List ℕ → List ℕ → List ℕ
 overwritten (some r) new old = old
 overwritten none new old = new ++ drop (length new) old
 
--- Whether a reason has one of these numbers.
+-- Whether the reason's number is one of these.
 unfoldable pub hasNumberIn : List ℕ → Reason → Bool
 hasNumberIn [] r = false
 hasNumberIn (n ∷ ns) r = eqb (r .number) n || hasNumberIn ns r

@@ -11,7 +11,7 @@ use Rattle.jury.specs.ClosingBytes.{eightBytes}
 use Rattle.tally.specs.Answer.{Outcome, outcome}
 use Rattle.tally.specs.Rule.{closingFor}
 
--- The reasons of a count, in checking order: 1, 4, 5, then 6 for grades or 11 and 12 for rankings.
+-- The first reason of a count that applies. The order is 1, 4, 5, then 6 for grades or 11 and 12 for rankings.
 unfoldable pub countReason : Shape → List ℕ → Option Reason
 countReason s xs = firstOf (unless (withinLimits s) 1 ∷ ballotReasons s xs)
 
@@ -20,14 +20,15 @@ unfoldable pub closingAfter : Option Reason → List ℕ → List ℕ
 closingAfter none bytes = eightBytes bytes
 closingAfter (some r) bytes = eightBytes []
 
+-- The eight bytes that a count answers.
 unfoldable pub plainClosing : Shape → List ℕ → List ℕ
 plainClosing s xs = closingAfter (countReason s xs) (closingFor s xs)
 
--- What the entry point promises about its verdict and the closing bytes.
+-- What the entry point promises: `reason` and `bytes` are its answer.
 pub record Counts (s : Shape) (xs : List ℕ) (reason : Option Reason) (bytes : List ℕ) : Type 0 where
   pub verdict : reason ≡ countReason s xs
   pub closing : bytes ≡ plainClosing s xs
 
--- The outcome of a count.
+-- The same answer as an outcome: the reason, or the eight bytes.
 unfoldable pub countOutcome : Shape → List ℕ → Outcome (List ℕ)
 countOutcome s xs = outcome (countReason s xs) (plainClosing s xs)

@@ -1,5 +1,5 @@
--- The three demands side by side. They speak of the definitions that the entry points' contracts equate with the
--- program's answers and everything lent.
+-- The three demands. They are stated about definitions; the contracts of the entry points say that the program's
+-- answers and all lent tables are equal to these definitions.
 use mathlib.Core.Path.{_≡_}
 use mathlib.Core.Logic.{_≢_}
 use mathlib.Core.Option.{none}
@@ -22,7 +22,7 @@ use Rattle.tally.specs.Write.{writeOutcome, writeResult}
 use Rattle.tally.specs.Run.{BoardCall, runResult}
 use Rattle.tally.specs.Hiding.{closingBytes, RunTellsNoMore}
 
--- Demand 1 for the five entry points. Measure, test and count are lent nothing to write to.
+-- Demand 1 for the five entry points. Measure, test and count are lent no table to write to.
 pub record TallyMemory : Type 0 where
   pub measure : (s : Shape) → KeepsMemory (1 ∷ []) (measureOutcome s) [] []
   pub write : (s : Shape) (table : List ℕ)
@@ -34,22 +34,24 @@ pub record TallyMemory : Type 0 where
   pub count : (s : Shape) (ballots : List ℕ)
       → KeepsMemory (1 ∷ 4 ∷ 5 ∷ 6 ∷ 11 ∷ 12 ∷ []) (countOutcome s ballots) [] []
 
--- The list that was written: the first 4G numbers of the table after an accepted write.
+-- The list that an accepted write left: the first 4G numbers of the table. `size` is the answer of the write.
 unfoldable pub listIn : Shape → Size → List ℕ → List ℕ
 listIn s size table = take (4 * size .gates) (writeResult s table)
 
--- Demand 2 for a kind of call, with the list that the core writes for a shape. It holds after an accepted write into
--- a table with any old contents; G and C are what the write answered. `Good` says which inputs are in order.
+-- Demand 2 for one kind of call, on the list that a write left in a table with any old contents. `size` is the
+-- answer of the write, `ballotsOf` has the ballots in the call's inputs, and `Good` says which inputs have to be
+-- accepted.
 pub record Accuracy {Inputs : Type 0} (call : Shape → List ℕ → Inputs → BoardCall) (ballotsOf : Shape → Inputs → List ℕ)
     (Good : Shape → Inputs → Type 0) (s : Shape) (table : List ℕ) (size : Size) : Type 0 where
-  -- no call is refused for 2 or 3
+  -- no call with that list is refused for reason 2 or 3
   pub never-2-or-3 : (x : Inputs) (tape wires board : List ℕ) (r : Reason)
       → call s (listIn s size table) x tape wires board .answer ≡ refused r → (r .number ≢ 2) × (r .number ≢ 3)
-  -- with good inputs, a mask tape and buffers of the right lengths, it is accepted and answers the same G and C
+  -- with good inputs, a mask tape and buffers of the right lengths, the call is accepted and answers the same G and
+  -- C
   pub runs : (x : Inputs) (tape wires board : List ℕ) → Good s x → MaskTape (gatesOf (listIn s size table)) tape
       → length wires ≡ ballotBytes s + size .gates → length board ≡ size .conditional + s .candidates
       → call s (listIn s size table) x tape wires board .answer ≡ accepted size
-  -- if it is accepted, its k closing bytes are the plain count's and say who wins
+  -- if the call is accepted, its k closing bytes are those of the plain count, and say who wins
   pub plain : (x : Inputs) (tape wires board : List ℕ) (answer : Size)
       → call s (listIn s size table) x tape wires board .answer ≡ accepted answer
       → closingBytes s (call s (listIn s size table) x tape wires board .board)
@@ -58,11 +60,11 @@ pub record Accuracy {Inputs : Type 0} (call : Shape → List ℕ → Inputs → 
       → call s (listIn s size table) x tape wires board .answer ≡ accepted answer
       → SaysWhoWins s (ballotsOf s x) (closingBytes s (call s (listIn s size table) x tape wires board .board))
 
--- A run: its inputs are the ballots themselves.
+-- Demand 2 for a run, whose inputs are the ballots.
 abbrev pub RunAccuracy : (s : Shape) (table : List ℕ) (size : Size) → Type 0
 RunAccuracy = Accuracy runResult (λ s ballots. ballots) AcceptedBallots
 
--- The plain count by itself: if it is accepted, all its eight bytes say who wins.
+-- Demand 2 for the plain count: if it is accepted, its bytes say who wins. There are always eight.
 pub record CountAccuracy : Type 0 where
   pub says-who-wins : (s : Shape) (ballots : List ℕ) → countReason s ballots ≡ none
       → SaysWhoWins s ballots (plainClosing s ballots)

@@ -1,5 +1,6 @@
--- Demand 3 on two concrete runs: different ballots, equal closing bytes, two tapes, one board. One candidate, two
--- grades, one ballot; the list is a stranger's, a single gate that tells whether wires 0 and 1 are both 1.
+-- Demand 3 on two concrete runs with different ballots, equal closing bytes, different tapes and the same board.
+-- The jury has one candidate, two grades and one ballot. The list is a stranger's: one gate that says whether wires
+-- 0 and 1 are both 1.
 use mathlib.Core.Path.{_≡_}
 use mathlib.Core.List.{[], _∷_}
 use Rattle.gates.specs.HidingExample.{oneGate}
@@ -7,6 +8,7 @@ use Rattle.jury.specs.declared.shape.Shape.{Shape}
 use Rattle.tally.specs.Answer.{accepted}
 use Rattle.tally.specs.Run.{runResult}
 
+-- One candidate, two grades, one ballot.
 unfoldable pub oneBallot : Shape
 oneBallot = record { candidates = 1; grades = 2; ballots = 1 }
 

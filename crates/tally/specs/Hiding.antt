@@ -1,4 +1,4 @@
--- Demand 3: a board reveals of the ballots only what its closing bytes reveal.
+-- Demand 3: a board reveals nothing about the ballots except its closing bytes.
 use mathlib.Core.Path.{_≡_}
 use mathlib.Core.List.{List}
 use Prim.Native.Nat.{ℕ, _-_}
@@ -11,19 +11,19 @@ use Rattle.jury.specs.declared.shape.Shape.{Shape}
 use Rattle.tally.specs.Answer.{accepted, Size, sizeOf}
 use Rattle.tally.specs.Run.{BoardCall, runResult}
 
--- The closing bytes are the last bytes of the board.
+-- The closing bytes: the last k bytes of the board.
 unfoldable pub closingBytes : Shape → List ℕ → List ℕ
 closingBytes s board = drop (length board - s .candidates) board
 
--- Two calls with one shape and list, on the ballots xs and ys, over wire tables vs, ws and boards bs, ds with any
--- contents. `Finished`: each shown bit is its gate's wire a plus its own tape byte modulo 2, then the closing bytes.
--- It reads `wiresOf`, which depends on ballots and list only: no mask changes a wire.
+-- Two calls with the same shape and list: `one` on ballots xs with wire table vs and board bs, `other` on ys with
+-- ws and ds. `Finished`: each shown bit is its gate's wire a plus its own tape byte modulo 2; then come the closing
+-- bytes. The wires are `wiresOf`, which depends only on ballots and list: no mask changes a wire.
 pub record BoardsHide (s : Shape) (table xs ys : List ℕ) (one other : BoardCall) (vs ws bs ds : List ℕ) : Type 0 where
-  -- under every mask tape the first call answers the list's own G and C, and finishes its board over these wires
+  -- under every mask tape, the first call answers the list's own G and C, and its board is finished
   pub first-answer : (t : List ℕ) → MaskTape (gatesOf table) t → one t vs bs .answer ≡ accepted (sizeOf (gatesOf table))
   pub first-board : (t : List ℕ) → MaskTape (gatesOf table) t
       → Finished (wiresOf xs (gatesOf table)) (gatesOf table) (s .candidates) t (one t vs bs .board)
-  -- and so does the second
+  -- the same for the second call
   pub second-answer : (t : List ℕ) → MaskTape (gatesOf table) t
       → other t ws ds .answer ≡ accepted (sizeOf (gatesOf table))
   pub second-board : (t : List ℕ) → MaskTape (gatesOf table) t
@@ -31,13 +31,13 @@ pub record BoardsHide (s : Shape) (table xs ys : List ℕ) (one other : BoardCal
   -- for each first tape there is exactly one second tape that makes the boards equal
   pub same-board : (t : List ℕ) → MaskTape (gatesOf table) t
       → ExactlyOne (λ (u : List ℕ). MaskTape (gatesOf table) u × (one t vs bs .board ≡ other u ws ds .board))
-  -- the same second tape does so whatever the old contents of wire tables and boards
+  -- that second tape makes the boards equal whatever the wire tables and boards held before
   pub any-buffers : (t u vs′ ws′ bs′ ds′ : List ℕ) → MaskTape (gatesOf table) t → MaskTape (gatesOf table) u
       → length vs′ ≡ length vs → length ws′ ≡ length ws → length bs′ ≡ length bs → length ds′ ≡ length ds
       → one t vs bs .board ≡ other u ws ds .board → one t vs′ bs′ .board ≡ other u ws′ ds′ .board
 
--- For all accepted calls with one shape and one list, whoever wrote it, and equal closing bytes. `call` is the kind
--- of call, by shape, list and inputs; `ballotsOf` are the ballots in these inputs.
+-- Demand 3 for one kind of call: `BoardsHide` holds for every two accepted calls that have the same shape, the same
+-- list, whoever wrote it, and equal closing bytes. `ballotsOf` has the ballots in the call's inputs.
 abbrev pub BoardTellsNoMore : {Inputs : Type 0}
     → (call : Shape → List ℕ → Inputs → BoardCall) (ballotsOf : Shape → Inputs → List ℕ) → Type 0
 BoardTellsNoMore {Inputs} call ballotsOf =
@@ -48,9 +48,10 @@ BoardTellsNoMore {Inputs} call ballotsOf =
     → (first ≡ sizeOf (gatesOf table)) × (second ≡ sizeOf (gatesOf table))
     × BoardsHide s table (ballotsOf s x) (ballotsOf s y) (call s table x) (call s table y) vs ws bs ds
 
--- Two runs, and all accepted runs.
+-- Demand 3 for two runs of the same list.
 abbrev pub RunsHide : (s : Shape) (table xs ys vs ws bs ds : List ℕ) → Type 0
 RunsHide s table xs ys = BoardsHide s table xs ys (runResult s table xs) (runResult s table ys)
 
+-- Demand 3 for the entry point [run].
 abbrev pub RunTellsNoMore : Type 0
 RunTellsNoMore = BoardTellsNoMore runResult (λ s ballots. ballots)

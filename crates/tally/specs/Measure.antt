@@ -11,7 +11,7 @@ use Rattle.tally.specs.OwnList.{ownList}
 use Rattle.tally.specs.declared.measure.Measured.{Measured}
 use Rattle.tally.specs.declared.measure.Measured.the-variants.{Accepted, Refused}
 
--- The numbers of a shape's own list.
+-- G, C and I of a shape's own list.
 pub record Measures : Type 0 where
   pub gates : ℕ
   pub conditional : ℕ
@@ -20,7 +20,7 @@ pub record Measures : Type 0 where
 unfoldable pub measuresOf : Shape → Measures
 measuresOf s = record { gates = length (ownList s); conditional = conditionalCount (ownList s); inputs = ballotBytes s }
 
--- Only reason 1 concerns measuring.
+-- Measuring is refused only for reason 1.
 unfoldable pub measureOutcome : Shape → Outcome Measures
 measureOutcome s = outcome (firstOf (unless (withinLimits s) 1 ∷ [])) (measuresOf s)
 

@@ -1,5 +1,6 @@
--- The demand [memory], stated once for every call: about its answer, and about each lent table before and after. That
--- a call ends, and stays inside what it was lent, is part of what is proved for every function.
+-- The demand [memory], stated once for every call: about its answer, and about each lent table before and after it.
+-- It is not stated here that a call ends and stays inside what it was lent: the checker asks that of every
+-- function.
 use mathlib.Core.Path.{_≡_}
 use mathlib.Core.List.{List, [], _∷_}
 use Prim.Native.Nat.{ℕ}
@@ -14,6 +15,7 @@ pub record Lent : Type 0 where
   pub before : List ℕ
   pub after : List ℕ
 
+-- Every table of the list has the property `Is`.
 unfoldable pub Each : (Lent → Type 0) → List Lent → Type 0
 Each Is [] = Unit {0}
 Each Is (t ∷ ts) = Is t × Each Is ts
@@ -27,8 +29,8 @@ Emptied t = t .after ≡ replicate (length (t .before)) 0
 abbrev pub SameLength : Lent → Type 0
 SameLength t = length (t .after) ≡ length (t .before)
 
--- `numbers` are those of the call's reasons, `lent` all tables that it may write to, `emptied` those of them that
--- held secrets while it ran.
+-- A call gives only reasons with these numbers, and a refusal changes nothing. `lent` has all tables that the call
+-- may write to, `emptied` those of them that held secrets while it ran: an accepted call leaves zeros there.
 pub record KeepsMemory {Values : Type 0} (numbers : List ℕ) (answer : Outcome Values) (lent emptied : List Lent)
     : Type 0 where
   pub number : (r : Reason) → answer ≡ refused r → T (hasNumberIn numbers r)

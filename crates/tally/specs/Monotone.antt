@@ -1,4 +1,4 @@
--- The request [monotone]: a better grade costs nobody the win, on the gates.
+-- The request [monotone] for runs of the own list: a better grade costs nobody the win.
 use mathlib.Core.Path.{_≡_}
 use mathlib.Core.Logic.{_≢_}
 use mathlib.Core.List.{List}
@@ -12,8 +12,8 @@ use Rattle.tally.specs.Run.{runResult}
 use Rattle.tally.specs.Hiding.{closingBytes}
 use Rattle.tally.specs.Demands.{listIn}
 
--- An accepted run, on these ballots, of the list that an accepted write left: with any tape, over a wire table and a
--- board with any old contents.
+-- An accepted run, on these ballots, of the list that a write left. The tape and the old contents of wire table and
+-- board are arbitrary.
 pub record OwnRun (s : Shape) (table : List ℕ) (size : Size) (ballots : List ℕ) : Type 0 where
   pub tape : List ℕ
   pub wires : List ℕ
@@ -21,7 +21,7 @@ pub record OwnRun (s : Shape) (table : List ℕ) (size : Size) (ballots : List �
   pub answer : Size
   pub accepts : runResult s (listIn s size table) ballots tape wires board .answer ≡ accepted answer
 
--- Two such runs, on the ballots before and after.
+-- Two such runs of a written list, on the ballots before and after the change.
 pub record TwoRuns (s : Shape) (table : List ℕ) (size : Size) (old new : List ℕ) : Type 0 where
   pub written : writeOutcome s table ≡ accepted size
   pub before : OwnRun s table size old
@@ -32,9 +32,8 @@ abbrev pub byteIn : {s : Shape} {table : List ℕ} {size : Size} {ballots : List
 byteIn {s} {table} {size} {ballots} r c =
     getD (closingBytes s (runResult s (listIn s size table) ballots (r .tape) (r .wires) (r .board) .board)) c 0
 
--- What a house asks. A candidate whose closing byte is 1 keeps it if one juror grades it better, by any number of
--- grades, and all else stays equal; also if several grades are raised, one after another. A sole winner stays the
--- sole winner.
+-- A candidate whose closing byte is 1 keeps it if one juror grades it better, by any number of grades, and all else
+-- is equal. The same holds if several grades are raised, one after another. A sole winner stays the sole winner.
 pub record MonotoneOnGates : Type 0 where
   pub raised : (s : Shape) (table : List ℕ) (size : Size) (old new : List ℕ) (r : TwoRuns s table size old new)
       → (candidate : ℕ) → Raised s candidate old new

@@ -10,9 +10,11 @@ use Rattle.graded_circuit.specs.OwnList.{ownGrading}
 use Rattle.graded_circuit.specs.Bound.{gradingBound}
 use Rattle.ranked_circuit.specs.OwnRanking.{ownRanking, rankingBound}
 
+-- The list that the core writes for a shape.
 unfoldable pub ownList : Shape → List Gate
 ownList s = cond (isRanking s) (ownRanking (s .candidates) (s .ballots)) (ownGrading s)
 
+-- The bound on G: [bound] with [judgment-bound] for grades, [ranking-bound] for rankings.
 unfoldable pub gateBound : Shape → ℕ
 gateBound s =
     cond (isRanking s)

@@ -12,16 +12,17 @@ use Rattle.rule_schulze.specs.Votes.{votes}
 use Rattle.rule_schulze.specs.Schulze.{schulzeOf}
 use Rattle.rule_schulze.specs.Winner.{SchulzeWinner}
 
--- The closing bytes that the rule gives the ballots of a jury.
+-- The k closing bytes of a jury's ballots by the rule.
 unfoldable pub closingFor : Shape → List ℕ → List ℕ
 closingFor s xs =
     cond (isRanking s)
     (schulzeOf (votes (s .candidates) (s .ballots) xs) (s .candidates))
     (judgmentOf (countsOf s xs))
 
--- Who wins, said without a computation.
+-- Candidate i wins, as a statement instead of a computation.
 pub record Wins (s : Shape) (xs : List ℕ) (i : ℕ) : Type 0 where
   -- with grades: no candidate's sequence comes before that of i
   pub graded : isRanking s ≡ false → JudgmentWinner (countsOf s xs) i
-  -- with rankings: nobody's strongest path to i is stronger than the one from i back
+  -- with rankings: no other candidate's strongest path to i is stronger than the strongest path from i to that
+  -- candidate
   pub ranked : isRanking s ≡ true → SchulzeWinner (votes (s .candidates) (s .ballots) xs) (s .candidates) i

@@ -15,8 +15,9 @@ use Rattle.jury.specs.Ballots.{ballotReasons}
 use Rattle.tally.specs.Answer.{Outcome, refused, accepted, outcome, Size, sizeOf}
 use Rattle.tally.specs.Test.{testReasons}
 
--- The tests of tape, wire table and board, in checking order: 7, 8, 9, 10. The tape has a byte for each conditional
--- gate, the wire table one for each input and gate, the board one for each tape byte and output.
+-- The reasons of tape, wire table and board, in the order 7, 8, 9, 10, for a list with i inputs and k outputs. The
+-- tape has a bit for each conditional gate, the wire table a byte for each input and gate, the board a byte for
+-- each conditional gate and output.
 unfoldable pub bufferReasons : ℕ → ℕ → Size → List ℕ → List ℕ → List ℕ → List (Option Reason)
 bufferReasons i k size tape wires board =
     unless (eqb (length tape) (size .conditional)) 7
@@ -25,13 +26,15 @@ bufferReasons i k size tape wires board =
     ∷ unless (eqb (length board) (size .conditional + k)) 10
     ∷ []
 
--- All reasons of a run in checking order, given the size of the lent list.
+-- All reasons of a run, in the order of its tests: those of the list, of the ballots, and of tape, wire table and
+-- board.
 unfoldable pub runReasons : Shape → List ℕ → List ℕ → List ℕ → List ℕ → List ℕ → List (Option Reason)
 runReasons s table ballots tape wires board =
     testReasons s table
     ++ ballotReasons s ballots
     ++ bufferReasons (ballotBytes s) (s .candidates) (sizeOf (gatesOf table)) tape wires board
 
+-- The answer of a run: the first reason, or the list's own G and C.
 abbrev pub runOutcome : Shape → List ℕ → List ℕ → List ℕ → List ℕ → List ℕ → Outcome Size
 runOutcome s table ballots tape wires board =
     outcome (firstOf (runReasons s table ballots tape wires board)) (sizeOf (gatesOf table))
@@ -47,7 +50,7 @@ abbrev pub BoardCall : Type 0
 BoardCall = (tape wires board : List ℕ) → RunResult
 
 -- A refusal changes nothing. An accepted run leaves zeros in the wire table (request 2.13), and on the board the
--- shown bits and the closing bytes of the wires that the list makes of the ballots.
+-- shown bits and the closing bytes. Both come from the wires that the list computes from the ballots.
 unfoldable pub runResultAfter : Option Reason → Shape → List Gate → List ℕ → List ℕ → List ℕ → List ℕ → RunResult
 runResultAfter (some r) s gs ballots tape wires board = record { answer = refused r; wires = wires; board = board }
 runResultAfter none s gs ballots tape wires board =
@@ -57,6 +60,7 @@ runResultAfter none s gs ballots tape wires board =
       board = boardOf (wiresOf ballots gs) gs (s .candidates) tape;
     }
 
+-- What a run leaves, from all that it was given: the contract of `run` is an equation with this.
 unfoldable pub runResult : Shape → List ℕ → List ℕ → List ℕ → List ℕ → List ℕ → RunResult
 runResult s table ballots tape wires board =
     runResultAfter (firstOf (runReasons s table ballots tape wires board)) s (gatesOf table) ballots tape wires board

@@ -7,8 +7,8 @@ use lib.ListN.{getD}
 use Rattle.jury.specs.declared.shape.Shape.{Shape}
 use Rattle.tally.specs.Rule.{Wins}
 
--- Byte i is 1 exactly if candidate i wins by the rule of the shape's kind, and 0 exactly if it does not. From place k
--- on all bytes are 0, however many there are.
+-- Byte i is 1 exactly if candidate i wins by the rule of the shape's kind, and 0 exactly if it does not. All bytes
+-- from place k on, if there are any, are 0.
 pub record SaysWhoWins (s : Shape) (ballots bytes : List ℕ) : Type 0 where
   pub winner : (i : ℕ) → i < s .candidates → (getD bytes i 0 ≡ 1) ↔ Wins s ballots i
   pub loser : (i : ℕ) → i < s .candidates → (getD bytes i 0 ≡ 0) ↔ (¬ Wins s ballots i)

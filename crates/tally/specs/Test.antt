@@ -9,10 +9,11 @@ use Rattle.jury.specs.Shape.{withinLimits, ballotBytes}
 use Rattle.jury.specs.Reason.{Reason, unless, listReason, firstOf}
 use Rattle.tally.specs.Answer.{Outcome, outcome, Size, sizeOf}
 
--- The reasons of a test, in checking order: 1, 2, 3. The ballot bytes are the inputs of the list, the k closing bytes
--- its outputs.
+-- The reasons of a test, in the order 1, 2, 3. The list's inputs are the ballot bytes, and its outputs are the k
+-- closing bytes.
 unfoldable pub testReasons : Shape → List ℕ → List (Option Reason)
 testReasons s table = unless (withinLimits s) 1 ∷ listReason (tested (ballotBytes s) (s .candidates) table) ∷ []
 
+-- The answer of a test: the first reason, or the list's own G and C.
 unfoldable pub testOutcome : Shape → List ℕ → Outcome Size
 testOutcome s table = outcome (firstOf (testReasons s table)) (sizeOf (gatesOf table))

@@ -9,13 +9,13 @@ ghost use Rattle.jury.specs.ClosingBytes.{eightBytes};
 ghost use Rattle.tally.specs.Rule.{closingFor};
 ghost use Rattle.tally.specs.Count.{Counts};
 
-// The outcome of a count, and the closing bytes: 0 after the first k, and all eight 0 on a refusal.
+// The verdict of a count, and its closing bytes: 0 after the first k, and all eight 0 on a refusal.
 pub struct Counted {
     pub verdict: Verdict,
     pub closing: [u8; 8],
 }
 
-// Counts the ballots of a jury. The shape may be any numbers: it is tested.
+// Counts the ballots of a jury. The shape may have any numbers: they are tested.
 pub fn count(shape: Shape, ballots: &[u8]) -> Counted
     ensures { λ r. ⌜ Counts shape (now (ballots .entry)) (refusedFor (r .verdict)) (r .closing) ⌝ }
 {

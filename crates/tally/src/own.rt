@@ -9,8 +9,8 @@ ghost use Rattle.jury.specs.Shape.{withinLimits, ballotBytes};
 ghost use Rattle.tally.specs.OwnList.{ownList};
 ghost use Rattle.tally.specs.inner.OwnSize.{OwnSize};
 
-// Writes the list at the front of the table, as far as it fits. The writer counts all gates and all conditional ones,
-// whatever the length of the table.
+// Writes the list at the start of the table, as far as it fits. The writer counts all gates and all conditional
+// gates, however short the table is.
 pub fn own_list(shape: Shape, table: &mut [u32]) -> Writer
     requires { ⌜ T (withinLimits shape) ⌝ }
     ensures { λ r.
@@ -24,7 +24,7 @@ pub fn own_list(shape: Shape, table: &mut [u32]) -> Writer
     }
 }
 
-// G and C of the list: what the writer counts over an empty table.
+// G and C of the list: the writer counts them even if its table is empty.
 pub fn measure(shape: Shape) -> Writer
     requires { ⌜ T (withinLimits shape) ⌝ }
     ensures { λ r. ⌜ OwnSize shape r ⌝ }
@@ -32,7 +32,7 @@ pub fn measure(shape: Shape) -> Writer
     own_list(shape, &mut [])
 }
 
-// Only G. For grades it is the sum of the sizes of the circuit's parts, and nothing is written.
+// Only G. For grades it is computed as the sum of the sizes of the circuit's parts, without writing anything.
 pub fn gates(shape: Shape) -> usize
     requires { ⌜ T (withinLimits shape) ⌝ }
     ensures { λ r. ⌜ r ≡ length (ownList shape) ⌝ }

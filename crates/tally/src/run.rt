@@ -9,7 +9,7 @@ ghost use Rattle.jury.specs.Reason.{refusedFor, firstOf};
 ghost use Rattle.tally.specs.Answer.{outcomeOf};
 ghost use Rattle.tally.specs.Run.{bufferReasons, runOutcome, runResult};
 
-// Reasons 7 to 10, for a list with this many inputs, outputs, gates and conditional gates.
+// Tests for reasons 7 to 10, given the list's numbers of inputs, outputs, gates and conditional gates.
 pub fn test_buffers(
     inputs: usize,
     outputs: usize,
@@ -38,7 +38,7 @@ pub fn test_buffers(
     Verdict::Accepted
 }
 
-// Reasons 1 to 10, with 11 and 12 in place of 6 for rankings.
+// All tests of a run: reasons 1 to 10, with 11 and 12 in place of 6 for rankings.
 fn test_run(
     shape: Shape,
     table: &[u32],
@@ -73,8 +73,8 @@ fn test_run(
     }
 }
 
-// Runs a list, whoever wrote it, on the ballots of a jury, with one mask for each conditional gate. While it runs,
-// the wire table holds ballots and values in clear; it is emptied once the closing bytes are on the board.
+// Runs a list, whoever wrote it, on the ballots of a jury, with one mask for each conditional gate. Meanwhile the
+// wire table holds ballots and values in the clear; it is emptied after the closing bytes are on the board.
 pub fn run(
     shape: Shape,
     table: &[u32],

@@ -1,4 +1,4 @@
--- The examples compute.
+-- The examples hold by computation.
 -- Assumes nothing.
 use mathlib.Core.Path.{refl}
 use mathlib.Core.Option.{bind}

@@ -1,4 +1,4 @@
--- What writing and reading answer and leave, by the outcomes of their tests.
+-- What writing and reading answer and leave, from the outcomes of their tests.
 -- Assumes nothing.
 use mathlib.Core.Path.{_≡_, _∙_, refl, ap}
 use mathlib.Core.Bool.{Bool, true, false, _&&_}
@@ -24,7 +24,7 @@ use Rattle.text.specs.Text.{textOf, linesOf, firstMalformed, gatesIn}
 use Rattle.text.specs.Write.{textReasons, textOutcome, textWritten}
 use Rattle.text.specs.Read.{readReasons, readOutcome, numbersRead}
 
--- the result of a call is equal if its two parts are
+-- two results are equal if their two parts are
 pub same-text : {answer answer′ : Outcome ℕ} {output output′ : List ℕ} → (answer ≡ answer′) × (output ≡ output′)
     → _≡_ {A = TextResult} (record { answer = answer; output = output }) (record { answer = answer′; output = output′ })
 same-text {answer} {answer′} {output} {output′} e =
@@ -32,7 +32,7 @@ same-text {answer} {answer′} {output} {output′} e =
     ∙ ap (λ (z : List ℕ). record { answer = answer′; output = z }) (e .1)
 
 module _ (s : Shape) (table output : List ℕ) where
-  -- the reasons of writing by those of the test and the room
+  -- the first reason of writing, from the test of the list and the room in the output
   text-by : (o : Option Reason) (t : Bool) → firstOf (testReasons s table) ≡ o → leb (length (textOf (gatesOf table))) (length output) ≡ t
       → firstOf (textReasons s table output) ≡ orElse o (firstOf (unless t 24 ∷ []))
   unfolding textReasons
@@ -68,7 +68,7 @@ module _ (s : Shape) (table output : List ℕ) where
   text-accepted e = (rw e, rw e)
 
 module _ (s : Shape) (text output : List ℕ) where
-  -- the reasons of reading by what the tests found
+  -- the first reason of reading, from the outcomes of the tests
   found : Bool → Bool → Bool → Place → Place → Bool → Option Reason
   found w k m p q o = firstOf (unless w 1 ∷ unless (k && m) 2 ∷ foundAt 23 p ∷ foundAt 3 q ∷ unless o 24 ∷ [])
 

@@ -41,7 +41,7 @@ use Rattle.text.proofs.Whole.{gates-many, text-is, all-writable, text-l
 impossible : {P : Type 0} (r : Reason) → some r ≡ none → P
 impossible r e = let z : _≡_ {A = ℕ} 0 1 = cc in absurd (omega arith)
 
--- what accepted writing establishes
+-- what holds if writing is accepted
 test-none : (s : Shape) (table output : List ℕ) → firstOf (textReasons s table output) ≡ none → firstOf (testReasons s table) ≡ none
 unfolding textReasons orElse
 test-none s table output e = by (firstOf (testReasons s table))
@@ -57,7 +57,7 @@ test-accepted : (s : Shape) (table : List ℕ) → firstOf (testReasons s table)
 unfolding testOutcome outcome
 test-accepted s table e = rw e
 
--- what accepted reading establishes
+-- what holds if reading is accepted
 record ReadPassed (s : Shape) (text output : List ℕ) : Type 0 where
   limits : withinLimits s ≡ true
   enough : s .candidates ≤ length (linesOf text)

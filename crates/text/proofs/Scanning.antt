@@ -23,7 +23,7 @@ use Rattle.text_lines.specs.declared.line.Line.{Line}
 use Rattle.text_lines.specs.declared.line.Line.the-variants as line
 use Rattle.text.proofs.TextLaws.{gate-first, other-first, other-here, other-later, gates-cons, first-line}
 
--- four numbers as a gate
+-- a gate from its four numbers
 abbrev pub gate : ℕ → ℕ → ℕ → ℕ → Gate
 gate kind a b c = record { kind = kind; a = a; b = b; c = c }
 
@@ -94,7 +94,7 @@ module _ (text : List ℕ) (at : ℕ) (h : length text ≤ at) where
 pub not-both : {P : Type 0} (o : Place) (i : ℕ) → o ≡ At i → o ≡ Nowhere → P
 not-both o i p q = let z : _≡_ {A = ℕ} 0 1 = cc in absurd (omega arith)
 
--- whether all lines are gates does not depend on the number of the first
+-- whether all lines are gates does not depend on the number of the first line
 pub nowhere-any : (ls : List (List ℕ)) (i j : ℕ) → firstMalformed i ls ≡ Nowhere → firstMalformed j ls ≡ Nowhere
 unfolding firstMalformed malformedAt
 nowhere-any [] i j e = refl
@@ -141,7 +141,7 @@ unfolding open-end
 last-is c [] = refl
 last-is c (d ∷ cs) = last-is d cs
 
--- as the program counts
+-- the same, for steps of the program's loop
 pub feeds-of : List ℕ → ℕ
 feeds-of cs = feeds cs
 

@@ -14,7 +14,7 @@ use Rattle.gates.proofs.Reading.{gate-numbers}
 use Rattle.text_lines.specs.Line.{lineOf}
 use Rattle.text.specs.Text.{textOf}
 
--- four numbers one after the other
+-- storing four numbers one after the other
 pub put-four : (l : List ℕ) (i k a b c : ℕ) (rest : List ℕ)
     → sets (set (set (set (set l i k) (i + 1) a) (i + 2) b) (i + 3) c) (i + 4) rest ≡ sets l i (k ∷ a ∷ b ∷ c ∷ rest)
 put-four l i k a b c rest = rw (add-one i, add-two i, add-three i, add-four i)

@@ -1,4 +1,5 @@
--- A text and its lines: if it starts with a gate, that is the first line; if not, the first line is malformed.
+-- A text and its lines: if the text starts with a gate's line, that is its first line; if not, its first line is
+-- malformed.
 -- Assumes nothing.
 use mathlib.Core.Path.{_≡_, _∙_, refl, sym, ap}
 use mathlib.Core.Bool.{Bool, true, false, cond}
@@ -17,7 +18,7 @@ use Rattle.text_lines.specs.Line.{operandText, lineOf, gateIn, gateOf}
 use Rattle.text.specs.Text.{inFront, linesOf, malformedAt, firstMalformed, gateBefore, gatesIn}
 use Rattle.text_lines.proofs.LineLaws.{Writable, read-line, wrote-line, line-read, line-wrote}
 
--- no line feed among these characters
+-- there is no line feed among these characters
 abbrev NoFeed : List ℕ → Type 0
 NoFeed [] = Unit {0}
 NoFeed (c ∷ cs) = (eqb c 10 ≡ false) × NoFeed cs
@@ -67,13 +68,13 @@ no-feed-front g =
     (no-feed-operand (ltb 0 n) (g .a))) (no-feed-operand (ltb 1 n) (g .b)))
     (no-feed-operand (ltb 2 n) (g .c))
 
--- characters without a line feed, then a line feed, are a line
+-- characters without a line feed and then a line feed are one line
 lines-front : (w rest : List ℕ) → NoFeed w → linesOf (w ++ 10 ∷ rest) ≡ (w ++ 10 ∷ []) ∷ linesOf rest
 unfolding linesOf inFront
 lines-front [] rest p = refl
 lines-front (c ∷ w) rest p = rw (p .0) (ap (inFront c) (lines-front w rest (p .1)))
 
--- a gate's line comes first
+-- the first line of a text that starts with a gate's line
 pub lines-cons : (g : Gate) (rest : List ℕ) → linesOf (lineOf g ++ rest) ≡ lineOf g ∷ linesOf rest
 lines-cons g rest =
     ap (λ (l : List ℕ). linesOf (l ++ rest)) (front-line g)
@@ -81,7 +82,7 @@ lines-cons g rest =
     ∙ lines-front (front g) rest (no-feed-front g)
     ∙ ap (λ (l : List ℕ). l ∷ linesOf rest) (sym (front-line g))
 
--- the lines one after the other are the text
+-- the lines joined together are the text
 flatten-front : (c : ℕ) (ls : List (List ℕ)) → flatten (inFront c ls) ≡ c ∷ flatten ls
 unfolding inFront flatten
 flatten-front c [] = refl
@@ -114,7 +115,7 @@ first-line c cs = by (eqb c 10) refl
     by true e = record { line = c ∷ []; later = linesOf cs; is = rw e }
     by false e = in-front (linesOf cs) (rw e)
 
--- What reading at the start of some characters says about their lines.
+-- If a gate is read at the start of a text, its line is the first line.
 pub record GateFirst (cs : List ℕ) (t : Taken Gate) : Type 0 where
   pub lines : linesOf cs ≡ lineOf (t .value) ∷ linesOf (t .behind)
   pub reads : gateOf (lineOf (t .value)) ≡ some (t .value)

@@ -18,7 +18,7 @@ use Rattle.text.specs.Text.{textOf, linesOf, malformedAt, firstMalformed
 use Rattle.text_lines.proofs.LineLaws.{Writable, line-read, line-wrote}
 use Rattle.text.proofs.TextLaws.{lines-cons, flatten-lines}
 
--- lines that are all gates: as many gates as lines, and the lines are those gates' text
+-- if all lines are gates, there are as many gates as lines, and the lines are the text of those gates
 pub gates-many : (ls : List (List ℕ)) (i : ℕ) → firstMalformed i ls ≡ Nowhere → length (gatesIn ls) ≡ length ls
 unfolding firstMalformed malformedAt gatesIn gateBefore
 gates-many [] i e = refl

@@ -1,4 +1,4 @@
--- What writing and reading a text answer, by the numbers of the reasons.
+-- What writing and reading a text answer: a reason, or a length.
 use mathlib.Core.List.{List}
 use Prim.Native.Nat.{ℕ}
 use Rattle.jury.specs.Reason.{Reason, reasonAt, reasonOf}
@@ -8,7 +8,7 @@ use Rattle.text.specs.declared.answer.TextRefusal.the-variants.{OfList, 
 use Rattle.text.specs.declared.answer.Answer.{Answer}
 use Rattle.text.specs.declared.answer.Answer.the-variants.{Accepted, Refused}
 
--- The number and place of each case: 23 at a malformed line, 24 for an output that is too short.
+-- The number and place of each case: 23 at a malformed line, 24 if the output is too short.
 unfoldable pub textReasonOf : TextRefusal → Reason
 textReasonOf (OfList r) = reasonOf r
 textReasonOf (Line i) = reasonAt 23 i

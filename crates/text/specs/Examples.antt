@@ -1,4 +1,4 @@
--- Numbers and lines that compute.
+-- Examples of numbers and lines as characters.
 use mathlib.Core.Path.{_≡_}
 use mathlib.Core.Option.{none, some}
 use mathlib.Core.List.{List, [], _∷_}
@@ -15,14 +15,15 @@ largestText = 52 ∷ 50 ∷ 57 ∷ 52 ∷ 57 ∷ 54 ∷ 55 ∷ 50 ∷ 57 ∷ 53 
 abbrev pub tooLargeText : List ℕ
 tooLargeText = 52 ∷ 50 ∷ 57 ∷ 52 ∷ 57 ∷ 54 ∷ 55 ∷ 50 ∷ 57 ∷ 54 ∷ []
 
--- `2 1` and a line feed: kind 2 with wire 1. `02 1` stands for the same numbers, and is malformed.
+-- `2 1` and a line feed: kind 2 with wire 1.
 abbrev pub copyLine : List ℕ
 copyLine = 50 ∷ 32 ∷ 49 ∷ 10 ∷ []
 
+-- `02 1` and a line feed: malformed, because of the leading zero.
 abbrev pub zeroFirst : List ℕ
 zeroFirst = 48 ∷ 50 ∷ 32 ∷ 49 ∷ 10 ∷ []
 
--- The last line has no line feed.
+-- `2 1` in two lines, the second one without its line feed.
 abbrev pub openEnd : List ℕ
 openEnd = 50 ∷ 32 ∷ 49 ∷ 10 ∷ 50 ∷ 32 ∷ 49 ∷ []
 

@@ -14,8 +14,8 @@ use Rattle.tally.specs.Answer.{Outcome, outcome, overwritten}
 use Rattle.text.specs.Answer.{TextResult}
 use Rattle.text.specs.Text.{linesOf, firstMalformed, gatesIn}
 
--- The reasons in checking order: 1; 2 for fewer than k lines or more than 1,048,576; 23 at the first malformed line,
--- over all lines; 3 at the first bad gate; 24 for an output of fewer than four numbers a line.
+-- The reasons of reading, in the order of their tests: 1; 2 unless there are k to 1,048,576 lines; 23 at the first
+-- malformed line; 3 at the first bad gate; 24 if the output has fewer than four numbers for each line.
 unfoldable pub readReasons : Shape → List ℕ → List ℕ → List (Option Reason)
 readReasons s text output =
     unless (withinLimits s) 1
@@ -29,9 +29,11 @@ readReasons s text output =
 unfoldable pub readOutcome : Shape → List ℕ → List ℕ → Outcome ℕ
 readOutcome s text output = outcome (firstOf (readReasons s text output)) (4 * length (linesOf text))
 
+-- The output after reading: the numbers of the gates, then its old contents; on a refusal only the old contents.
 unfoldable pub numbersRead : Shape → List ℕ → List ℕ → List ℕ
 numbersRead s text output =
     overwritten (firstOf (readReasons s text output)) (numbersOf (gatesIn (linesOf text))) output
 
+-- What reading leaves: the contract of `read` is an equation with this.
 abbrev pub readTextResult : Shape → (text output : List ℕ) → TextResult
 readTextResult s text output = record { answer = readOutcome s text output; output = numbersRead s text output }

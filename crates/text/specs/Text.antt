@@ -9,12 +9,12 @@ use Rattle.gates.specs.declared.place.Place.{Place}
 use Rattle.gates.specs.declared.place.Place.the-variants.{At, Nowhere}
 use Rattle.text_lines.specs.Line.{lineFeed, lineOf, gateOf}
 
--- One line a gate.
+-- The text of a list: one line for each gate.
 unfoldable pub textOf : List Gate → List ℕ
 textOf [] = []
 textOf (g ∷ gs) = lineOf g ++ textOf gs
 
--- Puts a character in front of the first line, or makes it a line if there is none.
+-- Puts a character at the start of the first line. If there is no line, the character becomes one.
 unfoldable pub inFront : ℕ → List (List ℕ) → List (List ℕ)
 inFront c [] = (c ∷ []) ∷ []
 inFront c (line ∷ lines) = (c ∷ line) ∷ lines
@@ -24,20 +24,22 @@ unfoldable pub linesOf : List ℕ → List (List ℕ)
 linesOf [] = []
 linesOf (c ∷ cs) = cond (eqb c lineFeed) ((c ∷ []) ∷ linesOf cs) (inFront c (linesOf cs))
 
--- The first malformed line, where the first line here is line i.
+-- Place i if line i has no gate; else what was found in later lines.
 unfoldable pub malformedAt : Option Gate → ℕ → Place → Place
 malformedAt none i later = At i
 malformedAt (some g) i later = later
 
+-- The first malformed line. The first of these lines is line i.
 unfoldable pub firstMalformed : ℕ → List (List ℕ) → Place
 firstMalformed i [] = Nowhere
 firstMalformed i (line ∷ lines) = malformedAt (gateOf line) i (firstMalformed (suc i) lines)
 
--- The gates of those lines that are gates.
+-- Puts the gate of a line, if it has one, before the gates of later lines.
 unfoldable pub gateBefore : Option Gate → List Gate → List Gate
 gateBefore none gs = gs
 gateBefore (some g) gs = g ∷ gs
 
+-- The gates of the lines. A malformed line gives no gate.
 unfoldable pub gatesIn : List (List ℕ) → List Gate
 gatesIn [] = []
 gatesIn (line ∷ lines) = gateBefore (gateOf line) (gatesIn lines)

@@ -1,2 +1,2 @@
--- What the functions of this crate ask of each other; no entry point's contract needs it.
+-- What the functions of this crate require of each other; no entry point's contract needs it.
 pub mod Scan

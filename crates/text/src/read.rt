@@ -10,7 +10,7 @@ ghost use mathlib.Core.Path.{_≡_};
 ghost use Rattle.text.specs.Answer.{lengthOutcome};
 ghost use Rattle.text.specs.Read.{readTextResult};
 
-// Reads a text as a list for a shape: four numbers a line, with 0 for unused operands.
+// Reads a text as a list for a shape: four numbers for each line, with 0 for unused operands.
 pub fn read(shape: Shape, text: &[u8], output: &mut [u32]) -> Answer
     ensures { λ r.
         ⌜ record { answer = lengthOutcome r; output = now (output .exit) }

@@ -35,7 +35,7 @@ pub(crate) fn line_count(text: &[u8]) -> usize
     }
 }
 
-// The first malformed line.
+// The number of the first malformed line.
 pub(crate) fn first_malformed(text: &[u8]) -> Place
     ensures { λ r. ⌜ r ≡ firstMalformed 0 (linesOf (now (text .entry))) ⌝ }
 {
@@ -58,7 +58,8 @@ pub(crate) fn first_malformed(text: &[u8]) -> Place
     Place::Nowhere
 }
 
-// Whether all operands are below a gate's own wire. Unused ones are read as 0, which is below every gate's wire.
+// Whether all operands name wires before the gate's own one. An unused operand is read as 0, and wire 0 is an
+// input.
 fn are_below(own: usize, a: u32, b: u32, c: u32) -> bool
     ensures { λ r. ⌜ r ≡ (ltb a own && ltb b own && ltb c own) ⌝ }
 {

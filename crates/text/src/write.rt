@@ -12,7 +12,7 @@ ghost use Rattle.text.specs.Text.{textOf};
 ghost use Rattle.text.specs.Answer.{lengthOutcome};
 ghost use Rattle.text.specs.Write.{writeTextResult};
 
-// How many characters the text of a table's gates takes.
+// How many characters the text of a table's gates has.
 fn text_length(table: &[u32]) -> usize
     requires { ⌜ length (gatesOf (now table)) ≤ 1048576 ⌝ }
     ensures { λ r. ⌜ r ≡ length (textOf (gatesOf (now (table .entry)))) ⌝ }
@@ -28,7 +28,7 @@ fn text_length(table: &[u32]) -> usize
     total
 }
 
-// Puts the text of a table's gates.
+// Puts the text of a table's gates into the output.
 fn put_text(table: &[u32], output: &mut [u8])
     requires { ⌜ length (textOf (gatesOf (now table))) ≤ length (now output) ⌝ }
     ensures { λ _. ⌜ now (output .exit) ≡ sets (now (output .entry)) 0 (textOf (gatesOf (now (table .entry)))) ⌝ }
@@ -50,7 +50,7 @@ fn put_text(table: &[u32], output: &mut [u8])
     }
 }
 
-// Writes the text of a list for a shape, whoever wrote the list.
+// Writes a list for a shape as text, whoever wrote the list.
 pub fn write(shape: Shape, table: &[u32], output: &mut [u8]) -> Answer
     ensures { λ r.
         ⌜ record { answer = lengthOutcome r; output = now (output .exit) }

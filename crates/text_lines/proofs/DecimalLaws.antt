@@ -18,12 +18,12 @@ is-digit : (d : ℕ) → d < 10 → isDigit (48 + d) ≡ true
 unfolding isDigit
 is-digit d h = rw (le-leb 48 (48 + d) (omega arith), le-leb (48 + d) 57 (omega arith))
 
--- some characters do not begin with a digit
+-- these characters do not begin with a digit
 abbrev pub Apart : List ℕ → Type 0
 Apart [] = Unit {0}
 Apart (c ∷ cs) = isDigit c ≡ false
 
--- one more digit
+-- reading one more digit
 digits-more : (n d : ℕ) (rest : List ℕ) → d < 10 → 10 * n + d ≤ 4294967295 → digitsIn n ((48 + d) ∷ rest) ≡ digitsIn (10 * n + d) rest
 unfolding digitsIn
 digits-more n d rest h fits =
@@ -35,7 +35,7 @@ unfolding digitsIn
 digits-end n [] a = refl
 digits-end n (c ∷ cs) a = rw a
 
--- one digit that is not 0
+-- reading a first digit that is not 0
 read-one : (n : ℕ) (rest : List ℕ) → 0 < n → n < 10 → numberIn ((48 + n) ∷ rest) ≡ digitsIn n rest
 unfolding numberIn
 read-one n rest pos small =
@@ -87,7 +87,7 @@ read-decimal zero rest fits a = ap (λ (l : List ℕ). numberIn (l ++ rest)) (on
     zero-read = unfold numberIn isDigit in refl
 read-decimal (suc n) rest fits a = read-digits 10 (suc n) rest (omega arith) fits (omega arith) ∙ digits-end (suc n) rest a
 
--- digits to spare change nothing
+-- allowing more digits than are needed changes nothing
 spare : (f n : ℕ) → n < 10 ^ suc f → decimalWithin (suc (suc f)) n ≡ decimalWithin (suc f) n
 spare zero n h = one-digit 1 n (omega arith) ∙ sym (one-digit 0 n (omega arith))
 spare (suc f) n h = by (ltb n 10) refl (spare f (n / 10) (tenth (suc f) n h))
@@ -103,7 +103,7 @@ pub decimal-one : (n : ℕ) → n < 10 → decimal n ≡ (48 + n) ∷ []
 unfolding decimal
 decimal-one n h = one-digit 9 n h
 
--- a digit after a number above 0
+-- the decimal of a number above 0 with one more digit
 pub decimal-more : (n d : ℕ) → 0 < n → d < 10 → 10 * n + d ≤ 4294967295 → decimal (10 * n + d) ≡ decimal n ++ (48 + d) ∷ []
 unfolding decimal
 decimal-more n d pos small fits =
@@ -114,7 +114,7 @@ decimal-more n d pos small fits =
     ∙ ap (λ (m : ℕ). decimalWithin 9 n ++ (48 + m) ∷ []) r
     ∙ ap (λ (l : List ℕ). l ++ (48 + d) ∷ []) (sym (spare 8 n (omega arith)))
 
--- what a digit is
+-- the value of a digit
 pub digit-is : (c : ℕ) → isDigit c ≡ true → (c ≡ 48 + (c - 48)) × (c - 48 < 10)
 unfolding isDigit
 digit-is c e = by (leb 48 c) (leb c 57) refl refl e
@@ -129,7 +129,7 @@ pub record Wrote (cs : List ℕ) (n : ℕ) (rest : List ℕ) : Type 0 where
   pub fits : n ≤ 4294967295
   pub is : cs ≡ decimal n ++ rest
 
--- where reading stops
+-- if reading stops after the digits of n, the characters are those of n and the rest
 stopped : (n : ℕ) (cs : List ℕ) (m : ℕ) (rest : List ℕ) → n ≤ 4294967295 → taken n cs ≡ taken m rest → Wrote (decimal n ++ cs) m rest
 stopped n cs m rest fits e =
     let p = Option·some-injective (record { value = n; behind = cs }) (record { value = m; behind = rest }) e in
@@ -137,7 +137,7 @@ stopped n cs m rest fits e =
     let r : cs ≡ rest = ap (λ (t : Taken ℕ). t .behind) p in
     record { fits = omega arith; is = ap (λ (x : ℕ). decimal x ++ cs) q ∙ ap (λ (l : List ℕ). decimal m ++ l) r }
 
--- nothing was read
+-- a reading does not fail and succeed
 nothing : {A : Type 0} {P : Type 0} {x : A} → none ≡ some x → P
 nothing {x = x} e = absurd (Option·none-ne-some x e)
 
@@ -200,7 +200,7 @@ wrote-number (c ∷ cs) n rest e = digit (isDigit c) refl e
     digit true d e = first d (eqb c 48) refl e
     digit false d e = nothing e
 
--- How many digits a number has.
+-- n has more than j digits; with j = 0 this says nothing.
 abbrev pub Least : ℕ → ℕ → Type 0
 Least zero n = Unit {0}
 Least (suc j) n = 10 ^ suc j ≤ n

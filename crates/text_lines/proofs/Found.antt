@@ -1,4 +1,4 @@
--- What reading from a place of a text found there.
+-- What the functions that read find at a place of a text.
 -- Assumes nothing.
 use mathlib.Core.Path.{_≡_, _∙_, sym, ap, subst}
 use mathlib.Core.Option.{Option, none, some, bind}
@@ -30,7 +30,7 @@ module _ (text : List ℕ) (r : Found) (o : Option (Taken ℕ)) (e : numberFound
 pub found-within : (text : List ℕ) (r : Found) (value next : ℕ) → NumberWithin text r → r ≡ Value value next → next ≤ length text
 found-within text r value next w p = subst (NumberWithin text) p w
 
--- an operand at a place
+-- reading an operand at a place
 module _ (text : List ℕ) (i : ℕ) where
   pub operand-none : length text ≤ i → operandIn true (drop i text) ≡ none
   unfolding operandIn
@@ -56,7 +56,7 @@ module _ (text : List ℕ) (i : ℕ) where
   unfolding endIn
   end-feed h e = rw (drop-cons text i 0 h, e)
 
--- The steps of reading a line, from what is left of it.
+-- The steps of reading a line; each begins where the one before it ended.
 bind-is : {A B : Type 0} (o : Option A) (f : A → Option B) (a : A) → o ≡ some a → bind o f ≡ f a
 unfolding bind
 bind-is o f a e = rw e

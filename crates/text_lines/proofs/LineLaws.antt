@@ -14,7 +14,7 @@ use Rattle.text_lines.specs.Decimal.{decimal, isDigit, Taken, taken, num
 use Rattle.text_lines.specs.Line.{operandText, lineOf, knownKind, operandIn, endIn, gateIn, only, gateOf}
 use Rattle.text_lines.proofs.DecimalLaws.{Apart, read-decimal, wrote-number}
 
--- what a step of a reading found
+-- if two readings in a row succeed, each of them does
 bind-some : {A B : Type 0} (o : Option A) (f : A → Option B) (y : B) → bind o f ≡ some y → (a : A) × (o ≡ some a) × (f a ≡ some y)
 unfolding bind
 bind-some none f y e = absurd (Option·none-ne-some y e)
@@ -32,7 +32,7 @@ pub record Writable (g : Gate) : Type 0 where
   pub b-holds : Holds (ltb 1 (operandsOf (g .kind))) (g .b)
   pub c-holds : Holds (ltb 2 (operandsOf (g .kind))) (g .c)
 
--- one operand
+-- an operand that is written is read back
 read-operand : (used : Bool) (x : ℕ) (rest : List ℕ) → Holds used x → Apart rest
     → operandIn used (operandText used x ++ rest) ≡ taken x rest
 unfolding operandIn operandText
@@ -117,7 +117,7 @@ pub record WroteLine (cs : List ℕ) (t : Taken Gate) : Type 0 where
   pub writable : Writable (t .value)
   pub is : cs ≡ lineOf (t .value) ++ t .behind
 
--- the parts put together
+-- if all parts of a line are read, the characters are the line of that gate and the rest
 together : (cs : List ℕ) (k a b c : Taken ℕ) (rest : List ℕ) → numberIn cs ≡ some k → k .value < 8
     → operandIn (ltb 0 (operandsOf (k .value))) (k .behind) ≡ some a
     → operandIn (ltb 1 (operandsOf (k .value))) (a .behind) ≡ some b

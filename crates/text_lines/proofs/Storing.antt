@@ -16,14 +16,14 @@ use Rattle.text_lines.specs.Line.{operandText, lineOf}
 use Rattle.text_lines.specs.inner.Stored.{Stored}
 use Rattle.text_lines.proofs.DecimalLaws.{decimal-one, decimal-more}
 
--- a first run of stores and then a second
+-- storing xs and then ys after them is storing xs ++ ys
 pub sets-append : (l : List ℕ) (at : ℕ) (xs ys : List ℕ) → sets l at (xs ++ ys) ≡ sets (sets l at xs) (at + length xs) ys
 sets-append l at [] ys = ap (λ (k : ℕ). sets l k ys) (sym (add-zero at))
 sets-append l at (x ∷ xs) ys =
     let e : suc at + length xs ≡ at + suc (length xs) = omega arith in
     sets-append (set l at x) (suc at) xs ys ∙ ap (λ (k : ℕ). sets (sets (set l at x) (suc at) xs) k ys) e
 
--- a store after a run may come before it
+-- the character after xs may be stored before xs
 pub sets-behind : (l : List ℕ) (at : ℕ) (xs : List ℕ) (d : ℕ) → sets (set l (at + length xs) d) at xs ≡ sets l at (xs ++ d ∷ [])
 sets-behind l at [] d = ap (λ (k : ℕ). set l k d) (add-zero at)
 sets-behind l at (x ∷ xs) d =
@@ -32,7 +32,7 @@ sets-behind l at (x ∷ xs) d =
     ∙ ap (λ (k : ℕ). sets (set (set l at x) k d) (suc at) xs) e
     ∙ sets-behind (set l at x) (suc at) xs d
 
--- a number from 10 on is its tenth and then its last digit
+-- the digits of a number from 10 on: those of its tenth, then the last digit
 decimal-tenth : (n : ℕ) → 10 ≤ n → n ≤ 4294967295 → decimal n ≡ decimal (n / 10) ++ (48 + n % 10) ∷ []
 decimal-tenth n h fits =
     let e : 10 * (n / 10) + n % 10 ≡ n = omega arith in
@@ -56,7 +56,7 @@ store-first l at i n d h e p =
     let q : i ≡ at = omega (arith, ap length (decimal-one n h)) in
     ap (λ (k : ℕ). set l k d) q ∙ ap (set l at) e ∙ ap (sets l at) (sym (decimal-one n h))
 
--- Characters stored up to a place, whatever was there.
+-- Storing keeps the length of the text, and storing twice in a row is storing once.
 pub stored-long : {l : List ℕ} {at : ℕ} {xs r : List ℕ} {e : ℕ} → Stored l at xs r e → length r ≡ length l
 stored-long {l} {at} {xs} s = ap length (s .is) ∙ length-sets l at xs
 
@@ -69,7 +69,7 @@ stored-then {l} {at} {xs} {r} {e} s {ys} {r′} {e′} more =
       next = omega (arith, s .next, more .next, length-append xs ys);
     }
 
--- How long a line is.
+-- Bounds for the lengths of numbers, operands and lines.
 digits-most : (f n : ℕ) → length (decimalWithin f n) ≤ f
 unfolding decimalWithin
 digits-most zero n = omega arith

@@ -16,7 +16,7 @@ nineCharacter = 57
 abbrev pub largest : ℕ
 largest = 4294967295
 
--- A number in decimal, where this many digits are enough. No leading zeros; 0 itself is one digit.
+-- n in decimal, if at most this many digits are needed. There are no leading zeros; 0 itself is one digit.
 unfoldable pub decimalWithin : ℕ → ℕ → List ℕ
 decimalWithin zero n = []
 decimalWithin (suc digits) n =
@@ -29,7 +29,7 @@ decimal n = decimalWithin 10 n
 unfoldable pub isDigit : ℕ → Bool
 isDigit c = leb zeroCharacter c && leb c nineCharacter
 
--- What the first characters say, and the characters after them.
+-- The value of some first characters, and the characters after them.
 pub record Taken (Values : Type 0) : Type 0 where
   pub value : Values
   pub behind : List ℕ
@@ -37,8 +37,7 @@ pub record Taken (Values : Type 0) : Type 0 where
 abbrev pub taken : {Values : Type 0} → Values → List ℕ → Option (Taken Values)
 taken value behind = some (record { value = value; behind = behind })
 
--- The number that the digits from here on complete, where n is the value of those before; nothing if it is above the
--- largest.
+-- Reads on in a number: n is the value of the digits before. The result is none if the number is above the largest.
 unfoldable pub digitsIn : ℕ → List ℕ → Option (Taken ℕ)
 digitsIn n [] = taken n []
 digitsIn n (c ∷ cs) =
@@ -46,7 +45,8 @@ digitsIn n (c ∷ cs) =
     (cond (leb (10 * n + (c - zeroCharacter)) largest) (digitsIn (10 * n + (c - zeroCharacter)) cs) none)
     (taken n (c ∷ cs))
 
--- The number at the start of some characters. After a first digit 0 nothing follows: no other number begins with 0.
+-- The number at the start of these characters, if there is one. If the first digit is 0, the number ends there:
+-- only 0 itself begins with 0.
 unfoldable pub numberIn : List ℕ → Option (Taken ℕ)
 numberIn [] = none
 numberIn (c ∷ cs) =

@@ -27,21 +27,23 @@ lineOf g =
     ++ operandText (ltb 2 (operandsOf (g .kind))) (g .c)
     ++ lineFeed ∷ []
 
--- The parts of a line at the start of some characters, each of which may be missing: a known kind; an operand, which
--- is 0 if unused; a line feed.
+-- The kind that was read, if there is such a kind.
 unfoldable pub knownKind : Taken ℕ → Option (Taken ℕ)
 knownKind k = cond (ltb (k .value) 8) (some k) none
 
+-- The operand at the start of these characters: a space and a number. An operand that is not in use is 0, without
+-- characters.
 unfoldable pub operandIn : Bool → List ℕ → Option (Taken ℕ)
 operandIn true [] = none
 operandIn true (c ∷ cs) = cond (eqb c space) (numberIn cs) none
 operandIn false cs = taken 0 cs
 
+-- The characters after a line feed, if these begin with one.
 unfoldable pub endIn : List ℕ → Option (List ℕ)
 endIn [] = none
 endIn (c ∷ cs) = cond (eqb c lineFeed) (some cs) none
 
--- A gate at the start of some characters.
+-- The gate whose line is at the start of these characters, if there is one.
 unfoldable pub gateIn : List ℕ → Option (Taken Gate)
 gateIn cs =
     bind (bind (numberIn cs) knownKind) λ k.
@@ -51,10 +53,11 @@ gateIn cs =
     bind (endIn (c .behind)) λ rest.
     taken (record { kind = k .value; a = a .value; b = b .value; c = c .value }) rest
 
--- The gate of a whole line, if nothing follows it.
+-- The gate, if no characters follow its line.
 unfoldable pub only : Gate → List ℕ → Option Gate
 only g [] = some g
 only g (c ∷ cs) = none
 
+-- The gate of a whole line; none if the line is malformed.
 unfoldable pub gateOf : List ℕ → Option Gate
 gateOf line = bind (gateIn line) λ g. only (g .value) (g .behind)

@@ -13,7 +13,7 @@ const NINE: u8 = 57;
 // The largest number that a gate can hold.
 const LARGEST: u64 = 4294967295;
 
-// A number with the place after it, or that there is none.
+// A number and the place after it, or `Malformed` if there is no number.
 pub(crate) enum Found {
     Value { value: u32, next: usize },
     Malformed,
@@ -31,8 +31,8 @@ fn wide(byte: u8) -> u64
     byte as u64
 }
 
-// Reads digits from a place on; `first` is the value of those before. It stops above the largest number, so nothing
-// wraps.
+// Reads digits from place `at` on; `first` is the value of the digits before. It stops at the first value above the
+// largest number, so nothing wraps.
 fn digits(text: &[u8], at: usize, first: u32) -> Found
     requires { ⌜ at ≤ length (now text) ⌝ }
     ensures { λ r. ⌜ NumberRead (now (text .entry)) (digitsIn first (drop at (now (text .entry)))) r ⌝ }
@@ -59,7 +59,7 @@ fn digits(text: &[u8], at: usize, first: u32) -> Found
     }
 }
 
-// The number at a place of a text.
+// The number that begins at a place of a text.
 pub(crate) fn number(text: &[u8], at: usize) -> Found
     requires { ⌜ at ≤ length (now text) ⌝ }
     ensures { λ r. ⌜ NumberRead (now (text .entry)) (numberIn (drop at (now (text .entry)))) r ⌝ }

@@ -12,7 +12,7 @@ pub const SPACE: u8 = 32;
 
 pub const LINE_FEED: u8 = 10;
 
-// The gate of a line with the place after it, or that the line is malformed.
+// The gate of a line and the place after the line, or `Malformed`.
 pub enum Line {
     Gate {
         kind: u32,
@@ -24,7 +24,7 @@ pub enum Line {
     Malformed,
 }
 
-// An operand at a place of a text: a space and a number if it is in use, otherwise nothing.
+// The operand at a place of a text: a space and a number. An operand that is not in use has no characters.
 fn operand(used: bool, text: &[u8], at: usize) -> Found
     requires { ⌜ at ≤ length (now text) ⌝ }
     ensures { λ r. ⌜ NumberRead (now (text .entry)) (operandIn used (drop at (now (text .entry)))) r ⌝ }
@@ -41,7 +41,7 @@ fn operand(used: bool, text: &[u8], at: usize) -> Found
     decimal::number(text, at + 1)
 }
 
-// The line at a place of a text.
+// The gate whose line begins at a place of a text.
 pub fn gate_at(text: &[u8], at: usize) -> Line
     requires { ⌜ at ≤ length (now text) ⌝ }
     ensures { λ r. ⌜ LineRead (now (text .entry)) (gateIn (drop at (now (text .entry)))) r ⌝ }

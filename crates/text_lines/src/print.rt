@@ -1,4 +1,4 @@
-// Puts one gate into a text, as a line.
+// Puts one gate into a text as a line.
 use crate::decimal;
 use crate::line::LINE_FEED;
 use crate::line::SPACE;
@@ -9,14 +9,14 @@ ghost use lib.ListN.{length};
 ghost use Rattle.text_lines.specs.Line.{operandText, lineOf};
 ghost use Rattle.text_lines.specs.inner.Stored.{Stored, LineLength};
 
-// How many characters an operand takes.
+// How many characters an operand has.
 fn operand_length(used: bool, n: u32) -> usize
     ensures { λ r. ⌜ r ≡ length (operandText used n) ⌝ }
 {
     if used { decimal::count(n) + 1 } else { 0 }
 }
 
-// How many characters a gate's line takes.
+// How many characters a gate's line has.
 pub fn line_length(kind: u32, a: u32, b: u32, c: u32) -> usize
     ensures { λ r. ⌜ LineLength (record { kind = kind; a = a; b = b; c = c }) r ⌝ }
 {

@@ -1,5 +1,5 @@
--- The calls of trustees apart, in an election that the single call accepts: each is accepted, and leaves what the
--- trustees hold together.
+-- The calls of trustees apart, in an election that the single call accepts: each is accepted, and leaves what
+-- `holdingsAfter` says.
 -- Assumes nothing.
 use mathlib.Core.Path.{_≡_, _∙_, refl, sym, ap}
 use mathlib.Core.Bool.{true}
@@ -98,7 +98,7 @@ module _ (c : Call) (passed : CallPassed c) (p : ℕ) (l : p < c .trustees) wher
         eq-eqb (length published) (2 * conditionalCount (gatesOf (c .table)) + c .shape .candidates) f,
       )
 
-  -- the start
+  -- the start passes its tests
   start-passes : (ws published : List ℕ) → length ws ≡ ballotBytes (c .shape) + length (gatesOf (c .table))
       → length published ≡ 2 * conditionalCount (gatesOf (c .table)) + c .shape .candidates
       → firstOf (startReasons (c .shape) (c .table) (c .trustees) p
@@ -152,7 +152,7 @@ module _ (c : Call) (passed : CallPassed c) (p : ℕ) (l : p < c .trustees) wher
       only-bits-back (sumsFrom (c .trustees) (2 * conditionalCount (gatesOf (c .table))) 0 all)
       (sums-bits (c .trustees) (2 * conditionalCount (gatesOf (c .table))) 0 all)
 
-  -- a round
+  -- a round passes its tests
   round-passes : (r : ℕ) → r ≤ roundsOf (ballotBytes (c .shape)) (gatesOf (c .table))
       → firstOf (roundReasons (c .shape) (c .table) (c .trustees) p r
       (levelsOf (ballotBytes (c .shape)) (gatesOf (c .table))) (triplesOf (gatesOf (c .table)) (c .lent .dealing) p)

@@ -1,5 +1,5 @@
--- Trustees apart end as the single call does, so its demands hold for them; they send only what follows from their own
--- tables and the sums.
+-- Trustees apart end as the single call does, so its demands hold for them. What they publish depends only on their
+-- own tables and the sums.
 -- Assumes nothing.
 use mathlib.Core.Path.{_≡_, _∙_, refl, sym, ap, subst}
 use mathlib.Core.Logic.{_≢_}
@@ -35,7 +35,7 @@ use Rattle.trustee_alone.specs.Demands.{roundsIn, holdingsIn, partsAtEnd
 use Rattle.trustee_alone.proofs.Memory.{memory}
 use Rattle.trustee_alone.proofs.Apart.{lengths, calls-of}
 
--- the turn by what it is made of
+-- two turns are equal if triples and sums are
 turn-same : (t inputs : ℕ) (gs : List Gate) (d e : Dealing) (r : ℕ) (one other : Held) (p : ℕ) → triplesOf gs d p
     ≡ triplesOf gs e p → sumsOf t (conditionalCount gs) one ≡ sumsOf t (conditionalCount gs) other
     → turnOf t inputs gs d r one p ≡ turnOf t inputs gs e r other p
@@ -91,7 +91,7 @@ module _ (c : Call) (size : Size) (yes : trusteesResult c .answer ≡ accepted s
       (c .lent .dealing) (some-bytes (c .shape) (passed .test .within)) (f .enough) (f .good)
       parts-long p l
 
-  -- the plain ballots are as long as the inputs
+  -- there are as many ballot bytes as inputs, so the parts are those of the single call
   same-parts : (p : ℕ) → p < c .trustees → partsAtEnd c p ≡ wirePartsIn c p
   same-parts p l = made p l .0 ∙ ap (λ (n : ℕ). wirePartsOf (c .trustees) n (gatesOf (c .table)) (c .lent .dealing) p) (sym long)
 
@@ -101,7 +101,7 @@ module _ (c : Call) (size : Size) (yes : trusteesResult c .answer ≡ accepted s
       (λ (p : ℕ) l. made p l .1 ∙ ap (λ (n : ℕ). publishedOf (c .trustees) n (gatesOf (c .table))
       (c .shape .candidates) (c .lent .dealing) p) (sym long))
 
-  -- the sums that are heard are those that the single call opens
+  -- the closing bytes are those that the single call opens
   opens : closingHeard c ≡ closingSums (c .trustees) (c .shape .candidates) (wirePartsIn c)
   unfolding closingHeard sizeOf
   opens =
@@ -121,7 +121,7 @@ module _ (c : Call) (size : Size) (yes : trusteesResult c .answer ≡ accepted s
       closing-after : trusteesResultAfter none c .closing ≡ closingSums (c .trustees) (c .shape .candidates) (wirePartsIn c)
       closing-after = unfold trusteesResultAfter in refl
 
-  -- and what the others hold and see is the same
+  -- what the trustees except q hold and see is the same
   pub same-view : (q : ℕ) → apart .view q c ≡ viewIn q c
   unfolding viewOf
   same-view q =
@@ -138,7 +138,7 @@ module _ (c : Call) (size : Size) (yes : trusteesResult c .answer ≡ accepted s
       (others-cong (c .trustees) q (partsAtEnd c) (wirePartsIn c) (λ (p : ℕ) l n. same-parts p l))
       ∙ ap (λ (bits : List ℕ). seen (length (c .ballots)) final bits) joined-is
 
--- demands 2 and 3 of the single call are those of trustees apart
+-- demands 2 and 3 for trustees apart, from those of the single call
 apart-accuracy : (c : Call) (size : Size) → trusteesResult c .answer ≡ accepted size → WayAccuracy apart c size
 apart-accuracy c size e =
     let a = one-call.trustees-hold .tallies .accuracy c size e in
@@ -174,12 +174,12 @@ apart-hidden c c′ h =
       sees-the-table = λ (q : ℕ) d accept. refl;
     }
 
--- a view is told by what it consists of
+-- two views are equal if their four parts are
 same-parts-same-view : (x y : View) → x .ballotParts ≡ y .ballotParts → x .dealerParts ≡ y .dealerParts → x .wireParts ≡ y .wireParts
     → x .published ≡ y .published → x ≡ y
 same-parts-same-view x y a b c d = rw (a, b, c, d) refl
 
--- two elections of one shape, list and number of trustees
+-- an election with the same shape, list and number of trustees
 abbrev alike : Call → (ballots : List ℕ) → PartTables → Call
 alike c ballots lent =
     record { shape = c .shape; table = c .table; ballots = ballots; trustees = c .trustees; lent = lent }
@@ -190,7 +190,7 @@ module _ (c : Call) (ballots : List ℕ) (lent : PartTables) (first second : Siz
   abbrev other : Call
   other = alike c ballots lent
 
-  -- what trustee p ends with
+  -- what trustee p ends with is equal
   wires-alike : (p : ℕ) → p < c .trustees → p ≢ q
       → wirePartsOf (c .trustees) (ballotBytes (c .shape)) (gatesOf (c .table)) (c .lent .dealing) p
       ≡ wirePartsOf (c .trustees) (ballotBytes (c .shape)) (gatesOf (c .table)) (lent .dealing) p

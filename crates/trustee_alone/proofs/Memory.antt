@@ -1,4 +1,4 @@
--- The numbers of reasons, that a refusal changes nothing, and that no call changes a length.
+-- The numbers of the calls' reasons, that a refusal changes nothing, and that no call changes a length.
 -- Assumes nothing.
 use mathlib.Core.Path.{_≡_, _∙_, refl, sym, ap}
 use mathlib.Core.Bool.{Bool, true, false, cond}

@@ -1,4 +1,4 @@
--- What is known of a round that no reason refuses.
+-- What holds for a round if no reason applies.
 -- Assumes nothing.
 use mathlib.Core.Path.{_≡_, _∙_, refl, sym, ap}
 use mathlib.Core.Option.{none}
@@ -33,7 +33,7 @@ pub record Passed (s : Shape) (table : List ℕ) (round : ℕ) (levels triples h
   pub early : round ≤ roundsOf (ballotBytes s) (gatesOf table)
   pub heard-length : length heard ≡ 2 * conditionalCount (gatesOf table)
 
--- a list that passed its test
+-- facts about a list that has passed its test
 pub facts-by : (s : Shape) (table : List ℕ) → firstOf (testReasons s table) ≡ none
     → ListFacts s table (length (gatesOf table)) (conditionalCount (gatesOf table))
 unfolding sizeOf testOutcome

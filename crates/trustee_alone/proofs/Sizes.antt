@@ -1,4 +1,4 @@
--- Sizes of a list that passed its test, and of one trustee's tables.
+-- The sizes of a list that has passed its test, and of one trustee's tables.
 -- Assumes nothing.
 use mathlib.Core.Path.{_≡_, _∙_, refl, ap}
 use mathlib.Core.Bool.{Bool, true, false, cond, _&&_}
@@ -60,7 +60,7 @@ unfolding sizeOf
 size-is g c table e f = ap (λ (n : ℕ). record { gates = n; conditional = c }) e
     ∙ ap (λ (n : ℕ). record { gates = length (gatesOf table); conditional = n }) f
 
--- the three lengths
+-- the three tables have the right lengths
 pub record Fit (inputs k : ℕ) (gs : List Gate) (triples wireParts published : List ℕ) : Type 0 where
   pub triples-length : length triples ≡ 3 * conditionalCount gs
   pub wires-length : length wireParts ≡ inputs + length gs
@@ -80,7 +80,7 @@ fit inputs k gs triples wireParts published e =
       published-length = eqb-true (length published) (2 * conditionalCount gs + k) (and-second (a && b) c e);
     }
 
--- what comparing levels says
+-- what the comparison of levels says
 pub own-same : (inputs : ℕ) (gs : List Gate) (levels : List ℕ) (rounds : ℕ) → compared inputs gs levels ≡ Own rounds
     → (sameNumbers levels (levelsOf inputs gs) ≡ true) × (rounds ≡ roundsOf inputs gs)
 unfolding compared
@@ -109,7 +109,7 @@ other-long inputs gs levels h = go (sameNumbers levels (levelsOf inputs gs)) ref
     go true f = absurd (h (ap length (same-true levels (levelsOf inputs gs) f) ∙ length-levels inputs gs))
     go false f = f
 
--- the start's tables
+-- the tables after the start
 drop-zeros : (m n : ℕ) → drop m (replicate {A = ℕ} (m + n) 0) ≡ replicate {A = ℕ} n 0
 drop-zeros zero n = ap (λ (k : ℕ). replicate {A = ℕ} k 0) (zero-add n)
 drop-zeros (suc m) n = ap (λ (k : ℕ). drop (suc m) (replicate {A = ℕ} k 0)) (suc-add m n) ∙ drop-zeros m n

@@ -1,4 +1,4 @@
--- Lists of tests, test by test, and what a call answers and leaves by the first reason.
+-- Lists of tests, one test at a time, and what a call answers and leaves, given its first reason.
 -- Assumes nothing.
 use mathlib.Core.Path.{_≡_, _∙_, refl, sym, ap}
 use mathlib.Core.Bool.{Bool, true, false, _&&_}
@@ -12,7 +12,7 @@ use Rattle.tally.proofs.TestReasons.{orElse, first-append}
 use Rattle.trustee_alone.specs.Own.{OwnResult}
 use Rattle.trustee_alone.specs.Finish.{FinishResult}
 
--- one test
+-- the first reason, if the first test passes or fails
 pub pass : (b : Bool) (n : ℕ) (rest : List (Option Reason)) → b ≡ true → firstOf (unless b n ∷ rest) ≡ firstOf rest
 unfolding unless firstOf
 pass b n rest e = rw e
@@ -29,7 +29,7 @@ passed false n rest e = let z : _≡_ {A = ℕ} 0 1 = cc in absurd (omega arith)
 pub end : firstOf [] ≡ none
 end = unfold firstOf in refl
 
--- tests in order
+-- the first reason of two groups of tests
 pub before : (xs ys : List (Option Reason)) (r : Reason) → firstOf xs ≡ some r → firstOf (xs ++ ys) ≡ some r
 unfolding orElse
 before xs ys r e = first-append xs ys ∙ ap (λ (o : Option Reason). orElse o (firstOf ys)) e
@@ -47,11 +47,11 @@ both-passed xs ys e = go (firstOf xs) refl
     go (some r) f = let q : some r ≡ none = sym (ap (λ (o : Option Reason). orElse o (firstOf ys)) f)
         ∙ sym (first-append xs ys) ∙ e in let z : _≡_ {A = ℕ} 0 1 = cc in absurd (omega arith)
 
--- two conditions
+-- tests with two conditions
 pub and-both : (a b c : Bool) → a ≡ true → b ≡ c → (a && b) ≡ c
 and-both a b c e f = rw (e, f) refl
 
--- what is answered and left
+-- what a call answers and leaves
 pub outcome-some : {A : Type 0} (o : Option Reason) (v : A) (r : Reason) → o ≡ some r → refused r ≡ outcome o v
 unfolding outcome
 outcome-some o v r e = rw e
@@ -68,7 +68,7 @@ pub left-new : (o : Option Reason) (new old : List ℕ) → o ≡ none → new �
 unfolding afterwards
 left-new o new old e = rw e
 
--- the parts of what a call leaves
+-- two results are equal if their three parts are
 pub same-own : {Values : Type 0} {a a′ : Outcome Values} {w w′ q q′ : List ℕ} → a ≡ a′ → w ≡ w′ → q ≡ q′
     → _≡_ {A = OwnResult Values} (record { answer = a; wires = w; published = q }) (record { answer = a′; wires = w′; published = q′ })
 same-own e f g = rw (e, f, g) refl

@@ -1,4 +1,5 @@
--- What is shown of a trustee's calls, about the definitions that their contracts equate with answers and tables.
+-- What holds for a trustee's calls, stated about the definitions that their contracts equate with answers and
+-- tables.
 use mathlib.Core.Path.{_≡_}
 use mathlib.Core.List.{List, [], _∷_}
 use Prim.Native.Nat.{ℕ, suc, _+_, _*_, _≤_, _<_}
@@ -42,32 +43,36 @@ pub record AloneMemory : Type 0 where
       → KeepsMemory (1 ∷ 2 ∷ 3 ∷ 17 ∷ []) (finishOutcome s table ws) (lent ws (finishedWires s table ws) ∷ [])
       (lent ws (finishedWires s table ws) ∷ [])
 
--- The sizes of the single call's list, and what its trustees hold before round r if each is on its own.
+-- I of the call's shape.
 abbrev pub inputsIn : Call → ℕ
 inputsIn c = ballotBytes (c .shape)
 
+-- R of the call's list.
 abbrev pub roundsIn : Call → ℕ
 roundsIn c = roundsOf (inputsIn c) (gatesOf (c .table))
 
+-- What the trustees of the call hold before round r, if each is on its own machine.
 abbrev pub holdingsIn : Call → ℕ → Holdings
 holdingsIn c r =
     holdingsAfter (c .trustees) (inputsIn c) (gatesOf (c .table)) (c .shape .candidates) (c .lent .dealing) r
 
--- The sums of what all published before round r.
+-- The sums of what all trustees have published before round r.
 unfoldable pub heardBefore : Call → ℕ → List ℕ
 heardBefore c r = sumsOf (c .trustees) (conditionalCount (gatesOf (c .table))) (holdingsIn c r .published)
 
--- What trustee p brings: its parts of the ballots, and its triples.
+-- Each trustee's ballot parts.
 abbrev pub sharesIn : Call → Held
 sharesIn c p = ballotsOf (inputsIn c) (c .lent .dealing) p
 
+-- Each trustee's triples.
 abbrev pub triplesIn : Call → Held
 triplesIn c p = triplesOf (gatesOf (c .table)) (c .lent .dealing) p
 
--- What all hold and have published, trustee after trustee, after rounds 0 to R.
+-- Each trustee's wire parts after the rounds 0 to R.
 abbrev pub partsAtEnd : Call → Held
 partsAtEnd c = holdingsIn c (suc (roundsIn c)) .wireParts
 
+-- What all have published after the rounds 0 to R, trustee after trustee.
 abbrev pub publishedAtEnd : Call → List ℕ
 publishedAtEnd c = joined (c .trustees) (holdingsIn c (suc (roundsIn c)) .published)
 
@@ -90,7 +95,7 @@ viewBefore r q c =
       published = joined (c .trustees) (holdingsIn c r .published);
     }
 
--- Trustees apart, as a way to tally. A view is taken when the rounds are done.
+-- Trustees apart, each on its own machine, as a way to count. Their view is the one after all rounds.
 abbrev pub apart : Way
 apart =
     record {
@@ -109,15 +114,15 @@ NoEarlierView =
     → (q : ℕ) → apart .view q c ≡ apart .view q c′
     → (r : ℕ) → r ≤ roundsIn c → viewBefore r q c ≡ viewBefore r q c′
 
--- Trustees apart end as the single call of request 2.7 does on the joined tables: after the rounds 0 to R each holds
--- the wire parts of that call, they have published what it leaves, and the closing bytes are its eight.
+-- Trustees apart end as the single call of request 2.7 does on the joined tables: after the rounds 0 to R each
+-- holds the wire parts of that call, they have published what that call publishes, and the closing bytes are the
+-- same.
 pub record AsTheOneCall (c : Call) : Type 0 where
   pub same-parts : (p : ℕ) → p < c .trustees → partsAtEnd c p ≡ wirePartsIn c p
   pub same-published : publishedAtEnd c ≡ trusteesResult c .published
   pub same-closing : closingHeard c ≡ trusteesResult c .closing
 
--- The start of trustee p on these tables, and its round r, are accepted and leave what it holds when all run
--- together.
+-- The start of trustee p on these tables is accepted, and leaves what it holds before round 0.
 pub record StartOf (c : Call) (p : ℕ) (ws published : List ℕ) : Type 0 where
   pub answer : startOutcome (c .shape) (c .table) (c .trustees) p (sharesIn c p) (triplesIn c p) ws published
       ≡ accepted (sizeOf (gatesOf (c .table)))
@@ -126,6 +131,7 @@ pub record StartOf (c : Call) (p : ℕ) (ws published : List ℕ) : Type 0 where
   pub bits : startedPublished (c .shape) (c .table) (c .trustees) p (sharesIn c p) (triplesIn c p) ws published
       ≡ holdingsIn c 0 .published p
 
+-- Round r of trustee p is accepted, and leaves what it holds before round r + 1.
 pub record RoundOf (c : Call) (p r : ℕ) : Type 0 where
   pub answer : roundOutcome (c .shape) (c .table) (c .trustees) p r (levelsOf (inputsIn c) (gatesOf (c .table)))
       (triplesIn c p) (heardBefore c r) (holdingsIn c r .wireParts p) (holdingsIn c r .published p)
@@ -137,14 +143,14 @@ pub record RoundOf (c : Call) (p r : ℕ) : Type 0 where
       (triplesIn c p) (heardBefore c r) (holdingsIn c r .wireParts p) (holdingsIn c r .published p)
       ≡ holdingsIn c (suc r) .published p
 
--- Trustee p in such an election: its start, on any tables of the right lengths, and every round up to R. This ties
--- the program's calls to the rounds that are spoken of here.
+-- Trustee p's start, on any tables of the right lengths, and each of its rounds up to R. So the program's calls
+-- leave what `holdingsIn` says.
 pub record CallsOf (c : Call) (p : ℕ) : Type 0 where
   pub start : (ws published : List ℕ) → length ws ≡ inputsIn c + length (gatesOf (c .table))
       → length published ≡ 2 * conditionalCount (gatesOf (c .table)) + c .shape .candidates → StartOf c p ws published
   pub round : (r : ℕ) → r ≤ roundsIn c → RoundOf c p r
 
--- What a trustee sends depends on its own tables and on the sums it heard, and on nothing else: it is equal in two
+-- What a trustee publishes depends only on its own tables and on the sums that it heard: it is equal in two
 -- elections that agree on these.
 abbrev pub OwnTablesOnly : Type 0
 OwnTablesOnly =
@@ -154,7 +160,8 @@ OwnTablesOnly =
     → one .wireParts p ≡ other .wireParts p → one .published p ≡ other .published p
     → publishedAfter t inputs gs k d r one p ≡ publishedAfter t inputs gs k e r other p
 
--- Demands 2 and 3 of `apart` are those of the single call, for the elections that it accepts.
+-- Everything that holds for trustees apart. Demands 2 and 3 are stated for the elections that the single call
+-- accepts.
 pub record AloneHolds : Type 0 where
   pub memory : AloneMemory
   pub own-tables-only : OwnTablesOnly

@@ -6,11 +6,11 @@ use lib.Dec.{eqb, leb, ltb}
 use lib.ListN.{length}
 use Rattle.tally.specs.Answer.{Outcome, Size}
 
--- Trustee p, counted from 0, of t trustees, where t is 2 to 5.
+-- Whether t is 2 to 5, and p, counted from 0, is one of the t trustees.
 unfoldable pub isTrustee : ℕ → ℕ → Bool
 isTrustee t p = leb 2 t && leb t 5 && ltb p t
 
--- The lengths of its triples, wire parts and published bits.
+-- Whether a trustee's triples, wire parts and published bits have the right lengths.
 unfoldable pub ownTablesFit : ℕ → ℕ → Size → List ℕ → List ℕ → List ℕ → Bool
 ownTablesFit inputs k size triples wireParts published =
     eqb (length triples) (3 * size .conditional) && eqb (length wireParts) (inputs + size .gates)

@@ -19,8 +19,9 @@ use Rattle.trustee_rounds.specs.Rounds.{Turn, enters, publishes, closes}
 use Rattle.basics.specs.Lists.{sameNumbers}
 use Rattle.trustee_alone.specs.Own.{isTrustee, ownTablesFit, OwnResult}
 
--- The tests in checking order: 16, 17 and 18 of what the trustee brings; 200 if the level table is not the list's
--- own; 201 for a round above R; 202 if the sums are not two bits for each conditional gate.
+-- The reasons after those of the list, in the order of their tests: 16, 17 and 18 of the trustee's number and
+-- tables; 200 if the level table is not the list's own; 201 for a round above R; 202 if the sums are not two bits
+-- for each conditional gate.
 unfoldable pub tableReasons : ℕ → ℕ → List Gate → ℕ → ℕ → ℕ → List ℕ → List ℕ → List ℕ → List ℕ → List ℕ
     → List (Option Reason)
 tableReasons inputs k gs t p round levels triples heard wireParts published =
@@ -32,6 +33,7 @@ tableReasons inputs k gs t p round levels triples heard wireParts published =
     ∷ unless (eqb (length heard) (2 * conditionalCount gs) && onlyBits heard) 202
     ∷ []
 
+-- All reasons: 1, 2 and 3 of the list come first.
 unfoldable pub roundReasons : Shape → List ℕ → ℕ → ℕ → ℕ → List ℕ → List ℕ → List ℕ → List ℕ → List ℕ
     → List (Option Reason)
 roundReasons s table t p round levels triples heard wireParts published =
@@ -45,16 +47,17 @@ roundOutcome s table t p round levels triples heard wireParts published =
     outcome (firstOf (roundReasons s table t p round levels triples heard wireParts published))
     (depthsOf (ballotBytes s) (gatesOf table))
 
--- The trustee's turn, from its own tables and the sums.
+-- What the trustee computes the round from: its own tables and the sums.
 unfoldable pub ownTurn : Shape → ℕ → ℕ → List ℕ → List ℕ → List ℕ → Turn
 ownTurn s p round levels triples heard =
     record { trustee = p; round = round; inputs = ballotBytes s; levels = levels; triples = triples; heard = heard }
 
--- What an accepted round makes of both tables.
+-- The wire parts after an accepted round.
 unfoldable pub wiresMade : Shape → List ℕ → ℕ → ℕ → List ℕ → List ℕ → List ℕ → List ℕ → List ℕ
 wiresMade s table p round levels triples heard wireParts =
     enters (ownTurn s p round levels triples heard) (gatesOf table) 0 0 wireParts
 
+-- The published bits after an accepted round.
 unfoldable pub publishedMade : Shape → List ℕ → ℕ → ℕ → List ℕ → List ℕ → List ℕ → List ℕ → List ℕ → List ℕ
 publishedMade s table p round levels triples heard wireParts published =
     closes round (roundsOf (ballotBytes s) (gatesOf table)) (conditionalCount (gatesOf table)) (s .candidates)
@@ -62,17 +65,19 @@ publishedMade s table p round levels triples heard wireParts published =
     (publishes (ownTurn s p round levels triples heard) (wiresMade s table p round levels triples heard wireParts)
     (gatesOf table) 0 0 published)
 
--- Both tables afterwards; a refusal changes nothing.
+-- The wire parts after the call; a refusal changes nothing.
 unfoldable pub roundedWires : Shape → List ℕ → ℕ → ℕ → ℕ → List ℕ → List ℕ → List ℕ → List ℕ → List ℕ → List ℕ
 roundedWires s table t p round levels triples heard wireParts published =
     afterwards (firstOf (roundReasons s table t p round levels triples heard wireParts published))
     (wiresMade s table p round levels triples heard wireParts) wireParts
 
+-- The published bits after the call; a refusal changes nothing.
 unfoldable pub roundedPublished : Shape → List ℕ → ℕ → ℕ → ℕ → List ℕ → List ℕ → List ℕ → List ℕ → List ℕ → List ℕ
 roundedPublished s table t p round levels triples heard wireParts published =
     afterwards (firstOf (roundReasons s table t p round levels triples heard wireParts published))
     (publishedMade s table p round levels triples heard wireParts published) published
 
+-- What a call leaves: the contract of `round` is an equation with this.
 abbrev pub roundResult : Shape → List ℕ → ℕ → ℕ → ℕ → List ℕ → List ℕ → List ℕ → List ℕ → List ℕ → OwnResult Depths
 roundResult s table t p round levels triples heard wireParts published =
     record {

@@ -16,8 +16,8 @@ use Rattle.trustee_gates.specs.Dealing.{onlyBits}
 use Rattle.trustee_rounds.specs.Rounds.{startWires, startPublished}
 use Rattle.trustee_alone.specs.Own.{isTrustee, ownTablesFit, OwnResult}
 
--- The tests of what one trustee brings, in checking order: 16, 17, 18. Whether parts add up, only all trustees
--- together could tell.
+-- The reasons of one trustee's number and tables, in the order of their tests: 16, 17, 18. Only all trustees
+-- together could test whether parts add up.
 unfoldable pub ownReasons : ℕ → ℕ → Size → ℕ → ℕ → List ℕ → List ℕ → List ℕ → List ℕ → List (Option Reason)
 ownReasons inputs k size t p shares triples wireParts published =
     unless (isTrustee t p) 16
@@ -36,17 +36,19 @@ unfoldable pub startOutcome : Shape → List ℕ → ℕ → ℕ → List ℕ �
 startOutcome s table t p shares triples wireParts published =
     outcome (firstOf (startReasons s table t p shares triples wireParts published)) (sizeOf (gatesOf table))
 
--- Both tables afterwards; a refusal changes nothing.
+-- The wire parts after the call; a refusal changes nothing.
 unfoldable pub startedWires : Shape → List ℕ → ℕ → ℕ → List ℕ → List ℕ → List ℕ → List ℕ → List ℕ
 startedWires s table t p shares triples wireParts published =
     afterwards (firstOf (startReasons s table t p shares triples wireParts published))
     (startWires (length (gatesOf table)) shares) wireParts
 
+-- The published bits after the call; a refusal changes nothing.
 unfoldable pub startedPublished : Shape → List ℕ → ℕ → ℕ → List ℕ → List ℕ → List ℕ → List ℕ → List ℕ
 startedPublished s table t p shares triples wireParts published =
     afterwards (firstOf (startReasons s table t p shares triples wireParts published))
     (startPublished (conditionalCount (gatesOf table)) (s .candidates)) published
 
+-- What a call leaves: the contract of `start` is an equation with this.
 abbrev pub startResult : Shape → List ℕ → ℕ → ℕ → List ℕ → List ℕ → List ℕ → List ℕ → OwnResult Size
 startResult s table t p shares triples wireParts published =
     record {

@@ -6,7 +6,8 @@ ghost use mathlib.Core.Path.{_≡_};
 ghost use Rattle.tally.specs.Answer.{outcomeOf};
 ghost use Rattle.trustee_alone.specs.Finish.{finishResult};
 
-// Empties a trustee's wire parts, which together with the other trustees' would give every wire away (request 2.13).
+// Empties a trustee's wire parts, which together with those of the other trustees would reveal every wire (request
+// 2.13).
 pub fn finish(shape: Shape, table: &[u32], wires: &mut [u8]) -> Answer
     ensures { λ r.
         ⌜ record { answer = outcomeOf r; wires = now (wires .exit) }

@@ -17,7 +17,7 @@ ghost use Rattle.trustee_alone.specs.inner.Ready.{TablesReady};
 ghost use Rattle.trustee_alone.specs.Rounds.{tableReasons, roundReasons, roundResult};
 ghost use Rattle.jury.specs.Shape.{ballotBytes};
 
-// Reasons 16 to 18 and 200 to 202, for a list that passed its test.
+// Tests for reasons 16 to 18 and 200 to 202, for a list that has passed its test.
 fn test_tables(
     inputs: usize,
     k: usize,
@@ -74,7 +74,7 @@ fn test_tables(
     }
 }
 
-// All tests in checking order.
+// All tests of a round, in their order.
 fn test_round(
     shape: Shape,
     table: &[u32],
@@ -116,8 +116,8 @@ fn test_round(
     }
 }
 
-// Round r of trustee p of t: gates of level r get their parts, conditional gates of level r + 1 publish, and after
-// the last level the closing bits are published.
+// Round r of trustee p of t: it enters the parts of the gates of level r, and publishes the factors of the
+// conditional gates of level r + 1. The last round also publishes the closing bits.
 pub fn round(
     shape: Shape,
     table: &[u32],

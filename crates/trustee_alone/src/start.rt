@@ -11,7 +11,7 @@ ghost use Rattle.tally.specs.Answer.{outcomeOf};
 ghost use Rattle.trustees.specs.inner.Sizes.{SmallSizes};
 ghost use Rattle.trustee_alone.specs.Start.{ownReasons, startResult};
 
-// Reasons 16 to 18.
+// Tests for reasons 16 to 18.
 fn test_own(
     inputs: usize,
     k: usize,
@@ -50,7 +50,7 @@ fn test_own(
     Verdict::Accepted
 }
 
-// Trustee p of t starts: its wire parts are its ballot parts, then zeros; nothing is published yet.
+// Trustee p of t starts: its wire parts become its ballot parts, then zeros; its published bits become zeros.
 pub fn start(
     shape: Shape,
     table: &[u32],

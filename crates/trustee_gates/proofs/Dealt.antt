@@ -1,4 +1,4 @@
--- The tests of a dealing say what a good dealing is.
+-- A dealing passes its tests exactly if it is a good dealing.
 -- Assumes nothing.
 use mathlib.Core.Path.{_≡_, refl, sym}
 use mathlib.Core.Bool.{Bool, true, false, _&&_}

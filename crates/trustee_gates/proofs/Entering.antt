@@ -1,4 +1,4 @@
--- What all trustees enter for one gate is the new part of each.
+-- What the program stores for one gate is each trustee's new part.
 -- Assumes nothing.
 use mathlib.Core.Path.{_≡_, _∙_, ap}
 use mathlib.Core.Bool.{false}

@@ -16,11 +16,11 @@ use Rattle.trustee_gates.specs.inner.Tables.{eachPuts}
 use Rattle.trustee_gates.proofs.Puts.{length-puts, puts-at}
 use Rattle.trustee_gates.proofs.Running.{parts-cong, length-parts}
 
--- entries put first are taken first
+-- entries that are stored at the start are the first entries
 take-sets : (l vs : List ℕ) (n : ℕ) → length vs ≡ n → n ≤ length l → take n (sets l 0 vs) ≡ vs
 take-sets l vs n e h = ap (take n) (sets-eq vs l 0 (omega arith)) ∙ take-at vs (drop (0 + length vs) l) n e
 
--- entries at the front, and entries after them to the end
+-- storing entries at the start, and then others after them up to the end
 sets-both : (l us vs : List ℕ) (m : ℕ) → length us ≡ m → m + length vs ≡ length l → sets (sets l 0 us) m vs ≡ us ++ vs
 sets-both l us vs m e h =
     let r = sets l 0 us in
@@ -33,7 +33,7 @@ module _ (t inputs : ℕ) (gs : List Gate) (k : ℕ) (d : Dealing) (ws published
     (count : C ≡ conditionalCount gs) (size-is : sizeW ≡ inputs + length gs) (enough : k ≤ length gs)
     (published-is : sizeP ≡ 2 * C + k) (ballot-length : length (d .ballotParts) ≡ t * inputs)
     (wires-length : length ws ≡ t * sizeW) (published-length : length published ≡ t * sizeP) where
-  -- the wire parts once the inputs are copied
+  -- the wire parts after the inputs are copied
   module _ (ws₁ : List ℕ) (e₁ : ws₁ ≡ eachPuts t sizeW 0 (λ p. take inputs (drop 0 (piece inputs (d .ballotParts) p))) ws) where
     ballot-long : (p : ℕ) → p < t → length (piece inputs (d .ballotParts) p) ≡ inputs
     ballot-long p h = length-piece t inputs (d .ballotParts) p ballot-length h
@@ -106,7 +106,7 @@ module _ (t inputs : ℕ) (gs : List Gate) (k : ℕ) (d : Dealing) (ws published
       pub published-long : length published₂ ≡ t * sizeP
       published-long = ap length published-are ∙ length-joined sizeP (λ p. sets (piece sizeP published p) 0 (factors p)) t set-long
 
-      -- the closing bits after the factors
+      -- the closing bits come after the factors
       closing-is : (p : ℕ) → p < t → take k (drop (sizeW - k) (piece sizeW ws₂ p)) ≡ closingParts k (wirePartsOf t inputs gs d p)
       unfolding closingParts
       closing-is p h =

@@ -26,7 +26,7 @@ times-odd a b n =
     let s : a ≡ 2 * (a / 2) + 1 = omega arith in
     sym (odd-times (a / 2) b) ∙ ap (λ (n : ℕ). n * b % 2) (sym s)
 
--- a bit that is entered modulo 2
+-- a public bit may be taken modulo 2
 pub entered-mod : (p x : ℕ) → entered p (x % 2) % 2 ≡ entered p x % 2
 unfolding entered
 entered-mod zero x = omega arith
@@ -43,7 +43,7 @@ three-mods a b z =
     let f : z % 2 % 2 ≡ z % 2 = omega arith in
     plus-mod ((u + z % 2) % 2) u (z % 2) (a + b) z e f refl
 
--- a product of three sums
+-- the sum for a trustee's bit of a product, with each step taken modulo 2
 pub product-sum : (p s a b c x y z e d m r : ℕ) → x ≡ a % 2 → y ≡ b % 2 → z ≡ c % 2 → d ≡ (s + x) % 2 → m
     ≡ (d + y) % 2 → e ≡ entered p z → r ≡ (m + e) % 2
     → r ≡ (s + a + b + entered p c) % 2
@@ -53,7 +53,7 @@ product-sum p s a b c x y z e d m r hx hy hz hd hm he hr =
     let g : m ≡ (s + a + b) % 2 = plus-mod m d y (s + a) b (reduced d (s + a) f) (reduced y b hy) hm in
     plus-mod r m e (s + a + b) (entered p c) (reduced m (s + a + b) g) k hr
 
--- one more term
+-- opening with one more trustee
 pub opened-more : (t : ℕ) (f : ℕ → ℕ) (sum v r : ℕ) → sum ≡ opened t f → v ≡ f t → r ≡ (sum + v) % 2 → r ≡ opened (suc t) f
 unfolding opened sumOf
 opened-more t f sum v r e h k = omega arith

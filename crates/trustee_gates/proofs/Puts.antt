@@ -1,4 +1,4 @@
--- Entries that are put into the pieces of a table.
+-- Storing entries in the pieces of a table.
 -- Assumes nothing.
 use mathlib.Core.Path.{_≡_, _∙_, refl, sym, ap}
 use mathlib.Core.Bool.{Bool, true, false}
@@ -25,7 +25,7 @@ part-piece size table p x h = getD-take size (drop (p * size) table) x 0 h ∙ g
 pub reaches : (t size : ℕ) (table : List ℕ) (p : ℕ) → length table ≡ t * size → p < t → p * size + size ≤ length table
 reaches t size table p e h = omega (arith, row-within p t size h)
 
--- one entry
+-- a piece after one entry is stored
 piece-set-same : (size : ℕ) (table : List ℕ) (p x v : ℕ) → x < size → piece size (set table (p * size + x) v) p
     ≡ set (piece size table p) x v
 unfolding piece
@@ -49,7 +49,7 @@ piece-set-other size table p q x v n h = go (ltb p q) refl
         ap (λ (i : ℕ). take size (drop (q * size) (set table i v))) e
         ∙ ap (take size) (drop-set-add (q * size) table j v) ∙ take-set-le size (drop (q * size) table) j v (omega arith)
 
--- several entries
+-- a piece after several entries are stored
 piece-sets-same : (size p : ℕ) (vs : List ℕ) (table : List ℕ) (x : ℕ) → x + length vs ≤ size
     → piece size (sets table (p * size + x) vs) p ≡ sets (piece size table p) x vs
 piece-sets-same size p [] table x h = refl
@@ -83,7 +83,7 @@ module _ (size x : ℕ) (f : Held) (table : List ℕ) where
       piece-sets-other size t q (f t) (eachPuts t size x f table) x (λ e. omega arith) (fits t (omega arith))
       ∙ puts-later t q (omega arith) (λ (p : ℕ) l. fits p (omega arith))
 
-  -- those before have their entries
+  -- pieces before t have their entries
   pub puts-at : (t q : ℕ) → q < t → ((p : ℕ) → p < t → x + length (f p) ≤ size)
       → piece size (eachPuts t size x f table) q ≡ sets (piece size table q) x (f q)
   unfolding eachPuts
@@ -100,14 +100,14 @@ module _ (size x : ℕ) (f : Held) (table : List ℕ) where
           let n = eqb-false q t is in
           piece-sets-other size t q (f t) (eachPuts t size x f table) x n (fits t (omega arith)) ∙ rest (omega arith)
 
--- equal entries
+-- equal entries give equal tables
 pub puts-same : (t size x : ℕ) (f g : Held) (table : List ℕ) → ((p : ℕ) → p < t → f p ≡ g p)
     → eachPuts t size x f table ≡ eachPuts t size x g table
 unfolding eachPuts
 puts-same zero size x f g table e = refl
 puts-same (suc t) size x f g table e = rw (puts-same t size x f g table (λ (p : ℕ) h. e p (omega arith)), e t (omega arith))
 
--- part of what is taken
+-- a part within the first n entries
 pub drop-in-take : (m k n : ℕ) (l : List ℕ) → m + k ≤ n → take k (drop m (take n l)) ≡ take k (drop m l)
 drop-in-take zero k n l h = take-take k n l (omega arith)
 drop-in-take (suc m) k zero l h = absurd (omega arith)
@@ -120,7 +120,7 @@ unfolding piece
 piece-part size table p m k h =
     ap (take k) (sym (drop-drop m (p * size) table)) ∙ sym (drop-in-take m k size (drop (p * size) table) h)
 
--- one trustee more puts one entry, or two
+-- one more trustee stores one entry, or two
 pub puts-one : (f : ℕ → ℕ) (now before : List ℕ) (p size x v : ℕ) → now ≡ eachPuts p size x (λ q. f q ∷ []) before → v ≡ f p
     → set now (p * size + x) v ≡ eachPuts (p + 1) size x (λ q. f q ∷ []) before
 unfolding eachPuts
@@ -132,7 +132,7 @@ pub puts-two : (f g : ℕ → ℕ) (now before : List ℕ) (p size x v w : ℕ) 
 unfolding eachPuts
 puts-two f g now before p size x v w e h k = rw (e, h, k, add-one p, add-one (p * size + x))
 
--- its own piece is unchanged until then
+-- before a trustee stores its entry, its piece is unchanged
 pub own-piece : (f : ℕ → ℕ) (now before : List ℕ) (p size x : ℕ) → x < size → now
     ≡ eachPuts p size x (λ q. f q ∷ []) before → piece size now p ≡ piece size before p
 own-piece f now before p size x h e =

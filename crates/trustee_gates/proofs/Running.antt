@@ -1,4 +1,5 @@
--- One turn of the trustees' evaluation: doing a gate and then the rest is doing all that was left.
+-- One turn of the trustees' evaluation: running a gate and then the rest gives what running all that was left
+-- gives.
 -- Assumes nothing.
 use mathlib.Core.Path.{_≡_, _∙_, refl, sym, ap, subst}
 use mathlib.Core.Bool.{Bool, true, false, cond}
@@ -61,7 +62,7 @@ same-by t held held′ g e =
       c-same = λ p h. ap (λ (l : List ℕ). part l (g .c)) (e p h);
     }
 
--- the parts after a list follow from those of the first t trustees before it
+-- the parts after a list depend only on what the first t trustees held before
 pub parts-cong : (t : ℕ) (triples : Held) (gs : List Gate) (held held′ : Held) (i : ℕ) → ((p : ℕ) → p < t → held p ≡ held′ p)
     → (p : ℕ) → p < t → partsOf t triples held i gs p ≡ partsOf t triples held′ i gs p
 unfolding partsOf
@@ -71,7 +72,7 @@ parts-cong t triples (g ∷ gs) held held′ i e p h =
     (λ q. held′ q ++ (newPart t triples held′ i g q ∷ [])) (i + markOf g)
     (λ (q : ℕ) l. rw (e q l, new-cong t triples held held′ i g (same-by t held held′ g e) q l)) p h
 
--- parts that are there stay, and each gate adds one
+-- parts that a trustee holds stay, and each gate adds one
 pub parts-keep : (t : ℕ) (triples : Held) (gs : List Gate) (held : Held) (i n p x : ℕ) → length (held p) ≡ n → x < n
     → part (partsOf t triples held i gs p) x ≡ part (held p) x
 unfolding partsOf
@@ -95,8 +96,8 @@ length-parts t triples (g ∷ gs) held i n p e =
     )
 
 module _ (t sizeW sizeP inputs : ℕ) (triples : Held) (table : List ℕ) (final finalPublished : Held) where
-  -- The invariant: gates from g on are left, and with what is there they make the wire parts and published bits of
-  -- the whole list.
+  -- The invariant: the gates from g on are left, and running them on these tables gives the wire parts and
+  -- published bits of the whole list.
   pub record Left (ws published : List ℕ) (i g : ℕ) : Type 0 where
     pub order : g ≤ length (gatesOf table)
     pub wires-left : (p : ℕ) → p < t → partsOf t triples (λ q. take (inputs + g) (piece sizeW ws q)) i (drop g (gatesOf table)) p ≡ final p
@@ -157,7 +158,7 @@ module _ (t sizeW sizeP inputs : ℕ) (triples : Held) (table : List ℕ) (final
           c-same = λ (p : ℕ) l. taken p (x .c) (operands .c-below);
         }
 
-    -- the parts of the operands are final
+    -- the parts of the operands do not change any more
     is-final : (p : ℕ) → p < t → partsOf t triples held i (drop g (gatesOf table)) p ≡ final p
     unfolding held
     is-final p l = left .wires-left p l
@@ -284,7 +285,7 @@ module _ (t sizeW sizeP inputs : ℕ) (triples : Held) (table : List ℕ) (final
             published-long = long-after;
           }
 
-  -- nothing is left
+  -- if no gate is left, the tables are those of the whole list
   pub left-end : sizeW ≡ inputs + length (gatesOf table) → (ws published : List ℕ) (i g : ℕ) → Left ws published i g
       → length (gatesOf table) ≤ g
       → (ws ≡ joined t final) × (published ≡ joined t finalPublished)
@@ -312,7 +313,7 @@ module _ (t sizeW sizeP inputs : ℕ) (triples : Held) (table : List ℕ) (final
       no-factor : (p : ℕ) → sets (piece sizeP published p) (2 * i) (maskedFactors (final p) (triples p) i []) ≡ piece sizeP published p
       no-factor p = unfold maskedFactors in refl
 
--- before the first gate all is left
+-- the invariant before the first gate
 pub left-start : (t sizeW sizeP inputs : ℕ) (triples : Held) (table ws published : List ℕ)
     → firstBad inputs 0 (gatesOf table) ≡ Nowhere → length ws ≡ t * sizeW → length published ≡ t * sizeP
     → Left t sizeW sizeP inputs triples table (partsOf t triples (λ p. take inputs (piece sizeW ws p)) 0 (gatesOf table))
@@ -369,7 +370,7 @@ module _ (t inputs : ℕ) (pieces : Pieces) (table triples : List ℕ) (final fi
         published-length = left .published-long;
       }
 
-  -- what is left after it
+  -- the invariant after that gate
   pub turn-by : (ws′ published′ : List ℕ) (i′ g′ : ℕ) → i′ ≡ i + markOf (gateOfNumbers r)
       → ws′ ≡ eachPuts t (pieces .wires) (inputs + g)
       (λ p. newPart t (piece (pieces .triples) triples) (piece (pieces .wires) ws) i (gateOfNumbers r) p ∷ []) ws

@@ -26,7 +26,7 @@ module _ (f : ℕ → Bool) where
       go true is rest = let s : n ≡ i = sym (eqb-true i n is) in rw (s, e) (sym (and-false (allBelow i f)))
       go false is rest = let n = eqb-false i n is in rw (sym (rest (omega arith))) refl
 
-  -- all pass exactly if each passes
+  -- the test of all numbers passes exactly if that of each does
   pub each-passes : (n : ℕ) → allBelow n f ≡ true → (i : ℕ) → i < n → f i ≡ true
   each-passes n e i h = go (f i) refl
     where

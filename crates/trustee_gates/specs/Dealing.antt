@@ -22,10 +22,11 @@ unfoldable pub productAddsUp : ℕ → Held → ℕ → Bool
 productAddsUp t triples i = eqb (opened t (λ p. productOf (triples p) i))
     (opened t (λ p. uOf (triples p) i) * opened t (λ p. vOf (triples p) i))
 
+-- The same for the triples of all conditional gates.
 unfoldable pub productsAddUp : ℕ → ℕ → List ℕ → Bool
 productsAddUp t conditional triples = allBelow conditional (productAddsUp t (piece (3 * conditional) triples))
 
--- A good dealing of these ballots for this many conditional gates: all parts are bits, and they add up.
+-- The dealing is good for these ballots and this many conditional gates: all parts are bits, and they add up.
 unfoldable pub dealtWell : ℕ → ℕ → List ℕ → Dealing → Bool
 dealtWell t conditional ballots d =
     onlyBits (d .ballotParts) && onlyBits (d .dealerParts) && addsUp t ballots (d .ballotParts)

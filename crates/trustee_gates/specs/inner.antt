@@ -1,4 +1,4 @@
--- What the functions of this crate ask for and do; no entry point's contract needs it.
+-- What the functions of this crate require and leave; no entry point's contract needs it.
 pub mod Tables
 pub mod Gate
 pub mod Evaluate

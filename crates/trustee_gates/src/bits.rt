@@ -10,14 +10,14 @@ pub(crate) fn plus(a: u8, b: u8) -> u8
     (a % 2 + b % 2) % 2
 }
 
-// Their product.
+// The product of two bits.
 pub(crate) fn times(a: u8, b: u8) -> u8
     ensures { λ r. ⌜ r ≡ (a * b) % 2 ⌝ }
 {
     if a % 2 == 0 { 0 } else { b % 2 }
 }
 
-// What trustee p enters for a public bit: the first trustee the bit, the others 0.
+// Trustee p's part of a public bit: the bit for the first trustee, 0 for the others.
 pub(crate) fn enter_once(p: usize, x: u8) -> u8
     ensures { λ r. ⌜ r ≡ entered p x ⌝ }
 {

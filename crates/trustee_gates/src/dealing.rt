@@ -37,7 +37,7 @@ pub fn adds_up(t: usize, ballots: &[u8], parts: &[u8]) -> bool
     true
 }
 
-// Whether the parts of the i-th product add up to it.
+// Whether the parts of the i-th triple's product add up to the product of u and v.
 fn product_adds_up(t: usize, size: usize, i: usize, triples: &[u8]) -> bool
     requires { ⌜ (3 * i + 2 < size) × (length (now triples) ≡ t * size) ⌝ }
     ensures { λ r. ⌜ r ≡ productAddsUp t (piece size (now (triples .entry))) i ⌝ }
@@ -47,7 +47,7 @@ fn product_adds_up(t: usize, size: usize, i: usize, triples: &[u8]) -> bool
     table::open(triples, size, t, 3 * i + 2) == bits::times(u, v)
 }
 
-// Whether the parts of each triple's product add up to it.
+// The same for the triples of all conditional gates.
 pub fn products_add_up(t: usize, conditional: usize, triples: &[u8]) -> bool
     requires { ⌜ ProductsReady t conditional (now triples) ⌝ }
     ensures { λ r. ⌜ r ≡ productsAddUp t conditional (now (triples .entry)) ⌝ }

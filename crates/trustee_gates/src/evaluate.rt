@@ -1,5 +1,5 @@
-// The evaluation of a whole list by trustees. Nothing here is an entry point: what a `requires` asks, the tests
-// establish.
+// The evaluation of a whole list by trustees. Nothing here is an entry point: the callers' tests establish what a
+// `requires` asks.
 use crate::gate;
 use crate::gate::Numbers;
 use crate::gate::Pieces;
@@ -26,7 +26,7 @@ pub fn numbers_at(table: &[u32], g: usize) -> Numbers
     }
 }
 
-// All gates in order. The inputs are in the wire parts already.
+// Runs all gates in order. The inputs are already in the wire parts.
 fn run_gates(
     t: usize,
     pieces: Pieces,
@@ -63,8 +63,8 @@ fn run_gates(
     }
 }
 
-// Copies the inputs to the front of each trustee's wire parts, does the gates, and publishes each trustee's parts of
-// the last k wires.
+// Copies the inputs to the start of each trustee's wire parts, runs the gates, and publishes each trustee's parts
+// of the last k wires.
 pub fn evaluate(
     t: usize,
     inputs: usize,

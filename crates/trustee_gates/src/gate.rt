@@ -80,7 +80,7 @@ pub fn masked_second(
     bits::plus(factor, table::entry(triples, pieces.triples, p, 3 * i + 1))
 }
 
-// Each trustee publishes its masked bits of both factors; their sums are opened on the way.
+// Each trustee publishes its masked bits of both factors. Their sums are the answer.
 fn publish(
     t: usize,
     pieces: Pieces,
@@ -137,7 +137,7 @@ fn new_part(size: usize, gate: Numbers, p: usize, z: u8, wires: &[u8]) -> u8
     bits::part_of_kind(p, gate.kind, a, b, c, z)
 }
 
-// Each trustee enters its part of a conditional gate's wire.
+// Stores each trustee's part of a conditional gate's wire.
 fn enter_products(
     t: usize,
     pieces: Pieces,
@@ -166,7 +166,7 @@ fn enter_products(
     }
 }
 
-// Each trustee enters its part of a free gate's wire, which needs no product.
+// Stores each trustee's part of a free gate's wire, which needs no product.
 fn enter_free(t: usize, size: usize, gate: Numbers, own: usize, wires: &mut [u8])
     requires { ⌜ FreeReady t size gate own (now wires) ⌝ }
     ensures { λ _.
@@ -181,7 +181,7 @@ fn enter_free(t: usize, size: usize, gate: Numbers, own: usize, wires: &mut [u8]
     }
 }
 
-// One gate, which i conditional gates precede. Answers their number after it.
+// Runs one gate, before which i conditional gates were run. Answers how many were run after it.
 pub(crate) fn run_gate(
     marks: &[bool; 8],
     t: usize,

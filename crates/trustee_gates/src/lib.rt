@@ -1,5 +1,5 @@
-// A gate list evaluated by trustees, each of whom holds one part of every wire, over tables that go trustee after
-// trustee. This crate knows gates and parts, and nothing of juries.
+// A gate list that is evaluated by trustees, each of whom holds one part of every wire, in tables that go trustee
+// after trustee. This crate knows gates and parts, but no juries.
 pub mod bits;
 pub mod dealing;
 pub mod evaluate;

@@ -16,7 +16,7 @@ pub(crate) fn entry(table: &[u8], size: usize, p: usize, index: usize) -> u8
     table[p * size + index]
 }
 
-// Opens the bit that t trustees hold at an index of their pieces: the sum of their entries modulo 2.
+// Opens the bit that t trustees share at an index of their pieces: the sum of their entries modulo 2.
 pub fn open(table: &[u8], size: usize, t: usize, index: usize) -> u8
     requires { ⌜ OpenReady size t index (now table) ⌝ }
     ensures { λ r. ⌜ r ≡ opened t (λ p. part (piece size (now (table .entry)) p) index) ⌝ }
@@ -30,7 +30,7 @@ pub fn open(table: &[u8], size: usize, t: usize, index: usize) -> u8
     sum
 }
 
-// Copies `count` bytes from one place to another.
+// Copies `count` bytes from place `at` of one table to place `into` of another.
 fn copy_part(count: usize, from: &[u8], at: usize, to: &mut [u8], into: usize)
     requires { ⌜ (at + count ≤ length (now from)) × (into + count ≤ length (now to)) ⌝ }
     ensures { λ _. ⌜ now (to .exit) ≡ sets (now (to .entry)) into (take count (drop at (now (from .entry)))) ⌝ }
@@ -42,8 +42,8 @@ fn copy_part(count: usize, from: &[u8], at: usize, to: &mut [u8], into: usize)
     }
 }
 
-// Copies the same number of entries, from an index on, from each trustee's piece of one table to its piece of
-// another.
+// For each trustee, copies `count` entries from index `at` of its piece of one table to index `into` of its piece
+// of another.
 pub(crate) fn copy_pieces(
     t: usize,
     count: usize,

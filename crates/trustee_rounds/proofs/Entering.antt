@@ -1,4 +1,5 @@
--- The main lemma: after round r each wire of level at most r holds its part, and each other gate's wire 0.
+-- The main lemma: after round r, each wire of a level up to r has its final part, and the wires of all other gates
+-- have 0.
 -- Assumes nothing.
 use mathlib.Core.Path.{_≡_, _∙_, refl, sym, subst}
 use mathlib.Core.Bool.{Bool, true, false, cond}
@@ -19,8 +20,9 @@ use Rattle.trustee_shares.proofs.Exchange.{ignores}
 use Rattle.trustee_rounds.specs.Rounds.{Turn, heardPart, entersGate, enters}
 
 module _ (t inputs : ℕ) (triples final : Held) (levels : List ℕ) where
-  -- Gate g of the list, which i conditional gates precede: its kind is known, its operands are below it and determine
-  -- its level, and each trustee's final part of its wire follows from the final parts of theirs.
+  -- The facts about gate g of the list, before which i conditional gates come: its kind is known, its operands are
+  -- earlier wires and determine its level, and each trustee's final part of its wire follows from the final parts
+  -- of the operands.
   pub record GateFits (g i : ℕ) (x : Gate) : Type 0 where
     pub known : x .kind < 8
     pub below : Below (inputs + g) x
@@ -31,7 +33,7 @@ module _ (t inputs : ℕ) (triples final : Held) (levels : List ℕ) where
   Fits [] g i = Unit {0}
   Fits (x ∷ xs) g i = GateFits g i x × Fits xs (suc g) (i + markOf x)
 
-  -- What trustee p has at gate h's wire once all levels below n are done.
+  -- What trustee p has at gate h's wire after all levels below n are done.
   abbrev pub reached : ℕ → ℕ → ℕ → ℕ
   reached p n h = cond (ltb (getD levels h 0) n) (part (final p) (inputs + h)) 0
 
@@ -58,7 +60,7 @@ module _ (t inputs : ℕ) (triples final : Held) (levels : List ℕ) where
     reached-part : (n h : ℕ) → getD levels h 0 < n → reached p n h ≡ part (final p) (inputs + h)
     reached-part n h l = rw (lt-ltb (getD levels h 0) n l)
 
-    -- a wire of a level that is done holds its part
+    -- a wire of a level that is done has its final part
     pub wire-there : (size : ℕ) (ws : List ℕ) (g : ℕ) → Stands size ws g → (x : ℕ) → x < inputs + g
         → wireLevel inputs levels x ≤ r → part ws x ≡ part (final p) x
     unfolding wireLevel
@@ -72,7 +74,7 @@ module _ (t inputs : ℕ) (triples final : Held) (levels : List ℕ) where
             subst (λ (y : ℕ). part ws y ≡ part (final p) y) is
             (s .done (x - inputs) (omega arith) ∙ reached-part (suc r) (x - inputs) (omega arith))
 
-    -- its part, from its bit z of the product
+    -- trustee p's final part of a gate's wire, from its bit z of the product
     abbrev by : Gate → ℕ → ℕ
     by x z = partOfKind p (x .kind) (part (final p) (x .a)) (part (final p) (x .b)) (part (final p) (x .c)) z
 
@@ -96,7 +98,7 @@ module _ (t inputs : ℕ) (triples final : Held) (levels : List ℕ) where
         go true e = let h = heard-gate e is in rw (h .0, h .1)
         go false e = ignores p (x .kind) (part (final p) (x .a)) (part (final p) (x .b)) (part (final p) (x .c)) _ _ (fits .known) e
 
-    -- one gate
+    -- the wire parts after one gate
     stands-gate : (size : ℕ) (ws : List ℕ) (g i : ℕ) (x : Gate) → p < t → g < size → Stands size ws g
         → GateFits g i x → HeardGate g i x → Stands size (entersGate turn g i x ws) (suc g)
     unfolding entersGate part
@@ -146,7 +148,7 @@ module _ (t inputs : ℕ) (triples final : Held) (levels : List ℕ) where
             same other true e = let k = ltb-true (getD levels g 0) r e in rw (e, lt-ltb (getD levels g 0) (suc r) (omega arith))
             same other false e = let k = ltb-false (getD levels g 0) r e in rw (e, le-ltb (getD levels g 0) (suc r) (omega (arith, other)))
 
-    -- the whole round
+    -- the wire parts after the whole round
     pub stands-end : (gs : List Gate) (size g i : ℕ) (ws : List ℕ) → p < t → g + length gs ≡ size → Fits gs g i
         → Heard gs g i → Stands size ws g → Stands size (enters turn gs g i ws) size
     unfolding enters

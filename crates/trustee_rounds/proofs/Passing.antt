@@ -1,4 +1,5 @@
--- The passes over a list, gate by gate: doing a gate and then the rest is doing all that was left.
+-- The passes over a list, gate by gate: the pass over a gate and then the rest gives what the pass over all that
+-- was left gives.
 -- Assumes nothing.
 use mathlib.Core.Path.{_≡_, _∙_, refl, sym, ap, subst}
 use mathlib.Core.Bool.{true, cond, _&&_}
@@ -37,7 +38,7 @@ mark-is : (x : Gate) → markOf x ≡ cond (conditionalOf (x .kind)) 1 0
 mark-is x = unfold markOf in refl
 
 module _ (inputs : ℕ) (table : List ℕ) where
-  -- The gates from g on are left; i conditional ones are done.
+  -- The gates from g on are left; i conditional gates are done.
   pub record Ahead (g i : ℕ) : Type 0 where
     pub order : g ≤ length (gatesOf table)
     pub good : AllGood (inputs + g) (drop g (gatesOf table))
@@ -70,7 +71,7 @@ module _ (inputs : ℕ) (table : List ℕ) where
           count = omega (arith, count-here);
         })
 
-    -- by the numbers that were read
+    -- the same, from the four numbers that the program has read
     module _ (n : Numbers) (is : gateOfNumbers n ≡ gateAt table g) where
       pub mark-by : (m : ℕ) → m ≡ cond (conditionalOf (n .kind)) 1 0 → i + m ≡ i + markOf (gateAt table g)
       mark-by m e = ap (λ (k : ℕ). i + k) (e ∙ sym (mark-is (gateOfNumbers n)) ∙ ap markOf is)
@@ -111,7 +112,7 @@ module _ (inputs : ℕ) (table : List ℕ) where
                 λ e. omega (arith, conditional-here e);
           }
 
--- Entering: what is left.
+-- The invariant of the pass that enters parts.
 pub record EnterLeft (u : Turn) (table ws₀ ws : List ℕ) (g i : ℕ) : Type 0 where
   pub ahead : Ahead (u .inputs) table g i
   pub long : length ws ≡ u .inputs + length (gatesOf table)
@@ -156,7 +157,7 @@ enter-end u table ws₀ ws g i left h =
     let none : drop g (gatesOf table) ≡ [] = drop-of-length-le (gatesOf table) {i = g} h in
     sym (ap (λ (gs : List Gate). enters u gs g i ws) none) ∙ left .rest
 
--- Publishing: what is left.
+-- The invariant of the pass that publishes.
 pub record PublishLeft (u : Turn) (table ws published₀ published : List ℕ) (g i : ℕ) : Type 0 where
   pub ahead : Ahead (u .inputs) table g i
   pub long : length published ≡ length published₀

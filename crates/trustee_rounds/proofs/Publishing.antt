@@ -1,5 +1,5 @@
--- What is published level by level: after round r each conditional gate of level at most r + 1 has published both
--- masked factors; for the others there are zeros.
+-- What is published, level by level: after round r both masked factors are published for each conditional gate of a
+-- level up to r + 1; for the others there are zeros.
 -- Assumes nothing.
 use mathlib.Core.Path.{_≡_, _∙_, refl, sym, ap, subst}
 use mathlib.Core.Bool.{Bool, true, false, cond, _&&_}
@@ -56,7 +56,7 @@ sums-at t conditional j published h = sum-at t (2 * conditional) 0 j published h
     ∙ ap (λ (i : ℕ). opened t (λ p. getD (published p) i 0)) (zero-add j)
 
 module _ (t inputs : ℕ) (triples final : Held) (levels : List ℕ) where
-  -- What trustee p has published for gate g once all levels below n are.
+  -- What trustee p has published for gate g after all levels below n were published.
   abbrev pub ShownGate : ℕ → ℕ → List ℕ → ℕ → ℕ → Gate → Type 0
   ShownGate p n published g i x = conditionalOf (x .kind) ≡ true
       → (part published (2 * i) ≡ cond (ltb (getD levels g 0) n) (maskedFirst (final p) (triples p) i x) 0)
@@ -66,7 +66,7 @@ module _ (t inputs : ℕ) (triples final : Held) (levels : List ℕ) where
   Shown p n published [] g i = Unit {0}
   Shown p n published (x ∷ xs) g i = ShownGate p n published g i x × Shown p n published xs (suc g) (i + markOf x)
 
-  -- it reads only the places from 2 * i on
+  -- `Shown` depends only on the places from 2 * i on
   shown-same : (p n : ℕ) (gs : List Gate) (g i : ℕ) (pub₁ pub₂ : List ℕ)
       → ((j : ℕ) → 2 * i ≤ j → part pub₂ j ≡ part pub₁ j) → Shown p n pub₁ gs g i → Shown p n pub₂ gs g i
   shown-same p n [] g i pub₁ pub₂ e s = tt
@@ -75,7 +75,7 @@ module _ (t inputs : ℕ) (triples final : Held) (levels : List ℕ) where
     shown-same p n xs (suc g) (i + markOf x) pub₁ pub₂ (λ (j : ℕ) h. e j (omega arith)) (s .1),
   )
 
-  -- what the sums of all are
+  -- if all trustees have published for the levels up to r, the sums that the gates of round r need were heard
   pub heard-shown : (gs : List Gate) (g i r conditional : ℕ) (published : Held) → i + conditionalCount gs ≤ conditional
       → ((p : ℕ) → p < t → Shown p (suc r) (published p) gs g i) → (p : ℕ)
       → Heard t inputs triples final levels p r (sumsOf t conditional published) gs g i
@@ -99,7 +99,7 @@ module _ (t inputs : ℕ) (triples final : Held) (levels : List ℕ) where
   )
 
   module _ (p r : ℕ) (heard ws : List ℕ) (size : ℕ) (stands : Stands t inputs triples final levels p r heard size ws size) where
-    -- one gate: its two places are right, and those of other gates unchanged
+    -- after one gate: its two places are right, and those of other gates are unchanged
     record Turned (published published′ : List ℕ) (g i : ℕ) (x : Gate) : Type 0 where
       long : length published′ ≡ length published
       shows : ShownGate p (suc (suc r)) published′ g i x
@@ -178,7 +178,7 @@ module _ (t inputs : ℕ) (triples final : Held) (levels : List ℕ) where
                   (λ e. omega arith) ∙ getD-set-other published (2 * i) j first 0 (λ e. omega arith);
             }
 
-    -- all gates
+    -- after all gates
     pub record Published (published published′ : List ℕ) (gs : List Gate) (g i : ℕ) : Type 0 where
       pub long : length published′ ≡ length published
       pub shows : Shown p (suc (suc r)) published′ gs g i
@@ -217,7 +217,7 @@ module _ (t inputs : ℕ) (triples final : Held) (levels : List ℕ) where
             go true e = omega (arith, mark-one x e)
             go false e = omega (arith, mark-none x e)
 
-  -- once all levels are done, the places of the gates are the masked factors
+  -- after all levels are done, the places of the gates hold the masked factors
   pub all-shown : (p n : ℕ) (published : List ℕ) (gs : List Gate) (g i : ℕ) → ((h : ℕ) → getD levels h 0 < n) → 2
       * (i + conditionalCount gs) ≤ length published → Shown p n published gs g i
       → take (2 * conditionalCount gs) (drop (2 * i) published) ≡ maskedFactors (final p) (triples p) i gs
@@ -270,7 +270,7 @@ module _ (t inputs : ℕ) (triples final : Held) (levels : List ℕ) where
           ∙ ap (λ (m : ℕ). first ∷ second ∷ take (2 * conditionalCount xs) (drop m published)) b
           ∙ ap (λ (l : List ℕ). first ∷ second ∷ l) (rest ∙ ap (λ (m : ℕ). maskedFactors (final p) (triples p) m xs) f)
 
--- Two dealings of one list that end with equal factors have shown the same of them at any time.
+-- If two dealings of one list end with equal factors, what was published of them is equal after every round.
 module _ (inputs : ℕ) (levels : List ℕ) (p n : ℕ) where
   heads : {x x′ y y′ : ℕ} {r r′ : List ℕ} → _≡_ {A = List ℕ} (x ∷ y ∷ r) (x′ ∷ y′ ∷ r′) → (x ≡ x′) × (y ≡ y′) × (r ≡ r′)
   heads e = (ap (λ (l : List ℕ). getD l 0 0) e, ap (λ (l : List ℕ). getD l 1 0) e, ap (λ (l : List ℕ). drop 2 l) e)

@@ -1,4 +1,4 @@
--- Trustees who exchange sums once a level end with the wire parts and the published bits of the single call.
+-- Trustees who exchange sums once for each level end with the wire parts and the published bits of the single call.
 -- Assumes nothing.
 use mathlib.Core.Path.{_≡_, _∙_, refl, sym, ap, subst}
 use mathlib.Core.Bool.{Bool, true, false, cond}
@@ -120,7 +120,7 @@ module _ (t inputs k : ℕ) (gs : List Gate) (d : Dealing) (pos : 1 ≤ inputs) 
   unfolding levels R roundsOf
   level-most h = maximum-most (levelsOf inputs gs) h
 
-  -- a conditional gate's level is not 0, so at first nothing has to be shown
+  -- a conditional gate's level is not 0, so nothing has to be published at the start
   first-shown : (p : ℕ) (published : List ℕ) → ((j : ℕ) → part published j ≡ 0) → (hs : List Gate) (g i : ℕ)
       → Fits t inputs triples final levels hs g i → Shown t inputs triples final levels p 1 published hs g i
   first-shown p published none [] g i f = tt
@@ -133,7 +133,7 @@ module _ (t inputs k : ℕ) (gs : List Gate) (d : Dealing) (pos : 1 ≤ inputs) 
     first-shown p published none xs (suc g) (i + markOf x) (f .1),
   )
 
-  -- What holds after n rounds.
+  -- What holds for trustee p after n rounds.
   record Reached (n : ℕ) (s : Holdings) (p : ℕ) : Type 0 where
     wires-long : length (s .wireParts p) ≡ inputs + size
     input : (x : ℕ) → x < inputs → part (s .wireParts p) x ≡ part (final p) x
@@ -205,7 +205,7 @@ module _ (t inputs k : ℕ) (gs : List Gate) (d : Dealing) (pos : 1 ≤ inputs) 
         (publishes v (partsAfter t inputs gs d r s p) gs 0 0 (s .published p))) turn-is
         ∙ ap (λ (ws : List ℕ). closes r (roundsOf inputs gs) (conditionalCount gs) k ws (publishes u ws gs 0 0 (s .published p))) wires-are
 
-    -- before the last round nothing closes
+    -- before the last round, no closing bits are published
     not-last : r < R → publishedAfter t inputs gs k d r s p ≡ publishes u W gs 0 0 (s .published p)
     unfolding closes
     not-last h = published-are ∙ ap (λ (b : Bool). cond b
@@ -226,7 +226,7 @@ module _ (t inputs k : ℕ) (gs : List Gate) (d : Dealing) (pos : 1 ≤ inputs) 
           blank = λ (j : ℕ) m. ap (λ (v : List ℕ). part v j) q ∙ publishes-all .behind j (omega (arith, m, count-is)) ∙ all p l .blank j m;
         }
 
-    -- in the last one all wires are there
+    -- in the last round, all wire parts are final
     module _ (last : r ≡ R) where
       wires-final : W ≡ final p
       unfolding part
@@ -282,7 +282,7 @@ module _ (t inputs k : ℕ) (gs : List Gate) (d : Dealing) (pos : 1 ≤ inputs) 
       let all = before-last R (omega arith) in
       (wires-are R s all p l ∙ wires-final R s all p l refl, published-final R s all p l refl)
 
--- two dealings that end alike for trustee p
+-- two dealings that give trustee p the same at the end
 module _ (t inputs k : ℕ) (gs : List Gate) (d e : Dealing) (pos : 1 ≤ inputs) (enough : k ≤ length gs)
     (good : firstBad inputs 0 gs ≡ Nowhere)
     (bd : (p : ℕ) → p < t → length (ballotsOf inputs d p) ≡ inputs) (be : (p : ℕ) → p < t → length (ballotsOf inputs e p) ≡ inputs)

@@ -1,5 +1,5 @@
--- The trustees together: each starts, then all do the rounds 0 to R; before each round they all hear the sums of what
--- was published.
+-- All trustees together: each starts, then all do the rounds 0 to R. Before each round, each hears the sums of what
+-- all have published.
 use mathlib.Core.Path.{_≡_}
 use mathlib.Core.List.{List, [], _∷_}
 use Prim.Native.Nat.{ℕ, zero, suc, _*_, _≤_, _<_}
@@ -18,15 +18,16 @@ unfoldable pub sumsFrom : ℕ → ℕ → ℕ → Held → List ℕ
 sumsFrom t zero j published = []
 sumsFrom t (suc n) j published = opened t (λ p. part (published p) j) ∷ sumsFrom t n (suc j) published
 
+-- The sums that all trustees hear: two for each conditional gate.
 unfoldable pub sumsOf : ℕ → ℕ → Held → List ℕ
 sumsOf t conditional published = sumsFrom t (2 * conditional) 0 published
 
--- What trustee p holds: its wire parts and what it published.
+-- What each trustee holds: its wire parts and what it has published.
 pub record Holdings : Type 0 where
   pub wireParts : Held
   pub published : Held
 
--- Trustee p in round r: it knows its own dealer parts, and of the others only the sums.
+-- What trustee p computes round r from: its own dealer parts and, from the others, only the sums.
 unfoldable pub turnOf : ℕ → ℕ → List Gate → Dealing → ℕ → Held → ℕ → Turn
 turnOf t inputs gs d r published p =
     record {
@@ -38,15 +39,17 @@ turnOf t inputs gs d r published p =
       heard = sumsOf t (conditionalCount gs) published;
     }
 
+-- Each trustee's wire parts after round r, if s is what all hold before it.
 unfoldable pub partsAfter : ℕ → ℕ → List Gate → Dealing → ℕ → Holdings → Held
 partsAfter t inputs gs d r s p = enters (turnOf t inputs gs d r (s .published) p) gs 0 0 (s .wireParts p)
 
+-- What each trustee has published after round r, if s is what all hold before it.
 unfoldable pub publishedAfter : ℕ → ℕ → List Gate → ℕ → Dealing → ℕ → Holdings → Held
 publishedAfter t inputs gs k d r s p =
     closes r (roundsOf inputs gs) (conditionalCount gs) k (partsAfter t inputs gs d r s p)
     (publishes (turnOf t inputs gs d r (s .published) p) (partsAfter t inputs gs d r s p) gs 0 0 (s .published p))
 
--- What all hold after the first n rounds, 0 to n − 1.
+-- What all trustees hold after the first n rounds, 0 to n − 1.
 unfoldable pub holdingsAfter : ℕ → ℕ → List Gate → ℕ → Dealing → ℕ → Holdings
 holdingsAfter t inputs gs k d zero =
     record {
@@ -60,8 +63,8 @@ holdingsAfter t inputs gs k d (suc r) =
       published = publishedAfter t inputs gs k d r (holdingsAfter t inputs gs k d r);
     }
 
--- What a trustee holds and has published before round r follows from what it has at the end: two dealings that are
--- equal for it then were equal before every round.
+-- What a trustee holds and has published before a round is determined by what it has at the end: if two dealings
+-- give it the same at the end, they give it the same before every round.
 abbrev pub EarlierFollows : Type 0
 EarlierFollows =
     (t inputs k : ℕ) (gs : List Gate) (d e : Dealing)

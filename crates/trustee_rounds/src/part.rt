@@ -49,7 +49,7 @@ fn product(p: usize, i: usize, triples: &[u8], heard: &[u8]) -> u8
     )
 }
 
-// The part of a gate's wire, conditional or free; i conditional gates precede it. A free gate needs no product.
+// The part of a gate's wire, conditional or free; i conditional gates come before it. A free gate needs no product.
 fn gate_part(
     marks: &[bool; 8],
     p: usize,
@@ -74,7 +74,7 @@ fn gate_part(
     own_part(p, gate, 0, wires)
 }
 
-// Enters the part of a gate if this round is its level.
+// Enters the part of a gate's wire if this round is the gate's level.
 pub(crate) fn enter_gate(
     marks: &[bool; 8],
     p: usize,
@@ -104,7 +104,7 @@ pub(crate) fn enter_gate(
     wires[own] = gate_part(marks, p, gate, i, triples, heard, wires);
 }
 
-// If the gate is conditional and of the next level, publishes both factors, masked.
+// Publishes both masked factors if the gate is conditional and its level is the next one.
 pub(crate) fn publish_gate(
     marks: &[bool; 8],
     next: usize,

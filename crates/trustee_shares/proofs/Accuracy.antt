@@ -22,7 +22,7 @@ use Rattle.trustee_shares.specs.Shares.{opened, part, uOf, vOf, firstFac
 use Rattle.trustee_shares.proofs.SumLaws.{sum-same, sum-mod, sum-add, sum-zero, sum-entered}
 use Rattle.trustee_shares.proofs.Products.{two, opened-two, Triple, product-opens}
 
--- the factors' product, by kind
+-- the product of the two factors, for each kind
 pub productBy : ℕ → ℕ → ℕ → ℕ → ℕ
 productBy kind a b c = a * cond (eqb kind 7) ((b + c) % 2) b
 
@@ -106,7 +106,7 @@ pub record Split (t : ℕ) (w : ℕ → ℕ) (held : Held) (n : ℕ) : Type 0 wh
   pub sizes : (p : ℕ) → p < t → length (held p) ≡ n
   pub sums : (x : ℕ) → x < n → opened t (λ p. part (held p) x) ≡ w x
 
--- one part more for each trustee: the earlier ones stay
+-- if each trustee gets one more part, the earlier ones stay
 pub part-before : (ws : List ℕ) (v n x : ℕ) → length ws ≡ n → x < n → part (ws ++ (v ∷ [])) x ≡ part ws x
 unfolding part
 part-before ws v n x e h = List·getD-append ws (v ∷ []) 0 x (omega arith)
@@ -128,7 +128,7 @@ conditional-operands kind h = each-kind (λ k. conditionalOf k ≡ true → 2 �
 pub choice-operands : (kind : ℕ) → eqb kind 7 ≡ true → 2 < operandsOf kind
 choice-operands kind e = rw (eqb-true kind 7 e) (omega (arith, operand-counts .7))
 
--- the conditional gates of a list, by marks
+-- counting the conditional gates of a list, one gate at a time
 pub count-mark : (g : Gate) (gs : List Gate) → conditionalCount (g ∷ gs) ≡ markOf g + conditionalCount gs
 unfolding markOf
 count-mark g gs = count-cons g gs
@@ -137,14 +137,14 @@ pub mark-one : (g : Gate) → conditionalOf (g .kind) ≡ true → markOf g ≡ 
 unfolding markOf
 mark-one g e = rw e
 
--- the second factor of a gate, of a choice or not
+-- the parts of the second factor add up to it, for a choice and for other gates
 second-opens : (t : ℕ) (B C : ℕ → ℕ) (b c : ℕ) (chosen : Bool) → opened t B ≡ b → (chosen ≡ true → opened t C ≡ c)
     → opened t (λ p. cond chosen ((B p + C p) % 2) (B p)) ≡ cond chosen ((b + c) % 2) b
 second-opens t B C b c true e f = opened-two t B C ∙ rw (e, f refl) refl
 second-opens t B C b c false e f = e
 
 module _ (t : ℕ) (some : 1 ≤ t) (triples : Held) (w : ℕ → ℕ) (bits : (x : ℕ) → w x ≤ 1) where
-  -- the wire of one gate
+  -- the new parts of one gate add up to its wire
   pub gate-opens : (n i : ℕ) (g : Gate) (held : Held) → GoodGate n g
       → (conditionalOf (g .kind) ≡ true → Triple t triples i) → Split t w held n
       → opened t (newPart t triples held i g) ≡ valueOf (g .kind) (w (g .a)) (w (g .b)) (w (g .c))
@@ -169,7 +169,7 @@ module _ (t : ℕ) (some : 1 ≤ t) (triples : Held) (w : ℕ → ℕ) (bits : (
             (λ e. s .sums (g .c) (good .c-below (choice-operands (g .kind) e))),
       ))
 
-  -- the wire of one gate more
+  -- after one more gate, the parts of all wires still add up
   pub more : (n i : ℕ) (g : Gate) (held : Held) → T (goodGate n g) → w n ≡ valueOf (g .kind) (w (g .a)) (w (g .b)) (w (g .c))
       → (conditionalOf (g .kind) ≡ true → Triple t triples i) → Split t w held n
       → Split t w (λ p. held p ++ (newPart t triples held i g p ∷ [])) (suc n)

@@ -1,4 +1,5 @@
--- The pair of dealings of `Examples` computes; the gate layer's laws say which kinds are conditional.
+-- The dealings of `Examples` have these views, by computation; the gate layer's laws say which kinds are
+-- conditional.
 -- Assumes nothing.
 use mathlib.Core.Path.{_≡_, _∙_, refl, ap}
 use mathlib.Core.Bool.{Bool, true, cond}

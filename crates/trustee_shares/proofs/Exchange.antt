@@ -44,7 +44,7 @@ nth-next g gs i = go (conditionalOf (g .kind))
     go true = let e : 1 + i ≡ suc i = omega arith in rw e
     go false = let e : 0 + i ≡ i = omega arith in rw e
 
--- a free gate ignores the product
+-- the part of a free gate does not depend on the product
 pub ignores : (p kind a b c z y : ℕ) → kind < 8 → conditionalOf kind ≡ false → partOfKind p kind a b c z ≡ partOfKind p kind a b c y
 unfolding partOfKind
 ignores p kind a b c z y h =
@@ -54,7 +54,7 @@ ignores p kind a b c z y h =
     never : (k : ℕ) → conditionalOf k ≡ true → conditionalOf k ≡ false → partOfKind p k a b c z ≡ partOfKind p k a b c y
     never k e f = let s : true ≡ false = sym e ∙ f in let x : _≡_ {A = ℕ} 0 1 = cc in absurd (omega arith)
 
--- parts of gates are bits
+-- the parts of a gate's wire are bits
 new-bit : (p kind a b c z : ℕ) → kind < 8 → (0 < operandsOf kind → a ≤ 1) → z ≤ 1 → partOfKind p kind a b c z ≤ 1
 unfolding partOfKind entered
 new-bit p kind a b c z h ha hz =
@@ -70,7 +70,7 @@ product-bit : (p : ℕ) (triples : List ℕ) (i e f : ℕ) → productPart p tri
 unfolding productPart
 product-bit p triples i e f = omega arith
 
--- the differences of a factor and of its mask cancel
+-- the differences of a factor and of its mask cancel out
 cancels : (s s′ v v′ z : ℕ) → s′ % 2 ≡ (s + z) % 2 → v′ % 2 ≡ (v + z) % 2 → (s′ % 2 + v′) % 2 ≡ (s % 2 + v) % 2
 cancels s s′ v v′ z e f = omega arith
 
@@ -101,7 +101,7 @@ module _ (t q : ℕ) (hq : q < t) (vs ws : ℕ → ℕ) (bv : (x : ℕ) → vs x
     pub u-is : uOf (triples′ q) i ≡ (uOf (triples q) i + diff (g .a)) % 2
     pub v-is : vOf (triples′ q) i ≡ (vOf (triples q) i + diffSecond g) % 2
 
-  -- the parts of the first n wires
+  -- the parts of the first n wires in both runs: equal except those of q
   pub record Same (held held′ : Held) (n : ℕ) : Type 0 where
     pub split : Split t vs held n
     pub split′ : Split t ws held′ n
@@ -165,7 +165,7 @@ module _ (t q : ℕ) (hq : q < t) (vs ws : ℕ → ℕ) (bv : (x : ℕ) → vs x
       new′ : ℕ → ℕ
       new′ = newPart t triples′ held′ i g
 
-      -- the others' parts of the gate's wire
+      -- the others' parts of the gate's wire are equal
       new-others : (p : ℕ) → p < t → p ≢ q → new′ p ≡ new p
       unfolding new new′ newPart openedFirst openedSecond
       new-others p h other = rw (s .others p h other, same-triples p h other) (go (conditionalOf (g .kind)) refl)
@@ -212,7 +212,7 @@ module _ (t q : ℕ) (hq : q < t) (vs ws : ℕ → ℕ) (bv : (x : ℕ) → vs x
       module _ (triple : conditionalOf (g .kind) ≡ true → Triple t triples i) (triple′ : conditionalOf (g .kind) ≡ true → Triple t triples′ i)
           (is : vs n ≡ valueOf (g .kind) (vs (g .a)) (vs (g .b)) (vs (g .c)))
           (is′ : ws n ≡ valueOf (g .kind) (ws (g .a)) (ws (g .b)) (ws (g .c))) where
-        -- q's part of it: the sums of all parts are the two wires
+        -- q's part differs as the two wires do, because all parts add up to them
         new-left-out : new′ q ≡ (new q + diff n) % 2
         unfolding opened diff new new′
         new-left-out =
@@ -257,7 +257,7 @@ module _ (t q : ℕ) (hq : q < t) (vs ws : ℕ → ℕ) (bv : (x : ℕ) → vs x
                 let m : x ≡ n = omega (arith, ltb-false x n e) in
                 rw (m, part-new (held q) (new q) n (s .split .sizes q hq)) new-is-bit
 
-    -- all gates of a list
+    -- the same after all gates of a list
     pub same-parts : (n i : ℕ) (gs : List Gate) (held held′ : Held) → AllGood n gs → Holds vs n gs → Holds ws n gs
         → ((j : ℕ) → i ≤ j → j < i + conditionalCount gs → Triple t triples j × Triple t triples′ j)
         → ((j : ℕ) → j < conditionalCount gs → DealtAt (i + j) (nthConditional gs j))

@@ -1,5 +1,5 @@
--- Views of all trustees but one hide the inputs: the second dealing is the first with the left-out trustee's parts
--- changed by the differences of the wires.
+-- The view of all trustees except one hides the inputs: the second dealing is the first one with the parts of the
+-- left-out trustee changed by the differences of the wires.
 -- Assumes nothing.
 use mathlib.Core.Path.{_≡_, _∙_, refl, sym, ap, subst}
 use mathlib.Core.Bool.{Bool, true, false, cond}
@@ -32,7 +32,7 @@ use Rattle.trustee_shares.proofs.Lists.{made, length-made, made-at, tri
 use Rattle.trustee_shares.proofs.Exchange.{add-mods, nthConditional, diff, diffSecond, DealtAt, Same, first-same, second-same, same-parts}
 use Rattle.trustee_shares.proofs.Publishing.{nth-good, length-masked, AgreeAt, masked-cong, masked-same}
 
--- one part changed by z changes the opened bit by z
+-- if one part changes by z, the opened bit changes by z
 opened-shift : (t q z : ℕ) (f g : ℕ → ℕ) → q < t → ((p : ℕ) → p < t → p ≢ q → g p ≡ f p) → g q ≡ (f q + z) % 2
     → opened t g ≡ (opened t f + z) % 2
 unfolding opened
@@ -49,7 +49,7 @@ opened-left t q f g h e s = left (sumOf t f) (sumOf t g) (f q) (g q) (sum-change
     left : (a b x y : ℕ) → b + x ≡ a + y → b % 2 ≡ a % 2 → y % 2 ≡ x % 2
     left a b x y e s = omega arith
 
--- bits of parts of a list
+-- every part of a list of bits has bits
 bits-take : (n : ℕ) (xs : List ℕ) → Bits xs → Bits (take n xs)
 bits-take zero xs b i = omega arith
 bits-take (suc n) [] b i = omega arith
@@ -89,7 +89,7 @@ bits-triples (suc n) u v w a b c (suc (suc (suc i))) =
     bits-triples n (λ j. u (suc j)) (λ j. v (suc j)) (λ j. w (suc j)) (λ j. a (suc j)) (λ j. b (suc j))
     (λ j. c (suc j)) i
 
--- one trustee's piece replaced
+-- the pieces with that of trustee q replaced
 pub swapped : ℕ → List ℕ → Held → Held
 swapped q new f p = cond (eqb p q) new (f p)
 
@@ -218,7 +218,7 @@ module _ (t q k : ℕ) (gs : List Gate) (xs ys : List ℕ) (d : Dealing) (hq : q
   second : Dealing
   second = record { ballotParts = joined t bal′; dealerParts = joined t triples′ }
 
-  -- sizes
+  -- the lengths of the pieces
   bal-size : (p : ℕ) → p < t → length (bal p) ≡ n
   unfolding bal ballotsOf n
   bal-size p h = length-piece t (length xs) (d .ballotParts) p (good .ballot-size) h
@@ -344,7 +344,7 @@ module _ (t q k : ℕ) (gs : List Gate) (xs ys : List ℕ) (d : Dealing) (hq : q
         products = second-triple;
       }
 
-  -- the two runs
+  -- the two runs start with the same parts, except those of q
   start : Same t q hq vs ws bv bw triples (triplesOf gs second) bal (ballotsOf n second) n
   unfolding diff dif
   start =
@@ -516,7 +516,7 @@ module _ (t q k : ℕ) (gs : List Gate) (xs ys : List ℕ) (d : Dealing) (hq : q
             (λ (x : ℕ) l. bal-equal x (omega (arith, size-bal q hq))))
         go false is = sees-bal p h (eqb-false p q is)
 
-    -- what the left-out trustee published
+    -- what the left-out trustee published is equal too
     size-published : (f : Dealing) → ((p : ℕ) → p < t → length (wirePartsOf t n gs f p) ≡ n + length gs) → (p : ℕ)
         → p < t → length (publishedOf t n gs k f p) ≡ 2 * C + k
     unfolding publishedOf closingParts C
@@ -604,7 +604,7 @@ module _ (t q k : ℕ) (gs : List Gate) (xs ys : List ℕ) (d : Dealing) (hq : q
         (getD (triplesOf gs second q) (3 * i + 1) 0)
         (masked-agree i h .1) (second-left (nthConditional gs i) (g .0) (g .1)) (dealer-bit (3 * i + 1) .0) (dealer-bit (3 * i + 1) .1)
 
-    -- u and v are the same for all trustees, so the product is
+    -- u and v are the same for all trustees, so the product is the same
     everywhere : (f : List ℕ → ℕ) → f (triplesOf gs e q) ≡ f (triplesOf gs second q) → (p : ℕ) → p < t
         → f (triplesOf gs e p) ≡ f (triplesOf gs second p)
     everywhere f s p h = go (eqb p q) refl

@@ -1,4 +1,4 @@
--- Lists made place by place.
+-- Lists given by a function of the place.
 -- Assumes nothing.
 use mathlib.Core.Path.{_≡_, refl, ap}
 use mathlib.Core.List.{List, [], _∷_}
@@ -24,7 +24,7 @@ made-at zero f i h = absurd (omega arith)
 made-at (suc n) f zero h = refl
 made-at (suc n) f (suc i) h = made-at n (λ j. f (suc j)) i (omega arith)
 
--- n triples
+-- the list of n triples
 unfoldable pub tripleList : ℕ → (ℕ → ℕ) → (ℕ → ℕ) → (ℕ → ℕ) → List ℕ
 tripleList zero u v w = []
 tripleList (suc n) u v w = u 0 ∷ v 0 ∷ w 0 ∷ tripleList n (λ i. u (suc i)) (λ i. v (suc i)) (λ i. w (suc i))
@@ -34,7 +34,7 @@ unfolding tripleList
 length-triples zero u v w = refl
 length-triples (suc n) u v w = omega (arith, length-triples n (λ i. u (suc i)) (λ i. v (suc i)) (λ i. w (suc i)))
 
--- the place in a triple after the first
+-- the place of entry j of triple i + 1
 three-more : (i j : ℕ) → 3 * suc i + j ≡ suc (suc (suc (3 * i + j)))
 three-more i j = omega arith
 
@@ -60,7 +60,7 @@ pub triple-w : (n : ℕ) (u v w : ℕ → ℕ) (i : ℕ) → i < n → productOf
 unfolding productOf
 triple-w n u v w i h = triples-at n u v w i h .2
 
--- dealer parts with equal triples
+-- dealer parts with equal triples are equal
 pub triples-same : (n : ℕ) (xs ys : List ℕ) → length xs ≡ 3 * n → length ys ≡ 3 * n
     → ((i : ℕ) → i < n → (uOf xs i ≡ uOf ys i) × (vOf xs i ≡ vOf ys i) × (productOf xs i ≡ productOf ys i)) → xs ≡ ys
 unfolding uOf vOf productOf

@@ -1,4 +1,4 @@
--- The product of two shared bits, by a dealt triple.
+-- The product of two shared bits, computed with a dealt triple.
 -- Assumes nothing.
 use mathlib.Core.Path.{_≡_, _∙_, refl}
 use mathlib.Core.List.{List}
@@ -18,8 +18,8 @@ two P none one zero h = none
 two P none one (suc zero) h = one
 two P none one (suc (suc x)) h = absurd (omega arith)
 
--- The arithmetic: factors x and y are opened under the masks u and v, and what the trustees then hold adds up to x ·
--- y. Each bit is the sum of its parts modulo 2; sx is the sum of the parts of x, and so on.
+-- The arithmetic: the factors x and y are opened under the masks u and v, and what the trustees then hold adds up
+-- to x · y. Each bit is the sum of its parts modulo 2; sx is the sum of the parts of x, and so on.
 abbrev Stated : ℕ → ℕ → ℕ → ℕ → Type 0
 Stated x y u v =
     (sx sy su sv sp : ℕ) → sx % 2 ≡ x → sy % 2 ≡ y → su % 2 ≡ u → sv % 2 ≡ v → sp % 2 ≡ u * v

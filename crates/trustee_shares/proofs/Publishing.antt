@@ -1,4 +1,4 @@
--- What is published, conditional gate by conditional gate.
+-- What is published, one conditional gate after the other.
 -- Assumes nothing.
 use mathlib.Core.Path.{_≡_, _∙_, refl, sym, ap, subst}
 use mathlib.Core.Bool.{Bool, true, false, cond}
@@ -77,7 +77,7 @@ length-masked parts triples i (g ∷ gs) =
     go true is e f = omega (arith, count-mark g gs, mark-one g is)
     go false is e f = omega (arith, count-mark g gs, mark-none g is)
 
--- equal bits for a conditional gate
+-- in both runs equal bits are published for a conditional gate
 abbrev pub AgreeAt : List ℕ → List ℕ → List ℕ → List ℕ → ℕ → Gate → Type 0
 AgreeAt parts parts′ triples triples′ i g = (maskedFirst parts triples i g ≡ maskedFirst parts′ triples′ i g)
     × (maskedSecond parts triples i g ≡ maskedSecond parts′ triples′ i g)

@@ -9,7 +9,7 @@ use lib.Dec.{eqb}
 use borrow.Author.Tests.{eqb-true, eqb-false}
 use Rattle.trustee_shares.specs.Shares.{sumOf, entered}
 
--- sums of terms that are equal below t
+-- sums of equal terms are equal
 pub sum-same : (t : ℕ) (f g : ℕ → ℕ) → ((p : ℕ) → p < t → f p ≡ g p) → sumOf t f ≡ sumOf t g
 unfolding sumOf
 sum-same zero f g e = refl
@@ -21,7 +21,7 @@ unfolding sumOf
 sum-mod zero f = refl
 sum-mod (suc t) f = omega (arith, sum-mod t f)
 
--- sums of sums
+-- a sum of sums
 pub sum-add : (t : ℕ) (f g : ℕ → ℕ) → sumOf t (λ p. f p + g p) ≡ sumOf t f + sumOf t g
 unfolding sumOf
 sum-add zero f g = refl
@@ -38,14 +38,14 @@ sum-times t zero f h = omega (arith, sum-same t (λ p. 0 * f p) (λ p. 0) (λ (p
 sum-times t (suc zero) f h = omega (arith, sum-same t (λ p. 1 * f p) f (λ (p : ℕ) l. omega arith))
 sum-times t (suc (suc e)) f h = absurd (omega arith)
 
--- what only the first trustee enters counts once
+-- a public bit counts once, because only the first trustee's part is not 0
 pub sum-entered : (t x : ℕ) → 1 ≤ t → sumOf t (λ p. entered p x) ≡ x
 unfolding sumOf entered
 sum-entered zero x h = absurd (omega arith)
 sum-entered (suc zero) x h = omega arith
 sum-entered (suc (suc t)) x h = omega (arith, sum-entered (suc t) x (omega arith))
 
--- one term changed
+-- sums that differ only in one term
 pub sum-change : (t q : ℕ) (f g : ℕ → ℕ) → q < t → ((p : ℕ) → p < t → p ≢ q → f p ≡ g p) → sumOf t f + g q ≡ sumOf t g + f q
 unfolding sumOf
 sum-change zero q f g h e = absurd (omega arith)

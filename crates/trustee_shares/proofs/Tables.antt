@@ -72,7 +72,7 @@ pub joined-same : (t size : ℕ) (f g : Held) → ((p : ℕ) → p < t → lengt
 joined-same t size f g lf lg e p h =
     sym (piece-joined size f t lf p h) ∙ ap (λ (l : List ℕ). piece size l p) e ∙ piece-joined size g t lg p h
 
--- the pieces of all others
+-- the pieces of all trustees except q are equal exactly if each is
 pub others-cong : (t q : ℕ) (f g : Held) → ((p : ℕ) → p < t → p ≢ q → f p ≡ g p) → othersOf t q f ≡ othersOf t q g
 unfolding othersOf
 others-cong zero q f g e = refl

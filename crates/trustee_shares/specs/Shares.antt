@@ -1,4 +1,4 @@
--- Wires split among trustees, gate by gate (request 2.7). Trustees are counted from 0 here, from 1 in the request.
+-- Wires shared among trustees, gate by gate (request 2.7). Trustees are counted from 0 here, from 1 in the request.
 use mathlib.Core.Bool.{cond}
 use mathlib.Core.List.{List, [], _∷_, _++_}
 use Prim.Native.Nat.{ℕ, zero, suc, _+_, _*_, _%_}
@@ -7,11 +7,12 @@ use lib.ListN.{getD}
 use Rattle.gates.specs.Kind.{conditionalOf}
 use Rattle.gates.specs.Gate.{Gate}
 
--- The sum over t trustees; modulo 2 it opens a bit.
+-- The sum of what t trustees hold.
 unfoldable pub sumOf : ℕ → (ℕ → ℕ) → ℕ
 sumOf zero f = 0
 sumOf (suc t) f = sumOf t f + f t
 
+-- The bit that t trustees share: the sum of their parts modulo 2.
 unfoldable pub opened : ℕ → (ℕ → ℕ) → ℕ
 opened t f = sumOf t f % 2
 
@@ -45,32 +46,34 @@ maskedFirst ws triples i g = (firstFactor ws g + uOf triples i) % 2
 unfoldable pub maskedSecond : List ℕ → List ℕ → ℕ → Gate → ℕ
 maskedSecond ws triples i g = (secondFactor ws g + vOf triples i) % 2
 
--- A public bit x is entered by the first trustee only; the others enter 0.
+-- Trustee p's part of a public bit x: x for the first trustee, 0 for the others.
 unfoldable pub entered : ℕ → ℕ → ℕ
 entered zero x = x
 entered (suc p) x = 0
 
--- Trustee p's bit of the product of both factors; e and f are the opened sums.
+-- Trustee p's bit of the product of both factors. e and f are the opened sums of the masked factors.
 unfoldable pub productPart : ℕ → List ℕ → ℕ → ℕ → ℕ → ℕ
 productPart p triples i e f = (productOf triples i + e * vOf triples i + f * uOf triples i + entered p (e * f)) % 2
 
--- Trustee p's bit of a gate's wire, by the gate's kind: from its parts a, b, c of the operands and its bit z of the
--- product.
+-- Trustee p's bit of a gate's wire, for each kind of gate: from its parts a, b, c of the operands and its bit z of
+-- the product.
 unfoldable pub partOfKind : ℕ → ℕ → ℕ → ℕ → ℕ → ℕ → ℕ
 partOfKind p kind a b c z =
     getD (0 ∷ entered p 1 ∷ a ∷ (a + entered p 1) % 2 ∷ z ∷ (a + b + z) % 2 ∷ (a + b) % 2 ∷ (c + z) % 2 ∷ []) kind 0
 
--- What all trustees hold, by trustee: their parts of the wires, or their dealer parts.
+-- A list for each trustee: its parts of the wires, or its dealer parts.
 abbrev pub Held : Type 0
 Held = ℕ → List ℕ
 
+-- e and f of the i-th conditional gate: the sums of what all trustees publish for the first and for the second
+-- factor.
 unfoldable pub openedFirst : ℕ → Held → Held → ℕ → Gate → ℕ
 openedFirst t triples held i g = opened t (λ p. maskedFirst (held p) (triples p) i g)
 
 unfoldable pub openedSecond : ℕ → Held → Held → ℕ → Gate → ℕ
 openedSecond t triples held i g = opened t (λ p. maskedSecond (held p) (triples p) i g)
 
--- Trustee p's part of the wire of gate g, which i conditional gates precede.
+-- Trustee p's part of the wire of gate g. i conditional gates come before g.
 unfoldable pub newPart : ℕ → Held → Held → ℕ → Gate → ℕ → ℕ
 newPart t triples held i g p =
     partOfKind p (g .kind) (part (held p) (g .a)) (part (held p) (g .b)) (part (held p) (g .c))
@@ -80,7 +83,7 @@ newPart t triples held i g p =
 unfoldable pub markOf : Gate → ℕ
 markOf g = cond (conditionalOf (g .kind)) 1 0
 
--- Each gate adds one part to what each trustee holds; i conditional gates came before.
+-- The parts after these gates: each gate adds one part to what each trustee holds. i conditional gates came before.
 unfoldable pub partsOf : ℕ → Held → Held → ℕ → List Gate → Held
 partsOf t triples held i [] = held
 partsOf t triples held i (g ∷ gs) =

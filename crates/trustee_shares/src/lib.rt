@@ -1,2 +1,2 @@
-// A gate list run by trustees, each of whom holds one part (an XOR share) of every wire. Only definitions and
-// theorems.
+// A gate list that is run by trustees, each of whom holds one part (an XOR share) of every wire. This crate has
+// only definitions and theorems.

@@ -37,7 +37,7 @@ use Rattle.trustees.specs.Demands.{inOneCall, WayAccuracy, OwnList}
 use Rattle.trustees.proofs.Reasons.{CallPassed, call-passed, call-passed-back, result-by, passed-dealing}
 use Rattle.trustees.proofs.Sums.{Ready, call-ready}
 
--- the parts of all wires
+-- the parts of all wires add up
 wires-split : (t : ℕ) (gs : List Gate) (xs : List ℕ) (d : Dealing) → 1 ≤ t → AllGood (length xs) gs → Bits xs → GoodDealing t gs xs d
     → Split t (wire (wiresOf xs gs)) (wirePartsOf t (length xs) gs d) (length xs + length gs)
 unfolding wirePartsOf ballotsOf
@@ -52,7 +52,7 @@ wires-split t gs xs d least good bits g =
     })
 
 module _ (c : Call) where
-  -- no reason applies to a call that answers G and C, and both numbers are the list's
+  -- if a call answers G and C, no reason applies, and both numbers are the list's
   answered : (size : Size) (o : Option Reason) → firstOf (trusteesReasons c) ≡ o
       → trusteesResultAfter o c .answer ≡ accepted size
       → (firstOf (trusteesReasons c) ≡ none) × (size ≡ sizeOf (gatesOf (c .table)))
@@ -136,7 +136,7 @@ module _ (c : Call) where
             closing-is p ∙ ap eightBytes (sym (run-closing (c .shape) (c .table) (c .ballots) wires board tape r tape (r .mask)));
       }
 
--- with the list that was written for its shape
+-- a call with the list that was written for its shape
 module _ (c : Call) (table : List ℕ) (size : Size) (w : writing.WritePassed (c .shape) table size)
     (own : c .table ≡ listIn (c .shape) size table) (p : CallPassed c) where
   count : trusteesResult c .closing ≡ plainClosing (c .shape) (c .ballots)

@@ -1,4 +1,4 @@
--- Views of accepted calls reveal no more than the closing bytes.
+-- The views of accepted calls reveal only the closing bytes.
 -- Assumes nothing.
 use mathlib.Core.Path.{_≡_, _∙_, refl, sym, ap, subst}
 use mathlib.Core.Option.{none}
@@ -46,7 +46,7 @@ sees : (q : ℕ) (c : Call) → CallPassed c → viewIn q c .published ≡ trust
 unfolding viewOf trusteesResultAfter
 sees q c p = sym (ap (λ (r : TrusteesResult). r .published) (result-by c none (call-passed-back c p)))
 
--- two calls of one shape, list and number of trustees
+-- a call with the same shape, list and number of trustees
 abbrev alike : Call → (ballots : List ℕ) → PartTables → Call
 alike c ballots lent =
     record { shape = c .shape; table = c .table; ballots = ballots; trustees = c .trustees; lent = lent }

@@ -1,4 +1,4 @@
--- The reasons of the trustees' call: what their order answers, and what is known if none applies.
+-- The reasons of the trustees' call: which of them is the first, and what holds if none applies.
 -- Assumes nothing.
 use mathlib.Core.Path.{_≡_, _∙_, refl, sym, ap}
 use mathlib.Core.Bool.{Bool, true, false, _&&_}
@@ -40,7 +40,7 @@ partFound trustees tables dealing = firstOf (unless trustees 16 ∷ unless table
 pub trustees-most : (t : ℕ) → (leb 2 t && leb t 5) ≡ true → t ≤ 5
 trustees-most t e = leb-true t 5 (and-second (leb 2 t) (leb t 5) e)
 
--- sizes of an accepted list and of accepted ballots
+-- the sizes of an accepted list and of accepted ballots are small
 pub small-sizes : (s : Shape) (table ballots : List ℕ) (size : Size) → TestPassed s table size → firstOf (ballotReasons s ballots) ≡ none
     → SmallSizes (length ballots) (s .candidates) (size .gates) (size .conditional)
 small-sizes s table ballots size p e =
@@ -95,7 +95,7 @@ module _ (k : ℕ) (size : Size) (ballots : List ℕ) (t : ℕ) (lent : PartTabl
   unfolding partReasons partFound
   part-by a b c e f g = rw (e, f, g)
 
-  -- what is known if none of them applies
+  -- what holds if none of them applies
   pub record PartsPassed : Type 0 where
     pub least : 2 ≤ t
     pub most : t ≤ 5
@@ -140,7 +140,7 @@ module _ (c : Call) where
       ∙ ap (λ (r : Option Reason). orElse r (firstOf parts))
       (first-append (testReasons (c .shape) (c .table)) (ballotReasons (c .shape) (c .ballots)))
 
-  -- the answer by the first group in which a test applies
+  -- the first group with a reason decides the answer
   pub by-test : (r : Reason) → testOutcome (c .shape) (c .table) ≡ refused r → firstOf (trusteesReasons c) ≡ some r
   unfolding testOutcome firstOfThree orElse
   by-test r e =
@@ -196,20 +196,20 @@ module _ (c : Call) where
         parts-passed-back (c .shape .candidates) (sizeOf (gatesOf (c .table))) (c .ballots) (c .trustees) (c .lent) (r .parts),
       )
 
-  -- what a call leaves, by its first reason
+  -- what a call leaves, given its first reason
   pub result-by : (o : Option Reason) → firstOf (trusteesReasons c) ≡ o
       → trusteesResult c ≡ trusteesResultAfter o c
   unfolding trusteesResult
   result-by o e = ap (λ (r : Option Reason). trusteesResultAfter r c) e
 
-  -- the dealing of an accepted call
+  -- the dealing of an accepted call is good
   pub passed-dealing : CallPassed → GoodDealing (c .trustees) (gatesOf (c .table)) (c .ballots) (c .lent .dealing)
   unfolding sizeOf
   passed-dealing r =
       dealt-good (c .trustees) (gatesOf (c .table)) (c .ballots) (c .lent .dealing)
       (r .parts .tables .ballot-length) (r .parts .tables .dealer-length) (r .parts .dealt)
 
-  -- and another one for the same tables
+  -- another good dealing passes the tests too
   pub other-dealing : CallPassed → (e : Dealing) → GoodDealing (c .trustees) (gatesOf (c .table)) (c .ballots) e
       → PartsPassed (c .shape .candidates) (sizeOf (gatesOf (c .table))) (c .ballots) (c .trustees) (dealtAs c e .lent)
   unfolding sizeOf

@@ -1,4 +1,4 @@
--- The opened closing bits, and what the evaluation asks in an accepted call.
+-- The opened closing bits, and that an accepted call has what the evaluation requires.
 -- Assumes nothing.
 use mathlib.Core.Path.{_≡_, _∙_, refl, sym, ap}
 use mathlib.Core.Logic.{⊎-elim}
@@ -31,7 +31,7 @@ use Rattle.trustees.specs.Call.{Call, wirePartsIn, publishedIn}
 use Rattle.trustees.specs.Result.{closingSums}
 use Rattle.trustees.proofs.Reasons.{CallPassed}
 
--- bytes below k, and 0 from k on
+-- the eight bytes: those of a table below k, then 0
 pub eight-tabulated : (k : ℕ) (f : ℕ → ℕ) → tabulate 8 (upTo k f (λ i. 0)) ≡ eightBytes (tabulate k f)
 eight-tabulated k f =
     ext-getD 0 (tabulate 8 (upTo k f (λ i. 0))) (eightBytes (tabulate k f))
@@ -48,7 +48,7 @@ eight-tabulated k f =
     at : (j : ℕ) → j < 8 → getD (tabulate 8 (upTo k f (λ i. 0))) j 0 ≡ getD (eightBytes (tabulate k f)) j 0
     at j l = getD-tabulate 8 j (upTo k f (λ i. 0)) 0 l ∙ entry j ∙ sym (eight-at (tabulate k f) j l)
 
--- what is known of an accepted call
+-- facts about an accepted call
 pub record Ready (c : Call) (size : Size) : Type 0 where
   pub small : (size .conditional ≤ 1048576) × (c .shape .candidates ≤ 8)
   pub k-most : c .shape .candidates ≤ 8

@@ -1,4 +1,4 @@
--- The entry point [trustees]: what it is handed and lent (request 2.7).
+-- The entry point [trustees]: what it is given and lent (request 2.7).
 use mathlib.Core.List.{List}
 use Prim.Native.Nat.{ℕ}
 use lib.ListN.{length}
@@ -13,6 +13,7 @@ pub record PartTables : Type 0 where
   pub wireParts : List ℕ
   pub published : List ℕ
 
+-- All that the call is given.
 pub record Call : Type 0 where
   pub shape : Shape
   pub table : List ℕ
@@ -31,10 +32,11 @@ dealtAs c d =
       lent = record { dealing = d; wireParts = c .lent .wireParts; published = c .lent .published };
     }
 
--- By trustee: the parts of all wires, and all published bits.
+-- Each trustee's parts of all wires.
 abbrev pub wirePartsIn : Call → Held
 wirePartsIn c = wirePartsOf (c .trustees) (length (c .ballots)) (gatesOf (c .table)) (c .lent .dealing)
 
+-- All that each trustee publishes.
 abbrev pub publishedIn : Call → Held
 publishedIn c = publishedOf (c .trustees) (length (c .ballots)) (gatesOf (c .table)) (c .shape .candidates)
     (c .lent .dealing)

@@ -1,5 +1,5 @@
--- The three demands for the trustees' call, about the definition that its contract equates with its answer and all
--- that is lent.
+-- The three demands for the trustees' call, stated about the definition that its contract equates with its answer
+-- and with all that is lent.
 use mathlib.Core.Path.{_≡_}
 use mathlib.Core.List.{List, [], _∷_}
 use Prim.Native.Nat.{ℕ, _+_, _<_}
@@ -34,16 +34,16 @@ pub record TrusteesMemory (c : Call) : Type 0 where
       (parts ∷ [])
   pub zeros : (r : Reason) → trusteesResult c .answer ≡ refused r → trusteesResult c .closing ≡ replicate 8 0
 
--- A way in which trustees tally: each trustee's parts of all wires, everything that is published, the closing bytes,
--- and what the trustees except q hold and see. Demands 2 and 3 are stated for any such way.
+-- A way in which trustees count: each trustee's parts of all wires, everything that is published, the closing
+-- bytes, and what the trustees except q hold and see. Demands 2 and 3 are stated for any such way.
 pub record Way : Type 0 where
   pub parts : Call → Held
   pub published : Call → List ℕ
   pub closing : Call → List ℕ
   pub view : (q : ℕ) → Call → View
 
--- The single call on the joined tables. It leaves zeros for wire parts; the contract of
--- `trustee_gates::evaluate::evaluate` says that they were these parts before.
+-- The single call on the joined tables. It leaves zeros for wire parts. The contract of
+-- `trustee_gates::evaluate::evaluate` says that they were `wirePartsIn` before they were emptied.
 abbrev pub inOneCall : Way
 inOneCall =
     record {
@@ -66,21 +66,22 @@ pub record WayAccuracy (way : Way) (c : Call) (size : Size) : Type 0 where
       → way .closing c
       ≡ eightBytes (closingBytes (c .shape) (runResult (c .shape) (c .table) (c .ballots) tape wires board .board))
 
--- With the own list of a shape, they are the plain count's bytes, and say who wins.
+-- With the own list of the shape, the closing bytes are those of the plain count, and say who wins.
 pub record OwnList (way : Way) (c : Call) : Type 0 where
   pub plain-count : way .closing c ≡ plainClosing (c .shape) (c .ballots)
   pub says-who-wins : SaysWhoWins (c .shape) (c .ballots) (way .closing c)
 
--- Demand 3 for two calls with one shape, list and number of trustees. Whichever trustee q is left out: for each
--- accepted dealing d of the first, exactly one accepted dealing e of the second gives the other trustees the same
--- view. Its published bits are the table that is published.
+-- Demand 3 for two calls with the same shape, list and number of trustees. Whichever trustee q is left out: for
+-- each accepted dealing d of the first, exactly one accepted dealing e of the second gives the other trustees the
+-- same view. The published bits of a view are those that the call publishes.
 pub record ViewsHide (way : Way) (c c′ : Call) : Type 0 where
   pub same-view : (q : ℕ) → q < c .trustees → (d : Dealing) → Accepted (dealtAs c d)
       → ExactlyOne (λ (e : Dealing). Accepted (dealtAs c′ e) × (way .view q (dealtAs c d) ≡ way .view q (dealtAs c′ e)))
   pub sees-the-table : (q : ℕ) (d : Dealing) → Accepted (dealtAs c d)
       → way .view q (dealtAs c d) .published ≡ way .published (dealtAs c d)
 
--- It holds for all accepted calls with one shape, list and number of trustees that have the same closing bytes.
+-- Demand 3: `ViewsHide` holds for all accepted calls with the same shape, list, number of trustees and closing
+-- bytes.
 abbrev pub ViewsTellNoMore : Way → Type 0
 ViewsTellNoMore way =
     (c c′ : Call) (first second : Size)

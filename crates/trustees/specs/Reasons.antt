@@ -1,4 +1,4 @@
--- The reasons to refuse the trustees' call, in checking order (request 2.7).
+-- The reasons to refuse the trustees' call, in the order of their tests (request 2.7).
 use mathlib.Core.Bool.{Bool, _&&_}
 use mathlib.Core.Option.{Option}
 use mathlib.Core.List.{List, [], _∷_, _++_}
@@ -13,8 +13,9 @@ use Rattle.tally.specs.Test.{testReasons}
 use Rattle.trustee_gates.specs.Dealing.{dealtWell}
 use Rattle.trustees.specs.Call.{PartTables, Call}
 
--- The lengths of the four tables for t trustees. Each trustee has a part of each input; u, v and product of each
--- conditional gate; a part of each wire; both masked factors of each conditional gate, and k closing bits.
+-- Whether the four tables have the right lengths for t trustees. Each trustee has a part of each input; u, v and
+-- product of each conditional gate; a part of each wire; both masked factors of each conditional gate, and k
+-- closing bits.
 unfoldable pub tablesFit : (inputs k : ℕ) → Size → (t : ℕ) → PartTables → Bool
 tablesFit inputs k size t lent =
     eqb (length (lent .dealing .ballotParts)) (t * inputs)
@@ -22,7 +23,7 @@ tablesFit inputs k size t lent =
     && eqb (length (lent .wireParts)) (t * (inputs + size .gates))
     && eqb (length (lent .published)) (t * (2 * size .conditional + k))
 
--- The tests of t and of these tables: 16, 17, 18.
+-- The reasons of the number of trustees and of the four tables: 16, 17, 18.
 unfoldable pub partReasons : (k : ℕ) → Size → (ballots : List ℕ) → (t : ℕ) → PartTables → List (Option Reason)
 partReasons k size ballots t lent =
     unless (leb 2 t && leb t 5) 16
@@ -30,7 +31,7 @@ partReasons k size ballots t lent =
     ∷ unless (dealtWell t (size .conditional) ballots (lent .dealing)) 18
     ∷ []
 
--- All of them: those of the list, of the ballots, and of the parts, given the size of the list.
+-- All reasons: those of the list, of the ballots, and of the parts.
 unfoldable pub trusteesReasons : Call → List (Option Reason)
 trusteesReasons c =
     testReasons (c .shape) (c .table)

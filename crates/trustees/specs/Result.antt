@@ -24,8 +24,8 @@ pub record TrusteesResult : Type 0 where
   pub wireParts : List ℕ
   pub published : List ℕ
 
--- A refusal changes nothing, and its sums are zeros. An accepted call leaves zeros for wire parts, and all that the
--- trustees publish.
+-- A refusal changes nothing, and its sums are zeros. An accepted call leaves zeros in the wire parts, and in the
+-- other table all that the trustees publish.
 unfoldable pub trusteesResultAfter : Option Reason → Call → TrusteesResult
 trusteesResultAfter (some r) c =
     record {
@@ -42,5 +42,6 @@ trusteesResultAfter none c =
       published = joined (c .trustees) (publishedIn c);
     }
 
+-- What a call leaves: the contract of `run` is an equation with this.
 unfoldable pub trusteesResult : Call → TrusteesResult
 trusteesResult c = trusteesResultAfter (firstOf (trusteesReasons c)) c

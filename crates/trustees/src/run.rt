@@ -11,14 +11,14 @@ ghost use Rattle.trustee_shares.specs.Views.{piece};
 ghost use Rattle.trustees.specs.inner.Sizes.{ClosingFits};
 ghost use Rattle.trustees.specs.Result.{TrusteesResult, trusteesResult};
 
-// G and C of the list, or the first reason that applies; and the opened closing bits, 0 from place k on and on a
-// refusal.
+// G and C of the list, or the first reason that applies; and the opened closing bits, which are 0 from place k on,
+// and all 0 on a refusal.
 pub struct Tallied {
     pub answer: Answer,
     pub closing: [u8; 8],
 }
 
-// Opens the closing bits, the last in each trustee's piece of what is published.
+// Opens the closing bits, which are the last in each trustee's piece of the published table.
 fn open_closing(t: usize, size: usize, first: usize, k: usize, published: &[u8]) -> [u8; 8]
     requires { ⌜ ClosingFits t size first k (now published) ⌝ }
     ensures { λ r.
@@ -34,8 +34,8 @@ fn open_closing(t: usize, size: usize, first: usize, k: usize, published: &[u8])
     closing
 }
 
-// Runs a list on ballots that t trustees hold in parts, with a dealt triple for each conditional gate. While it runs,
-// the wire parts together give every wire away; they are emptied once the closing bits are published.
+// Runs a list on ballots that t trustees hold in parts, with a dealt triple for each conditional gate. Meanwhile
+// the wire parts together reveal every wire; they are emptied after the closing bits are published.
 pub fn run(
     shape: Shape,
     table: &[u32],

@@ -1,4 +1,4 @@
-// Reasons 1 to 6, with 11 and 12 in place of 6 for rankings, then 16 to 18.
+// The tests of the trustees' call: reasons 1 to 6, with 11 and 12 in place of 6 for rankings, then 16 to 18.
 use jury::reason::Refusal;
 use jury::reason::Verdict;
 use jury::shape::Shape;
@@ -86,7 +86,7 @@ fn is_dealt_well(
     trustee_gates::dealing::products_add_up(t, conditional, triples)
 }
 
-// Reasons 16 to 18.
+// Tests for reasons 16 to 18.
 fn test_parts(
     outputs: usize,
     gates: usize,
@@ -130,7 +130,7 @@ fn test_parts(
     Verdict::Accepted
 }
 
-// All of them in checking order.
+// All tests of the call, in their order.
 pub(crate) fn test(
     shape: Shape,
     table: &[u32],

@@ -28,7 +28,7 @@ use Rattle.urn_chains.proofs.SoundLayouts.{its-parts, its-length, held, held-fr
 use Rattle.urn.proofs.AdmittedSlots.{admit-slots}
 use Rattle.urn.proofs.FactLaws.{its-table}
 
--- both indexes of slot 0 written again
+-- the slots after both indexes of slot 0 are overwritten
 pub head-set : (b n : ℕ) (u : List ℕ) (v w : ℕ) → length u ≡ n * slotBytes b → 0 < n →
     slotsOf b n (set (set u 0 v) 1 w) ≡ set (slotsOf b n u) 0 (record { next = v; juror = w; ballot = slotAt (slotsOf b n u) 0 .ballot })
 head-set b n u v w e h =
@@ -48,7 +48,7 @@ unfolding isEmpty firstFree
 not-empty [] e = let z : _≡_ {A = ℕ} 0 1 = cc in absurd (omega arith)
 not-empty (i ∷ is) e = refl
 
--- a splice keeps the length
+-- replacing some bytes by equally many keeps the length
 pub splice-length : (urn bytes : List ℕ) (at size : ℕ) → at + size ≤ length urn → length bytes ≡ size
     → length (take at urn ++ bytes ++ drop (at + size) urn) ≡ length urn
 splice-length urn bytes at size h e =

@@ -18,7 +18,7 @@ use Rattle.urn_chains.proofs.Linked.{no-zero, slotsIn, Linked, FreeLinked, more
 use Rattle.urn_chains.proofs.Layouts.{Fit, layout-unique}
 use Rattle.urn_chains.proofs.SlotTests.{clash}
 
--- a free slot becomes a ballot's
+-- if the first free slot becomes a ballot's, the chains still have each slot once
 pub fit-admit : (n : ℕ) (e : Entry) (es : List Entry) (is : List ℕ) → Fit n es (e .slot ∷ is) → Fit n (e ∷ es) is
 fit-admit n e es is f =
     let i = e .slot in

@@ -74,7 +74,7 @@ all-fit n h =
       covered = member-all (λ i. member i (tabulate (n - 1) suc)) (tabulate (n - 1) suc) (λ i m. m);
     }
 
--- zeros are a free slot that no other follows
+-- a slot of zeros is the last free slot of a chain
 zero-slot : (b : ℕ) → slotOf (replicate (slotBytes b) 0) ≡ freeSlot b 0
 unfolding slotOf freeSlot
 zero-slot b = ap (λ (m : ℕ). slotOf (replicate m 0)) {x = slotBytes b} {y = suc (suc b)} (omega (arith, size-is b))
@@ -156,7 +156,7 @@ freed-go b n urn i slot first e p f =
       head = ap firstFree up;
     }
 
--- with that one named in slot 0, it is an empty urn
+-- if all slots from 1 on are free and slot 0 names the first of them, the table is an empty urn
 pub freed-done : (b n : ℕ) (urn : List ℕ) (first : ℕ) → 2 ≤ n → Freed b n urn 1 first → set urn 1 first ≡ bytesOf (allFree n b)
 unfolding allFree layout withBallots headSlot firstEntry freeSlot
 freed-done b n urn first h f =
@@ -173,7 +173,7 @@ freed-done b n urn first h f =
     ∙ ap (layout n b []) (sym (free-order n)) in
     sym (bytes-back b n (set urn 1 first) (length-set urn 1 first ∙ f .size)) ∙ ap bytesOf slots
 
--- the first reason
+-- the first reason of the call
 module _ (k d : ℕ) (table : List ℕ) where
   pub empty-1 : gradedShape k d ≡ false → firstOf (emptyReasons k d table) ≡ some (reasonAt 1 0)
   unfolding emptyReasons firstOf unless

@@ -1,4 +1,4 @@
--- The facts of a sound urn, by its bytes.
+-- The facts about a sound urn, from its bytes.
 -- Assumes nothing.
 use mathlib.Core.Path.{_≡_, _∙_, refl, sym, ap}
 use mathlib.Core.Logic.{⊎-elim}

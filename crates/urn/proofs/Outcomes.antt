@@ -43,7 +43,7 @@ admit-first k d f j x =
     (first-cons (unless (goodJuror j && not (f .present)) 14) _ _
     (first-append (ballotReasons (juryOfOne k d) x) (unless (not (f .full)) 15))))
 
--- What an accepted admission has passed.
+-- The tests that an accepted admission has passed, as facts.
 pub record Passed (k d : ℕ) (f : Facts) (j : ℕ) (x : List ℕ) : Type 0 where
   pub graded : gradedShape k d ≡ true
   pub isSound : f .sound ≡ true
@@ -70,7 +70,7 @@ admissible k d f j x e =
 pub withdrawFirst : Bool → Bool → Bool → Option Reason
 withdrawFirst graded sound juror = firstOf (unless graded 1 ∷ unless sound 13 ∷ unless juror 14 ∷ [])
 
--- What an accepted withdrawal has passed.
+-- The tests that an accepted withdrawal has passed, as facts.
 pub record Withdrawable (k d : ℕ) (f : Facts) (j : ℕ) : Type 0 where
   pub graded : gradedShape k d ≡ true
   pub isSound : f .sound ≡ true
@@ -89,7 +89,7 @@ withdrawable k d f j e =
     let p = let-out (gradedShape k d) (f .sound) (goodJuror j && f .present) e in
     record { graded = p .0; isSound = p .1; juror = p .2 }
 
--- an accepted answer means that there was no reason
+-- if the answer is accepted, no reason applies
 pub accepted-none : (o : Option Reason) (v m : ℕ) → outcome o v ≡ accepted m → o ≡ none
 unfolding outcome
 accepted-none none v m e = refl
@@ -108,7 +108,7 @@ pub some-old : (o : Option Reason) (r : Reason) (new old : List ℕ) → o ≡ s
 unfolding afterwards
 some-old o r new old e = ap (λ (p : Option Reason). afterwards p new old) (sym e)
 
--- the first reason of an admission, by the first test that fails
+-- the first reason of an admission, given the first test that fails
 module _ (a b c : Bool) (o : Option Reason) (g : Bool) where
   pub admit-1 : a ≡ false → admitFirst a b c o g ≡ some (reasonAt 1 0)
   unfolding admitFirst firstOf unless
@@ -151,7 +151,7 @@ juror-absent t p h i = rw (h, i)
 pub juror-gone : (t p : Bool) → t ≡ true → p ≡ false → (t && p) ≡ false
 juror-gone t p h i = rw (h, i)
 
--- the first reason of a withdrawal
+-- the first reason of a withdrawal, given the first test that fails
 module _ (a b c : Bool) where
   pub withdraw-1 : a ≡ false → withdrawFirst a b c ≡ some (reasonAt 1 0)
   unfolding withdrawFirst firstOf unless
@@ -174,7 +174,7 @@ pub withdraw-first : (k d : ℕ) (f : Facts) (j : ℕ) → firstOf (withdrawReas
 unfolding withdrawReasons withdrawFirst
 withdraw-first k d f j = refl
 
--- the answer and the urn, as what a call leaves
+-- two results are equal if their answers and their urns are
 pub both-parts : {a b : Outcome ℕ} {u v : List ℕ} → a ≡ b → u ≡ v
     → _≡_ {A = UrnResult} (record { answer = a; urn = u }) (record { answer = b; urn = v })
 both-parts e f = cc

@@ -1,4 +1,4 @@
--- One slot of an urn is written.
+-- Writing one slot of an urn.
 -- Assumes nothing.
 use mathlib.Core.Path.{_≡_, _∙_, refl, sym, ap}
 use mathlib.Core.List.{List, [], _∷_, _++_, append-assoc, append-nil}

@@ -26,11 +26,11 @@ use Rattle.urn.specs.Memory.{UrnMemory}
 use Rattle.urn.proofs.Outcomes.{refused-kept}
 use Rattle.urn.proofs.UrnTheorems.{urn-holds}
 
--- the reasons' numbers of an admission
+-- the numbers of the reasons of an admission
 admitting : List ℕ
 admitting = 1 ∷ 13 ∷ 14 ∷ 4 ∷ 5 ∷ 6 ∷ 15 ∷ []
 
--- for a graded jury
+-- the reasons of graded ballots are among them
 ballots-fine : (s : Shape) (xs : List ℕ) → isRanking s ≡ false → All admitting (ballotReasons s xs)
 unfolding All ballotReasons gradedReasons hasNumberIn reasonAt admitting
 ballots-fine s xs graded = (
@@ -57,7 +57,7 @@ admit-fine k d f j x e = (
   ),
 )
 
--- any other shape is refused first of all
+-- if the shape is not that of a graded jury, the reason is 1
 first-of : (t : Bool) (rest : List (Option Reason)) → t ≡ false → Fine admitting (firstOf (unless t 1 ∷ rest))
 unfolding Fine hasNumberIn reasonAt admitting unless firstOf
 first-of t rest e = subst (λ (t : Bool). Fine admitting (firstOf (unless t 1 ∷ rest))) (sym e) tt

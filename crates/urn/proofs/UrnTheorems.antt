@@ -1,5 +1,5 @@
--- An urn that is made empty is sound and stays so while ballots go in and out; withdrawing what was admitted last
--- gives the urn back.
+-- An emptied urn is sound and stays sound while ballots are admitted and withdrawn. Withdrawing the ballot that was
+-- admitted last gives the urn back.
 -- Assumes nothing.
 use mathlib.Core.Path.{_≡_, _∙_, refl, sym, ap, subst}
 use mathlib.Core.Logic.{⊎-elim}
@@ -47,7 +47,7 @@ module _ (k d : ℕ) (urn : List ℕ) (e : sound k d urn ≡ true) where
   long : length urn ≡ length (urnSlots k d urn) * slotBytes (k * d)
   long = written k d (length (urnSlots k d urn)) (entriesOf k d urn) (freeOf k d urn) urn (laid-out k d urn e) .size
 
--- chains with one ballot more, from the first free slot
+-- good chains with one more ballot, in what was the first free slot, are good
 more-good : (k d n : ℕ) (x : Entry) (es : List Entry) (is : List ℕ) → Good k d n es (x .slot ∷ is)
     → goodJuror (x .juror) ≡ true → member (x .juror) (jurorsOf es) ≡ false → goodBallot k d (x .ballot) ≡ true
     → Good k d n (x ∷ es) is
@@ -81,7 +81,7 @@ less-good k d n pre x post is g =
           (sym (all-move (λ (z : Entry). goodBallot k d (z .ballot)) pre x post) ∙ g .ballots);
     }
 
--- the ballots around that of a juror who has one
+-- the ballots before and after that of a juror who has one
 juror-split : (j : ℕ) (es : List Entry) → member j (jurorsOf es) ≡ true → (pre : List Entry) × (x : Entry)
     × (post : List Entry) × (es ≡ pre ++ (x ∷ post)) × (withoutJuror j es ≡ pre ++ post) × (slotOfJuror j es ≡ x .slot)
 unfolding jurorsOf member withoutJuror slotOfJuror
@@ -187,7 +187,7 @@ after-admission k d urn j x count h =
       undone = ap (λ (v : List ℕ). withdrawn k d v j) new ∙ back;
     }
 
--- all slots free
+-- after emptying, all slots are free
 after-emptying : (k d : ℕ) (table : List ℕ) (count : ℕ) → emptyOutcome k d table ≡ accepted count → AfterEmptying k d table count
 unfolding emptyOutcome emptied allFree jurorsOf all distinct
 after-emptying k d table count h =

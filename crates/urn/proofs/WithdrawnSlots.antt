@@ -30,7 +30,7 @@ pub lastSlot : ℕ → List Entry → ℕ
 lastSlot before [] = before
 lastSlot before (q ∷ pre) = lastSlot (q .slot) pre
 
--- The ballots before a juror's, the juror's, and those after it.
+-- The ballots before a juror's ballot, that ballot, and those after it.
 pub record Split (j before p s : ℕ) (es : List Entry) : Type 0 where
   pub front : List Entry
   pub entry : Entry
@@ -82,7 +82,7 @@ slots-append : (xs ys : List Entry) → slotsIn (xs ++ ys) ≡ slotsIn xs ++ slo
 slots-append [] ys = refl
 slots-append (x ∷ xs) ys = ap (λ (is : List ℕ). x .slot ∷ is) (slots-append xs ys)
 
--- a test that does not depend on where in the list a number is
+-- a test of a list that does not depend on the place of a number in it
 moves : (f : List ℕ → Bool) → ((xs : List ℕ) (y : ℕ) (ys : List ℕ) → f (xs ++ (y ∷ ys)) ≡ f (y ∷ (xs ++ ys)))
     → (pre : List Entry) (e : Entry) (post : List Entry) (is : List ℕ) →
     f (slotsIn (pre ++ (e ∷ post)) ++ is) ≡ f (slotsIn (pre ++ post) ++ (e .slot ∷ is))
@@ -128,7 +128,7 @@ fewer x pre e post h =
     (ap (member x) (slots-append pre (e ∷ post)) ∙ member-move x (slotsIn pre) (e .slot) (slotsIn post)
     ∙ behind x (e .slot) (slotsIn pre ++ slotsIn post) (ap (member x) (sym (slots-append pre post)) ∙ m)) h)
 
--- the chain without one ballot, once the slot before it names the one after it
+-- after the slot before a ballot names the slot after it, the chain is linked without that ballot
 pub relink : (S : List Slot) (pre : List Entry) (e : Entry) (post : List Entry) (before : ℕ)
     → Linked S (pre ++ (e ∷ post)) → distinct (slotsIn (pre ++ (e ∷ post))) ≡ true →
     member before (slotsIn (pre ++ post)) ≡ false → ((x : ℕ) → member x (slotsIn (pre ++ (e ∷ post))) ≡ true → x < length S) →

@@ -11,7 +11,7 @@ use Rattle.urn_chains.specs.Chains.{layout}
 use Rattle.urn_chains.specs.Sound.{gradedShape, slotCount, urnLength}
 use Rattle.urn.specs.Facts.{UrnResult}
 
--- The tests in checking order: 1, then 13 if no urn has this length.
+-- The reasons: 1, then 13 if no urn has this length.
 unfoldable pub emptyReasons : ℕ → ℕ → List ℕ → List (Option Reason)
 emptyReasons k d table = unless (gradedShape k d) 1 ∷ unless (urnLength (k * d) (length table)) 13 ∷ []
 
@@ -23,11 +23,11 @@ emptyOutcome k d table = outcome (firstOf (emptyReasons k d table)) 0
 unfoldable pub allFree : ℕ → ℕ → List Slot
 allFree n b = layout n b [] (tabulate (n - 1) suc)
 
--- The table after the call.
+-- The table after the call; on a refusal it is unchanged.
 unfoldable pub emptied : ℕ → ℕ → List ℕ → List ℕ
 emptied k d table =
     afterwards (firstOf (emptyReasons k d table)) (bytesOf (allFree (slotCount (k * d) (length table)) (k * d))) table
 
--- What the call leaves.
+-- What the call leaves: the contract of `empty` is an equation with this.
 abbrev pub emptying : ℕ → ℕ → List ℕ → UrnResult
 emptying k d table = record { answer = emptyOutcome k d table; urn = emptied k d table }

@@ -1,5 +1,5 @@
--- One candidate, two grades: a slot is four bytes. A table of three slots becomes an empty urn; juror 9 is admitted
--- to an empty urn of two slots and withdrawn again.
+-- One candidate and two grades, so a slot has four bytes. A table of three slots becomes an empty urn. The ballot
+-- of juror 9 is admitted to an empty urn of two slots and withdrawn again.
 use mathlib.Core.Path.{_≡_, refl}
 use mathlib.Core.Bool.{true, false}
 use mathlib.Core.List.{List, [], _∷_}
@@ -19,9 +19,11 @@ use Rattle.urn.specs.Admit.{admitReasons, withBallot, admitted}
 use Rattle.tally.specs.Answer.{afterwards}
 use Rattle.urn.specs.Withdraw.{withdrawReasons, withoutJuror, slotOfJuror, withoutBallot, withdrawn}
 
+-- Two slots; slot 1 is free.
 unfoldable pub emptyUrn : List ℕ
 emptyUrn = 0 ∷ 1 ∷ 0 ∷ 0 ∷ 0 ∷ 0 ∷ 0 ∷ 0 ∷ []
 
+-- The same with the ballot of juror 9, which gives the worse grade, in slot 1.
 unfoldable pub oneBallotIn : List ℕ
 oneBallotIn = 1 ∷ 0 ∷ 0 ∷ 0 ∷ 0 ∷ 9 ∷ 0 ∷ 1 ∷ []
 

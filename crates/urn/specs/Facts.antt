@@ -1,4 +1,4 @@
--- What a call asks about an urn before a ballot goes in or out, and what a call leaves.
+-- The facts about an urn that decide an admission or a withdrawal, and what a call leaves.
 use mathlib.Core.Bool.{Bool, true, false, cond}
 use mathlib.Core.List.{List, [], _∷_, map}
 use Prim.Native.Nat.{ℕ}
@@ -19,7 +19,7 @@ isEmpty (i ∷ is) = false
 unfoldable pub jurorsOf : List Entry → List ℕ
 jurorsOf es = map (λ e. e .juror) es
 
--- Of a sound urn: how many ballots are in, whether this juror's is among them, and whether no slot is free. Of an
+-- For a sound urn: how many ballots it has, whether this juror's is among them, and whether no slot is free. For an
 -- unsound urn, only that it is unsound.
 unfoldable pub factsOf : ℕ → ℕ → List ℕ → ℕ → Facts
 factsOf k d urn juror =

@@ -1,5 +1,5 @@
--- The demand [memory] for the urn, about the definitions that the contracts equate with the answers and with the urn
--- afterwards. Previews are lent nothing to write to.
+-- The demand [memory] for the urn, stated about the definitions that the contracts equate with the answers and with
+-- the urn after the call. Previews are lent no table to write to.
 use mathlib.Core.List.{List, [], _∷_}
 use Prim.Native.Nat.{ℕ}
 use Rattle.tally.specs.Memory.{KeepsMemory}

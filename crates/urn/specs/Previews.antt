@@ -1,4 +1,4 @@
--- What the previews reveal of an urn.
+-- What the previews reveal about an urn.
 use mathlib.Core.Path.{_≡_}
 use mathlib.Core.Bool.{true, false}
 use mathlib.Core.List.{List}
@@ -10,8 +10,8 @@ use Rattle.urn.specs.Facts.{isEmpty, jurorsOf}
 use Rattle.urn.specs.Admit.{admitOutcome}
 use Rattle.urn.specs.Withdraw.{withdrawOutcome}
 
--- Two urns, of any bytes and lengths, that agree in four facts: both are unsound; or both are sound, with equally
--- many ballots, this juror's in both or in neither, and a free slot in both or in neither.
+-- Two urns, with any bytes and lengths, that agree in four facts: both are unsound; or both are sound and have
+-- equally many ballots, this juror's is in both or in neither, and both or neither have a free slot.
 pub data Alike (k d : ℕ) (one other : List ℕ) (juror : ℕ) : Type 0 where
   both-unsound : sound k d one ≡ false → sound k d other ≡ false → Alike k d one other juror
   both-sound : sound k d one ≡ true → sound k d other ≡ true
@@ -19,8 +19,8 @@ pub data Alike (k d : ℕ) (one other : List ℕ) (juror : ℕ) : Type 0 where
       → member juror (jurorsOf (entriesOf k d one)) ≡ member juror (jurorsOf (entriesOf k d other))
       → isEmpty (freeOf k d one) ≡ isEmpty (freeOf k d other) → Alike k d one other juror
 
--- The previews answer the same for both urns: they reveal these four facts and nothing else. Their contracts equate
--- them with the answers of admission and withdrawal.
+-- The previews answer the same for both urns, so they reveal these four facts and nothing else. Their contracts say
+-- that they answer `admitOutcome` and `withdrawOutcome`.
 pub record PreviewsTell : Type 0 where
   pub admission : (k d : ℕ) (one other : List ℕ) (juror : ℕ) (ballot : List ℕ) → Alike k d one other juror
       → admitOutcome k d one juror ballot ≡ admitOutcome k d other juror ballot

@@ -1,6 +1,6 @@
--- What holds for an urn that is made empty, admits and withdraws ballots, about the definitions that the contracts
--- equate with the answers and with the urn afterwards. `count` is what an accepted call answers: the number of
--- ballots then in the urn.
+-- What holds after a table becomes an empty urn, and after a ballot is admitted or withdrawn; stated about the
+-- definitions that the contracts equate with the answers and with the urn after the call. `count` is what an
+-- accepted call answers: the number of ballots that are now in the urn.
 use mathlib.Core.Path.{_≡_}
 use mathlib.Core.Bool.{true}
 use mathlib.Core.List.{List, [], _∷_}
@@ -16,7 +16,7 @@ use Rattle.urn.specs.Admit.{admitOutcome, admitted}
 use Rattle.urn.specs.Withdraw.{withdrawOutcome, withoutJuror, slotOfJuror, withdrawn}
 use Rattle.urn.specs.Empty.{emptyOutcome, emptied}
 
--- A table that is made an empty urn is sound, has the same length and no ballot, and its slots from 1 on are free, in
+-- An accepted call leaves a sound urn of the same length. It has no ballot, and the slots from 1 on are free, in
 -- this order.
 pub record AfterEmptying (k d : ℕ) (table : List ℕ) (count : ℕ) : Type 0 where
   pub made-sound : sound k d (emptied k d table) ≡ true
@@ -25,8 +25,8 @@ pub record AfterEmptying (k d : ℕ) (table : List ℕ) (count : ℕ) : Type 0 w
   pub counted : count ≡ length (entriesOf k d (emptied k d table))
   pub free : freeOf k d (emptied k d table) ≡ tabulate (slotCount (k * d) (length table) - 1) suc
 
--- An accepted admission leaves a sound urn of the same length. The new ballot is in the slot that was the first free
--- one, before all others, which are unchanged; the free chain has lost its first slot.
+-- An accepted admission leaves a sound urn of the same length. The new ballot is in the slot that was the first
+-- free one. It comes before all other ballots, which are unchanged. The free chain has lost its first slot.
 pub record AfterAdmission (k d : ℕ) (urn : List ℕ) (juror : ℕ) (ballot : List ℕ) (count : ℕ) : Type 0 where
   pub stays-sound : sound k d (admitted k d urn juror ballot) ≡ true
   pub same-length : length (admitted k d urn juror ballot) ≡ length urn
@@ -37,7 +37,7 @@ pub record AfterAdmission (k d : ℕ) (urn : List ℕ) (juror : ℕ) (ballot : L
   -- withdrawing the same juror's ballot then gives the urn back, byte for byte
   pub undone : withdrawn k d (admitted k d urn juror ballot) juror ≡ urn
 
--- An accepted withdrawal leaves a sound urn of the same length. The ballot chain has lost the juror's ballot; its
+-- An accepted withdrawal leaves a sound urn of the same length. The ballot chain has lost the juror's ballot, whose
 -- slot is now the first of the free chain.
 pub record AfterWithdrawal (k d : ℕ) (urn : List ℕ) (juror count : ℕ) : Type 0 where
   pub stays-sound : sound k d (withdrawn k d urn juror) ≡ true
@@ -45,7 +45,7 @@ pub record AfterWithdrawal (k d : ℕ) (urn : List ℕ) (juror count : ℕ) : Ty
   pub ballots : entriesOf k d (withdrawn k d urn juror) ≡ withoutJuror juror (entriesOf k d urn)
   pub counted : count ≡ length (entriesOf k d (withdrawn k d urn juror))
   pub free : freeOf k d (withdrawn k d urn juror) ≡ slotOfJuror juror (entriesOf k d urn) ∷ freeOf k d urn
-  -- the ballot admitted next, whoever's it is, takes the same slot; the free slots are then those from before the
+  -- the next ballot that is admitted, from any juror, gets that slot; then the free slots are those from before the
   -- withdrawal
   pub taken-again : (next : ℕ) (ballot : List ℕ) (more : ℕ)
       → admitOutcome k d (withdrawn k d urn juror) next ballot ≡ accepted more

@@ -13,7 +13,7 @@ use Rattle.urn_chains.specs.Chains.{Entry, ballotChain, freeChain, layout}
 use Rattle.urn_chains.specs.Sound.{gradedShape, goodJuror, urnSlots}
 use Rattle.urn.specs.Facts.{factsOf, UrnResult}
 
--- The tests in checking order: 1, 13, 14.
+-- The reasons of a withdrawal, in the order of their tests: 1, 13, 14.
 unfoldable pub withdrawReasons : ℕ → ℕ → Facts → ℕ → List (Option Reason)
 withdrawReasons k d facts juror =
     unless (gradedShape k d) 1
@@ -21,35 +21,36 @@ withdrawReasons k d facts juror =
     ∷ unless (goodJuror juror && facts .present) 14
     ∷ []
 
--- The answer by the facts: a reason, or the new number of ballots.
+-- The answer, given the facts about the urn: a reason, or the new number of ballots.
 unfoldable pub withdrawAnswer : ℕ → ℕ → Facts → ℕ → Outcome ℕ
 withdrawAnswer k d facts juror = outcome (firstOf (withdrawReasons k d facts juror)) (facts .ballots - 1)
 
+-- The answer of a withdrawal, and of its preview.
 abbrev pub withdrawOutcome : ℕ → ℕ → List ℕ → ℕ → Outcome ℕ
 withdrawOutcome k d urn juror = withdrawAnswer k d (factsOf k d urn juror) juror
 
--- The ballots without this juror's, who has at most one.
+-- The ballots without the first one of this juror. In a sound urn a juror has at most one.
 unfoldable pub withoutJuror : ℕ → List Entry → List Entry
 withoutJuror juror [] = []
 withoutJuror juror (e ∷ es) = cond (eqb (e .juror) juror) es (e ∷ withoutJuror juror es)
 
--- The slot of this juror's ballot.
+-- The slot of this juror's ballot; 0 if there is none.
 unfoldable pub slotOfJuror : ℕ → List Entry → ℕ
 slotOfJuror juror [] = 0
 slotOfJuror juror (e ∷ es) = cond (eqb (e .juror) juror) (e .slot) (slotOfJuror juror es)
 
--- The juror's ballot is gone, and its slot is the first free one.
+-- The slots after a withdrawal: the juror's ballot is gone, and its slot is the first free one.
 unfoldable pub withoutBallot : ℕ → List Slot → ℕ → List Slot
 withoutBallot b slots juror =
     layout (length slots) b (withoutJuror juror (ballotChain slots))
     (slotOfJuror juror (ballotChain slots) ∷ freeChain slots)
 
--- The urn after a withdrawal.
+-- The urn after a withdrawal; on a refusal it is unchanged.
 unfoldable pub withdrawn : ℕ → ℕ → List ℕ → ℕ → List ℕ
 withdrawn k d urn juror =
     afterwards (firstOf (withdrawReasons k d (factsOf k d urn juror) juror))
     (bytesOf (withoutBallot (k * d) (urnSlots k d urn) juror)) urn
 
--- What a withdrawal leaves.
+-- What a withdrawal leaves: the contract of `withdraw` is an equation with this.
 abbrev pub withdrawal : ℕ → ℕ → List ℕ → ℕ → UrnResult
 withdrawal k d urn juror = record { answer = withdrawOutcome k d urn juror; urn = withdrawn k d urn juror }

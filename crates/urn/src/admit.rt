@@ -15,10 +15,10 @@ ghost use Rattle.urn.specs.Facts.{countedBy};
 ghost use Rattle.urn.specs.Admit.{admitAnswer, admitOutcome, withBallot, admission};
 ghost use Rattle.urn.specs.inner.Ready.{Countable, Admissible};
 
-// The largest juror's number: it is kept in a byte.
+// The largest number of a juror: it is kept in a byte.
 pub const MOST_JURORS: usize = 255;
 
-// Whether k and d are those of a graded jury.
+// Whether k and d are within the limits of a graded jury.
 pub fn is_graded(k: usize, d: usize) -> bool
     ensures { λ r. ⌜ r ≡ gradedShape k d ⌝ }
 {
@@ -30,14 +30,14 @@ pub fn is_graded(k: usize, d: usize) -> bool
     shape.is_within_graded_limits()
 }
 
-// Whether a number is a juror's.
+// Whether this can be the number of a juror.
 pub(crate) fn is_juror(juror: usize) -> bool
     ensures { λ r. ⌜ r ≡ goodJuror juror ⌝ }
 {
     1 <= juror && juror <= MOST_JURORS
 }
 
-// The answer to an admission. All that it knows of the urn are the facts.
+// The answer to an admission. It knows nothing about the urn except the facts.
 fn decide(k: usize, d: usize, facts: Facts, juror: usize, ballot: &[u8]) -> Answer
     requires { ⌜ Countable k d facts ⌝ }
     ensures { λ r. ⌜ countedBy r ≡ admitAnswer k d facts juror (now (ballot .entry)) ⌝ }
@@ -78,7 +78,7 @@ pub fn preview(k: usize, d: usize, urn: &[u8], juror: usize, ballot: &[u8]) -> A
     decide(k, d, looked.facts, juror, ballot)
 }
 
-// Puts a ballot into the first free slot, and that slot first in the ballot chain.
+// Puts a ballot into the first free slot, and makes that slot the first of the ballot chain.
 fn put_ballot(k: usize, d: usize, urn: &mut [u8], juror: usize, ballot: &[u8])
     requires { ⌜ Admissible k d (now urn) juror (now ballot) ⌝ }
     ensures { λ _. ⌜ now (urn .exit)

@@ -10,7 +10,7 @@ ghost use Rattle.urn.specs.Facts.{countedBy};
 ghost use Rattle.urn.specs.Empty.{allFree, emptying};
 
 // Frees all slots from 1 on, in a table of slots for ballots of `bytes` bytes. It goes from the last slot to the
-// first and puts each in front, so the free chain is in order.
+// first and puts each before the others, so the free chain is in order.
 fn free_all(urn: &mut [u8], bytes: usize, slots: usize)
     requires { ⌜ SlotTable bytes slots (now urn) ⌝ }
     ensures { λ _. ⌜ now (urn .exit) ≡ bytesOf (allFree slots bytes) ⌝ }
@@ -30,7 +30,7 @@ fn free_all(urn: &mut [u8], bytes: usize, slots: usize)
     urn[1] = first;
 }
 
-// Makes a table with the length of an urn into an empty one, whatever its bytes were.
+// Makes a table that has the length of an urn into an empty urn, whatever its bytes were.
 pub fn empty(k: usize, d: usize, urn: &mut [u8]) -> Answer
     ensures { λ r. ⌜ record { answer = countedBy r; urn = now (urn .exit) } ≡ emptying k d (now (urn .entry)) ⌝ }
 {

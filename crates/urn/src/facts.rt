@@ -1,4 +1,4 @@
-// What a call asks about an urn before a ballot goes in or out.
+// The facts about an urn that decide an admission or a withdrawal.
 use urn_chains::find;
 use urn_chains::find::ChainPosition;
 use urn_chains::sound;
@@ -7,7 +7,7 @@ ghost use lib.Dec.{T};
 ghost use Rattle.urn_chains.specs.Sound.{gradedShape};
 ghost use Rattle.urn.specs.inner.Ready.{Looked};
 
-// Of a sound urn: how many ballots are in, whether this juror's is among them, and whether no slot is free. Of an
+// For a sound urn: how many ballots it has, whether this juror's is among them, and whether no slot is free. For an
 // unsound urn, only that it is unsound.
 pub struct Facts {
     pub sound: bool,
@@ -16,7 +16,7 @@ pub struct Facts {
     pub full: bool,
 }
 
-// The facts, and where the juror's ballot is in a sound urn.
+// The facts and, if the urn is sound, where the juror's ballot is.
 pub(crate) struct UrnCheck {
     pub(crate) facts: Facts,
     pub(crate) position: ChainPosition,

@@ -4,7 +4,7 @@ ghost use mathlib.Core.List.{_∷_, _++_};
 ghost use Prim.Native.Nat.{_+_, _≤_};
 ghost use lib.ListN.{length, take, drop};
 
-// Writes a whole slot whose first byte has place `at`.
+// Writes a whole slot, from place `at` on.
 pub(crate) fn put_slot(urn: &mut [u8], at: usize, next: u8, juror: u8, ballot: &[u8])
     requires { ⌜ at + 2 + length (now ballot) ≤ length (now urn) ⌝ }
     ensures { λ _. ⌜ now (urn .exit) ≡ take at (now (urn .entry)) ++ (next ∷ juror ∷ now (ballot .entry))

@@ -16,7 +16,7 @@ ghost use Rattle.urn.specs.Facts.{countedBy};
 ghost use Rattle.urn.specs.Withdraw.{withdrawAnswer, withdrawOutcome, withoutBallot, withdrawal};
 ghost use Rattle.urn.specs.inner.Ready.{Present};
 
-// The answer to a withdrawal. All that it knows of the urn are the facts.
+// The answer to a withdrawal. It knows nothing about the urn except the facts.
 fn decide(k: usize, d: usize, facts: Facts, juror: usize) -> Answer
     requires { ⌜ T (gradedShape k d) ⌝ }
     ensures { λ r. ⌜ countedBy r ≡ withdrawAnswer k d facts juror ⌝ }
@@ -50,8 +50,8 @@ pub fn preview(k: usize, d: usize, urn: &[u8], juror: usize) -> Answer
     decide(k, d, looked.facts, juror)
 }
 
-// Takes out the ballot in this slot, which comes after slot `before` in the ballot chain, and puts its slot first in
-// the free chain.
+// Takes out the ballot in this slot, which comes after slot `before` in the ballot chain, and makes the slot the
+// first of the free chain.
 fn take_ballot(k: usize, d: usize, urn: &mut [u8], before: usize, slot: usize)
     requires { ⌜ Present k d (now urn) before slot ⌝ }
     ensures { λ _. ⌜ now (urn .exit) ≡ bytesOf (withoutBallot (k * d) (urnSlots k d (now (urn .entry)))

@@ -1,4 +1,4 @@
--- An urn's bytes written as slots and read back.
+-- Reading an urn's bytes as slots, and writing slots as bytes.
 -- Assumes nothing.
 use mathlib.Core.Path.{_≡_, _∙_, refl, sym, ap}
 use mathlib.Core.Bool.{true, false, _&&_}
@@ -40,7 +40,7 @@ sized-replicate : (b n : ℕ) (s : Slot) → length (s .ballot) ≡ b → Sized 
 sized-replicate b zero s h = none
 sized-replicate b (suc n) s h = more h (sized-replicate b n s h)
 
--- the slots of an urn have ballots of one length
+-- all slots of an urn have ballots of b bytes
 pub slots-sized : (b n : ℕ) (urn : List ℕ) → length urn ≡ n * slotBytes b → Sized b (slotsOf b n urn)
 unfolding slotsOf slotOf
 slots-sized b zero urn e = none
@@ -55,7 +55,7 @@ slots-sized b (suc n) urn e =
     ))
     (slots-sized b n (drop (slotBytes b) urn) (omega (arith, length-drop (slotBytes b) urn, suc-mul n (slotBytes b))))
 
--- bytes to slots and back
+-- bytes read as slots and written again are the same
 slot-back : (xs : List ℕ) → 2 ≤ length xs → bytesOfSlot (slotOf xs) ≡ xs
 unfolding bytesOfSlot slotOf
 slot-back [] h = absurd (omega arith)
@@ -75,7 +75,7 @@ bytes-back b (suc n) urn e =
     (omega (arith, length-drop (slotBytes b) urn, suc-mul n (slotBytes b))))
     ∙ take-append-drop (slotBytes b) urn
 
--- slots to bytes and back
+-- slots written as bytes and read again are the same
 slot-bytes : (b : ℕ) (s : Slot) → length (s .ballot) ≡ b → length (bytesOfSlot s) ≡ slotBytes b
 unfolding bytesOfSlot
 slot-bytes b s e = omega (arith, size-is b)
@@ -114,7 +114,7 @@ unfolding goodBallot
 good-length k d xs e = eqb-true (length xs) (k * d)
     (and-first (eqb (length xs) (k * d)) (noReason (firstOf (ballotReasons (juryOfOne k d) xs))) e)
 
--- the slots of good ballots, and free ones, have ballots of one length
+-- slots of good ballots, and free slots, have ballots of b bytes
 ballots-sized : (k d b : ℕ) (es : List Entry) (slots : List Slot) → k * d ≡ b
     → all (λ (e : Entry). goodBallot k d (e .ballot)) es ≡ true → Sized b slots → Sized b (withBallots es slots)
 unfolding withBallots entrySlot

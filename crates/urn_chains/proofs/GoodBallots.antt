@@ -1,4 +1,4 @@
--- A juror's number, and a juror's ballot.
+-- The tests of a juror's number and of a juror's ballot.
 -- Assumes nothing.
 use mathlib.Core.Path.{_≡_, _∙_, refl, sym, ap}
 use mathlib.Core.Bool.{Bool, true, false, _&&_}
@@ -31,7 +31,7 @@ pub juror-most : (j : ℕ) → goodJuror j ≡ true → j < 256
 unfolding goodJuror
 juror-most j e = let l = leb-true j 255 (and-second (leb 1 j) (leb j 255) e) in omega arith
 
--- for a graded jury, the tests imply the length
+-- for a graded jury, a ballot that passes its tests has the right length
 pub no-reason : (o : Option Reason) → noReason o ≡ true → o ≡ none
 unfolding noReason
 no-reason none e = refl

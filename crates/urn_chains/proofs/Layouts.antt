@@ -1,4 +1,4 @@
--- The slots that two chains are written in, and what is read from them.
+-- Slots into which two chains are written, and the chains that are read from them.
 -- Assumes nothing.
 use mathlib.Core.Path.{_≡_, _∙_, refl, sym, ap}
 use mathlib.Core.Logic.{⊎-elim}
@@ -39,7 +39,7 @@ layout-length n b es is =
     ∙ free-length b is (replicate n (freeSlot b 0))
     ∙ length-replicate n (freeSlot b 0)
 
--- the ballots are linked where they were put, and free slots stay linked
+-- ballots are linked after they are written, and free slots stay linked
 put-linked : (n : ℕ) (es : List Entry) (slots : List Slot) → length slots ≡ n → all (inUrn n) (slotsIn es) ≡ true
     → distinct (slotsIn es) ≡ true → Linked (withBallots es slots) es
 unfolding withBallots
@@ -112,7 +112,7 @@ module _ (n b : ℕ) (es : List Entry) (is : List ℕ) (fit : Fit n es is) where
         fit .least,
       ))
 
-  -- no other slots hold these chains
+  -- only the slots of the layout hold these chains
   pub layout-unique : (S : List Slot) → length S ≡ n → slotAt S 0 ≡ headSlot b es is → Linked S es
       → FreeLinked b S is → S ≡ layout n b es is
   unfolding slotAt

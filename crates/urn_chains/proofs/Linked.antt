@@ -31,7 +31,7 @@ pub data FreeLinked (b : ℕ) (slots : List Slot) : List ℕ → Type 0 where
   none : FreeLinked b slots []
   more : {i : ℕ} {is : List ℕ} → slotAt slots i ≡ freeSlot b (firstFree is) → FreeLinked b slots is → FreeLinked b slots (i ∷ is)
 
--- one slot is written
+-- reading slots after one of them is written
 pub at-set : (slots : List Slot) (i : ℕ) (s : Slot) → i < length slots → slotAt (set slots i s) i ≡ s
 unfolding slotAt
 at-set slots i s h = getD-set-same slots i s _ h
@@ -40,7 +40,7 @@ pub at-other : (slots : List Slot) (i j : ℕ) (s : Slot) → j ≢ i → slotAt
 unfolding slotAt
 at-other slots i j s h = getD-set-other slots i j s _ h
 
--- what is not in a list is not its first
+-- a number that is not in a list is not its first
 pub not-first : (x y : ℕ) (ys : List ℕ) → member x (y ∷ ys) ≡ false → y ≢ x
 unfolding member
 not-first x y ys e q = let t = sym (or-first (eqb x y) (member x ys) (eq-eqb x y (sym q))) ∙ e in
@@ -64,7 +64,7 @@ free-set b slots x s [] h none = none
 free-set b slots x s (i ∷ is) h (more q l) =
     more (at-other slots x i s (not-first x i is h) ∙ q) (free-set b slots x s is (apart-rest x i is h) l)
 
--- the chain of slots that hold these ballots
+-- following the chain of slots that hold these ballots
 pub positive : (n i : ℕ) → inUrn n i ≡ true → 0 < i
 unfolding inUrn
 positive n i e = ltb-true 0 i (and-first (ltb 0 i) (ltb i n) e)
@@ -119,7 +119,7 @@ linked-entries slots (e ∷ es) (more q k) =
     ap (λ (s : Slot). record { slot = e .slot; juror = s .juror; ballot = s .ballot } ∷ map (entryAt slots) (slotsIn es)) q
     ∙ ap (λ (fs : List Entry). e ∷ fs) (linked-entries slots es k)
 
--- a chain that ends is held by its slots
+-- if a chain ends, its slots hold it
 pub first-read : (most i : ℕ) (slots : List Slot) → ends most i slots ≡ true → firstEntry (map (entryAt slots) (chain most i slots)) ≡ i
 unfolding chain ends firstEntry entryAt
 first-read zero i slots e = sym (eqb-true i 0 e)

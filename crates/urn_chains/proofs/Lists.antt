@@ -65,7 +65,7 @@ all-both p q (x ∷ xs) e f =
     and-both (p x && q x) (all (λ y. p y && q y) xs) (and-both (p x) (q x) (and-first (p x) (all p xs) e) (and-first (q x) (all q xs) f))
     (all-both p q xs (and-second (p x) (all p xs) e) (and-second (q x) (all q xs) f))
 
--- what holds for all holds for each
+-- a test that passes for a list passes for each member
 pub all-member : (p : ℕ → Bool) (i : ℕ) (is : List ℕ) → all p is ≡ true → member i is ≡ true → p i ≡ true
 unfolding all member
 all-member p i [] e m = let z : _≡_ {A = ℕ} 0 1 = cc in absurd (omega arith)
@@ -73,7 +73,7 @@ all-member p i (x ∷ is) e m =
     ⊎-elim (λ h. ap p (eqb-true i x h) ∙ and-first (p x) (all p is) e)
     (λ h. all-member p i is (and-second (p x) (all p is) e) h) (or-either (eqb i x) (member i is) m)
 
--- and what holds for each holds for all
+-- a test that passes for each member passes for the list
 pub member-all : (p : ℕ → Bool) (is : List ℕ) → ((i : ℕ) → member i is ≡ true → p i ≡ true) → all p is ≡ true
 unfolding all member
 member-all p [] f = refl
@@ -153,7 +153,7 @@ pub distinct-right : (xs ys : List ℕ) → distinct (xs ++ ys) ≡ true → dis
 distinct-right [] ys e = e
 distinct-right (x ∷ xs) ys e = distinct-right xs ys (distinct-rest x (xs ++ ys) e)
 
--- a test of all values of a function
+-- a test that passes for all values of a function passes for their table
 pub all-tabulate : {A : Type 0} (p : A → Bool) (n : ℕ) (f : ℕ → A) → ((i : ℕ) → i < n → p (f i) ≡ true) → all p (tabulate n f) ≡ true
 unfolding all tabulate
 all-tabulate p zero f h = refl

@@ -1,4 +1,4 @@
--- Marks: which numbers were met, and how many.
+-- Marks: which numbers were met, and how many of them.
 -- Assumes nothing.
 use mathlib.Core.Path.{_≡_, _∙_, refl, sym, ap}
 use mathlib.Core.Logic.{_⊎_, inl, inr, ⊎-elim}
@@ -61,7 +61,7 @@ true-or-false false = inr refl
 wider : (js : List ℕ) (m : List Bool) (x : ℕ) → all (λ y. ltb y (length m)) js ≡ true → all (λ y. ltb y (length (set m x true))) js ≡ true
 wider js m x e = all-weaken (λ y. ltb y (length m)) (λ y. ltb y (length (set m x true))) js (λ y q. ap (ltb y) (length-set m x true) ∙ q) e
 
--- a number that is marked already is not fresh
+-- numbers of which one is already marked are not fresh
 met-not-fresh : (is : List ℕ) (m : List Bool) (x : ℕ) → all (λ y. ltb y (length m)) is ≡ true → member x is ≡ true
     → getD m x false ≡ true → fresh is m ≡ false
 unfolding fresh member
@@ -157,7 +157,7 @@ trues-marked (x ∷ is) m h f =
     (and-second (not (getD m x false)) (fresh is (set m x true)) f) in
     omega (arith, trues-set m x l (not-true (getD m x false) (and-first (not (getD m x false)) (fresh is (set m x true)) f)))
 
--- marks of which the first is not set
+-- if the first mark is not set, not all marks are set
 first-missing : (m : List Bool) → 0 < length m → getD m 0 false ≡ false → trues m < length m
 unfolding trues
 first-missing [] h e = absurd (omega arith)
@@ -178,7 +178,8 @@ set-others [] h e q i l = absurd (omega arith)
 set-others (true ∷ m) h e q i l = let z : _≡_ {A = ℕ} 0 1 = cc in absurd (omega arith)
 set-others (false ∷ m) h e q i l = all-trues m (omega arith) i (omega arith)
 
--- Numbers from 1 to below n without repetition: there are at most n − 1, and exactly that many if they are all.
+-- Numbers from 1 to n − 1 without repetition: there are at most n − 1 of them, and exactly n − 1 if none is
+-- missing.
 module _ (n : ℕ) (is : List ℕ) (p : 0 < n) (inside : all (inUrn n) is ≡ true) (once : distinct is ≡ true) where
   below : all (λ x. ltb x (length (replicate n false))) is ≡ true
   unfolding inUrn

@@ -18,8 +18,8 @@ use Rattle.urn_chains.proofs.Lists.{all-first, all-rest}
 use Rattle.urn_chains.proofs.Linked.{below}
 use Rattle.urn_chains.proofs.Walks.{chain-step, chain-end}
 
--- The search after `count` slots, the last of which is `before`, about to look at `slot`: searching the rest is
--- searching all.
+-- The search after `count` slots, of which `before` is the last, about to look at `slot`: the search in the rest
+-- finds what the search in the whole chain finds.
 pub record OnFind (slots : List Slot) (n first juror before count slot : ℕ) : Type 0 where
   pub within : count ≤ n
   pub rest : positionOf slots juror before (chain (n - count) slot slots) ≡ positionOf slots juror 0 (chain n first slots)

@@ -1,4 +1,4 @@
--- A look at one slot, by its bytes.
+-- What a look at one slot answers, from the slot's bytes.
 -- Assumes nothing.
 use mathlib.Core.Path.{_≡_, _∙_, sym, ap}
 use mathlib.Core.Bool.{Bool, true, false, _&&_}
@@ -51,7 +51,7 @@ module _ (b n : ℕ) (urn : List ℕ) (i : ℕ) (p : 0 < i) where
   unfolding freeAt emptySlot
   free-by-bytes h e = rw (slots-length b n urn, in-urn n i p h, juror-is b n urn i h, ballot-is b n urn i h e)
 
--- a good ballot's slot and juror are numbers with marks
+-- the slot and the juror of a good ballot are small enough to have marks
 pub ballot-below : (k d : ℕ) (slots : List Slot) (i : ℕ) → ballotAt k d slots i ≡ true → i < length slots
 unfolding ballotAt inUrn
 ballot-below k d slots i e =

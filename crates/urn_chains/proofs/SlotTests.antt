@@ -1,4 +1,4 @@
--- The test of an urn's slots by its bytes.
+-- The test of an urn's slots, from its bytes.
 -- Assumes nothing.
 use mathlib.Core.Path.{_≡_, _∙_, refl, sym, ap}
 use mathlib.Core.Logic.{⊎-elim}
@@ -62,7 +62,7 @@ module _ (b n : ℕ) (urn : List ℕ) (t : SlotTable b n urn) where
   unfolding ballotChain
   count-by-bytes = length-map (ballotSlots (slotsOf b n urn)) (entryAt (slotsOf b n urn)) ∙ ap length slots-by-bytes
 
--- What the code's tests find.
+-- What the program's tests find.
 pub record Tests (k d n : ℕ) (urn : List ℕ) : Type 0 where
   pub head : allZero (take (k * d) (drop 2 urn)) ≡ true
   pub ballots : ballotsFrom k d (slotsOf (k * d) n urn) n (getD urn 0 0) noMarks noMarks ≡ true
@@ -122,7 +122,7 @@ module _ (k d n : ℕ) (urn : List ℕ) (t : SlotTable (k * d) n urn) where
         );
       }
 
--- what the number of slots says about the length
+-- the program's number of slots is 0 exactly if no urn has that length
 module _ (t : Bool) (count r : ℕ) (is : r ≡ cond t count 0) where
   pub counted-false : r ≡ 0 → (t ≡ true → 2 ≤ count) → t ≡ false
   counted-false e f = never-true t (λ h. let q = is ∙ ap (λ (u : Bool). cond u count 0) h in let l = f h in omega arith)
@@ -138,7 +138,7 @@ unfolding juryOfOne
 few-bytes k d h = let w = within-T (juryOfOne k d) h in let l =
     mul-le-mul {n₁ = k} {m₁ = d} {n₂ = 8} {m₂ = 7} (w .k-most) (w .d-most) in omega arith
 
--- an urn of such a length is a table of slots
+-- bytes with the length of an urn are a table of slots
 pub table : (b : ℕ) (urn : List ℕ) (n : ℕ) → b ≤ 56 → urnLength b (length urn) ≡ true → n ≡ slotCount b (length urn) → SlotTable b n urn
 table b urn n f e q =
     record {

@@ -43,7 +43,7 @@ pub record Parts (k d : ℕ) (slots : List Slot) : Type 0 where
   pub head : allZero (slotAt slots 0 .ballot) ≡ true
   pub empty : all (λ i. emptySlot (slotAt slots i)) (freeChain slots) ≡ true
 
--- the same test over the slots of the chains
+-- the test of the chains, stated about their slots
 chains-by-slots : (k d : ℕ) (slots : List Slot) →
     goodChains k d (length slots) (ballotChain slots) (freeChain slots)
     ≡ (eachOnce (length slots) (ballotSlots slots ++ freeChain slots)
@@ -106,7 +106,7 @@ pub parts-sound : (k d : ℕ) (slots : List Slot) → Parts k d slots → soundS
 unfolding soundSlots
 parts-sound k d slots p = rw (p .ballots-end, p .free-end, chains-true k d slots p, p .head, p .empty)
 
--- What the walks and the other two tests find.
+-- What the two walks and the other two tests find.
 pub record Found (k d : ℕ) (slots : List Slot) : Type 0 where
   pub head : allZero (slotAt slots 0 .ballot) ≡ true
   pub ballots : ballotsFrom k d slots (length slots) (slotAt slots 0 .next) noMarks noMarks ≡ true

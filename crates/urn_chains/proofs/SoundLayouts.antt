@@ -28,7 +28,7 @@ module _ (k d b : ℕ) (S : List Slot) (least : 2 ≤ length S) (p : Parts k d S
   unfolding ballotChain ballotSlots
   held = chain-linked (length S) (slotAt S 0 .next) S (p .ballots-end)
 
-  -- a free slot holds only the next one's index
+  -- a free slot holds only the index of the next slot
   free-slot : (i : ℕ) → member i (freeChain S) ≡ true → slotAt S i ≡ freeSlot b (slotAt S i .next)
   unfolding emptySlot freeSlot
   free-slot i m =
@@ -83,7 +83,7 @@ module _ (k d b : ℕ) (S : List Slot) (least : 2 ≤ length S) (p : Parts k d S
   pub sound-layout : S ≡ layout (length S) b (ballotChain S) (freeChain S)
   sound-layout = layout-unique (length S) b (ballotChain S) (freeChain S) fits S refl head-is held held-free
 
--- What makes chains good, as facts.
+-- Good chains, as facts.
 pub record Good (k d n : ℕ) (es : List Entry) (is : List ℕ) : Type 0 where
   pub fit : Fit n es is
   pub jurors : all (λ (e : Entry). goodJuror (e .juror)) es ≡ true

@@ -16,7 +16,7 @@ use Rattle.urn_chains.specs.declared.walk.SlotCheck.the-variants.{Sound,
 use Rattle.urn_chains.specs.inner.Walk.{Walked, noMarks, markAll, fresh, jurorsAt, looked, ballotAt, freeAt, ballotsFrom, freeFrom}
 use Rattle.basics.proofs.Cases.{below-or-not}
 
--- a slot that is met first
+-- a chain from slot i on: first slot i, then the rest
 pub chain-step : (most i : ℕ) (slots : List Slot) → 0 < most → 0 < i → chain most i slots
     ≡ i ∷ chain (most - 1) (slotAt slots i .next) slots
 unfolding chain
@@ -52,7 +52,7 @@ pub ends-never : (i : ℕ) (slots : List Slot) → 0 < i → ends 0 i slots ≡ 
 unfolding ends
 ends-never i slots h = ne-eqb i 0 (λ e. omega arith)
 
--- what a look says
+-- what the answer of a look says about the slot
 pub looked-well : (t : Bool) (s : Slot) (j n : ℕ) → looked t s ≡ Sound j n → (t ≡ true) × (j ≡ s .juror) × (n ≡ s .next)
 unfolding looked
 looked-well true s j n e = (refl, cc, cc)
@@ -102,7 +102,8 @@ pub ballots-end : (k d : ℕ) (slots : List Slot) (most : ℕ) (marks jurors : L
 unfolding ballotsFrom jurorsAt all fresh
 ballots-end k d slots most marks jurors = rw (ends-end most slots, chain-end most slots)
 
--- The walk along the ballot chain after `count` slots, about to look at `slot`: walking the rest is walking all.
+-- The walk along the ballot chain after `count` slots, about to look at `slot`: the walk along the rest finds what
+-- the walk along the whole chain finds.
 pub record OnBallots (k d : ℕ) (slots : List Slot) (n first : ℕ) (marks jurors : List Bool) (count slot : ℕ) : Type 0 where
   pub within : count ≤ n
   pub marks-size : length marks ≡ 256
@@ -127,7 +128,7 @@ pub ballots-start : (k d : ℕ) (slots : List Slot) (n first slot : ℕ) → slo
 ballots-start k d slots n first slot e =
     subst (λ (i : ℕ). OnBallots k d slots n first noMarks noMarks 0 i) (sym e) (ballots-begin k d slots n first)
 
--- the slots of a chain marked, and counted, from one slot on
+-- marking, and counting, the slots of a chain from one slot on
 mark-step : (n count slot : ℕ) (slots : List Slot) (marks : List Bool) → count < n → 0 < slot →
     markAll (chain (n - count) slot slots) marks ≡ markAll (chain (n - (count + 1)) (slotAt slots slot .next) slots) (set marks slot true)
 unfolding markAll
@@ -223,7 +224,7 @@ free-end : (slots : List Slot) (most : ℕ) (marks : List Bool) → freeFrom slo
 unfolding freeFrom all fresh
 free-end slots most marks = rw (ends-end most slots, chain-end most slots)
 
--- The walk along the free chain in the same way, with the slots marked in `met`.
+-- The same for the walk along the free chain, which begins with the marks `met`.
 pub record OnFree (slots : List Slot) (n first : ℕ) (met marks : List Bool) (count slot : ℕ) : Type 0 where
   pub within : count ≤ n
   pub marks-size : length marks ≡ 256

@@ -22,7 +22,7 @@ zero-here xs i h n = zero-step xs i h ∙ ap (λ (t : Bool). t && allZero (drop 
 pub zero-later : (xs : List ℕ) (i : ℕ) → i < length xs → getD xs i 0 ≡ 0 → allZero (drop i xs) ≡ allZero (drop (suc i) xs)
 zero-later xs i h e = zero-step xs i h ∙ ap (λ (t : Bool). t && allZero (drop (suc i) xs)) (eq-eqb (getD xs i 0) 0 e)
 
--- bytes are all 0 exactly if they are zeros
+-- `allZero` holds exactly for lists of zeros
 pub zeros-zero : (n : ℕ) → allZero (replicate n 0) ≡ true
 unfolding all allZero
 zeros-zero zero = refl

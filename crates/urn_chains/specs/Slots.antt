@@ -3,8 +3,8 @@ use mathlib.Core.List.{List, [], _∷_, _++_}
 use Prim.Native.Nat.{ℕ, zero, suc, _+_}
 use lib.ListN.{getD, take, drop, replicate}
 
--- A slot: the index of the next slot in its chain (0 at the end), the juror, the ballot [urn]. In slot 0, `next` is
--- the first slot of the ballot chain and `juror` the first of the free chain.
+-- A slot: the index of the next slot in its chain (0 at the end), the juror, the ballot [urn]. Slot 0 is different:
+-- its `next` is where the ballot chain begins, and its `juror` is where the free chain begins.
 pub record Slot : Type 0 where
   pub next : ℕ
   pub juror : ℕ
@@ -14,11 +14,11 @@ pub record Slot : Type 0 where
 unfoldable pub slotBytes : ℕ → ℕ
 slotBytes b = 2 + b
 
--- The slot that these bytes make.
+-- The slot in these bytes.
 unfoldable pub slotOf : List ℕ → Slot
 slotOf bytes = record { next = getD bytes 0 0; juror = getD bytes 1 0; ballot = drop 2 bytes }
 
--- The first n slots of an urn.
+-- The first n slots of an urn, for ballots of b bytes.
 unfoldable pub slotsOf : ℕ → ℕ → List ℕ → List Slot
 slotsOf b zero urn = []
 slotsOf b (suc n) urn = slotOf (take (slotBytes b) urn) ∷ slotsOf b n (drop (slotBytes b) urn)
@@ -31,7 +31,7 @@ unfoldable pub bytesOf : List Slot → List ℕ
 bytesOf [] = []
 bytesOf (s ∷ slots) = bytesOfSlot s ++ bytesOf slots
 
--- Slot i; past the last it is empty.
+-- Slot i; past the last slot, a slot of zeros without a ballot.
 unfoldable pub slotAt : List Slot → ℕ → Slot
 slotAt slots i = getD slots i (record { next = 0; juror = 0; ballot = [] })
 

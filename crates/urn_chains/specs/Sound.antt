@@ -1,4 +1,5 @@
--- When an urn is sound. Every test here ends, whatever the bytes.
+-- When an urn is sound. A chain is followed for at most as many slots as there are, so a chain that never ends is
+-- found.
 use mathlib.Core.Bool.{Bool, true, false, _&&_}
 use mathlib.Core.Option.{Option, none, some}
 use mathlib.Core.List.{List, _++_, map}
@@ -24,7 +25,7 @@ unfoldable pub noReason : Option Reason → Bool
 noReason none = true
 noReason (some r) = false
 
--- k and d are those of a graded jury. A ranking, which has no grades, is none.
+-- k and d are within the limits of a graded jury. Rankings have no urn.
 abbrev pub gradedShape : ℕ → ℕ → Bool
 gradedShape k d = gradedLimits (juryOfOne k d)
 
@@ -36,16 +37,16 @@ goodBallot k d ballot = eqb (length ballot) (k * d) && noReason (firstOf (ballot
 unfoldable pub goodJuror : ℕ → Bool
 goodJuror juror = leb 1 juror && leb juror 255
 
--- Whether i is one of the slots from 1 on, where n slots are counted with slot 0.
+-- Whether i is one of the slots 1 to n − 1. An urn of n slots has these and slot 0.
 unfoldable pub inUrn : ℕ → ℕ → Bool
 inUrn n i = ltb 0 i && ltb i n
 
--- Each slot from 1 on is among these, none twice.
+-- The list has each of the slots 1 to n − 1 exactly once, and nothing else.
 unfoldable pub eachOnce : ℕ → List ℕ → Bool
 eachOnce n is = all (inUrn n) is && distinct is && all (λ i. member i is) (tabulate (n - 1) suc)
 
--- Good chains of an urn of n slots: each slot from 1 on is in one of them, once; jurors are numbered 1 to 255, none
--- twice; ballots are good.
+-- The ballot chain es and the free chain `is` are good for an urn of n slots: each slot from 1 on is in exactly one
+-- of them, and only once; jurors are numbered 1 to 255, none twice; ballots are good.
 unfoldable pub goodChains : ℕ → ℕ → ℕ → List Entry → List ℕ → Bool
 goodChains k d n es is =
     eachOnce n (map (λ e. e .slot) es ++ is)
@@ -60,7 +61,8 @@ allZero bytes = all (λ x. eqb x 0) bytes
 unfoldable pub emptySlot : Slot → Bool
 emptySlot s = eqb (s .juror) 0 && allZero (s .ballot)
 
--- Both chains end and are good; slot 0 has zeros after its two indexes, and a free slot after its index [urn-sound].
+-- Both chains end and are good; slot 0 has zeros after its two indexes, and each free slot after its one
+-- [urn-sound].
 unfoldable pub soundSlots : ℕ → ℕ → List Slot → Bool
 soundSlots k d slots =
     ends (length slots) (slotAt slots 0 .next) slots
@@ -69,11 +71,11 @@ soundSlots k d slots =
     && allZero (slotAt slots 0 .ballot)
     && all (λ i. emptySlot (slotAt slots i)) (freeChain slots)
 
--- The number of slots in that many bytes, for ballots of b bytes.
+-- The number of slots in `bytes` bytes, if a ballot has b bytes.
 unfoldable pub slotCount : ℕ → ℕ → ℕ
 slotCount b bytes = bytes / slotBytes b
 
--- Whether this is the length of an urn: 2 to 256 slots.
+-- Whether an urn can have this length: 2 to 256 slots, and nothing after them.
 unfoldable pub urnLength : ℕ → ℕ → Bool
 urnLength b bytes = eqb (bytes % slotBytes b) 0 && leb 2 (slotCount b bytes) && leb (slotCount b bytes) 256
 
@@ -81,12 +83,14 @@ urnLength b bytes = eqb (bytes % slotBytes b) 0 && leb 2 (slotCount b bytes) && 
 unfoldable pub urnSlots : ℕ → ℕ → List ℕ → List Slot
 urnSlots k d urn = slotsOf (k * d) (slotCount (k * d) (length urn)) urn
 
+-- Whether these bytes are a sound urn for k candidates and d grades.
 unfoldable pub sound : ℕ → ℕ → List ℕ → Bool
 sound k d urn = urnLength (k * d) (length urn) && soundSlots k d (urnSlots k d urn)
 
--- The ballots of an urn in chain order, and its free slots.
+-- The ballots of an urn in chain order.
 abbrev pub entriesOf : ℕ → ℕ → List ℕ → List Entry
 entriesOf k d urn = ballotChain (urnSlots k d urn)
 
+-- The free slots of an urn in chain order.
 abbrev pub freeOf : ℕ → ℕ → List ℕ → List ℕ
 freeOf k d urn = freeChain (urnSlots k d urn)

@@ -1,5 +1,5 @@
--- An urn is sound exactly if it is the layout of two good chains, and these are unique. So nobody has to believe the
--- walk along the chains that `sound` describes.
+-- An urn is sound exactly if it is the layout of two good chains, and these are unique. So a reader can believe
+-- `layout` and `goodChains`, and need not follow how `sound` reads the chains.
 use mathlib.Core.Path.{_≡_}
 use mathlib.Core.Logic.{_↔_}
 use mathlib.Core.Bool.{true}
@@ -9,17 +9,18 @@ use Rattle.urn_chains.specs.Slots.{bytesOf}
 use Rattle.urn_chains.specs.Chains.{Entry, layout}
 use Rattle.urn_chains.specs.Sound.{goodChains, entriesOf, freeOf, sound}
 
--- The urn is the layout of these ballots and these free slots, which are good chains of n slots.
+-- The urn is the layout, in n slots, of the ballot chain es and the free chain `is`, and both are good.
 pub record LaidOut (k d n : ℕ) (es : List Entry) (is : List ℕ) (urn : List ℕ) : Type 0 where
   pub least : 2 ≤ n
   pub most : n ≤ 256
   pub good : goodChains k d n es is ≡ true
   pub bytes : urn ≡ bytesOf (layout n (k * d) es is)
 
+-- A sound urn is the layout of good chains, and a layout of good chains is sound.
 pub record SoundIsLaidOut : Type 0 where
   pub exactly : (k d : ℕ) (urn : List ℕ)
       → (sound k d urn ≡ true) ↔ ((n : ℕ) × (es : List Entry) × (is : List ℕ) × LaidOut k d n es is urn)
-  -- reading the chains gives those that were written
+  -- reading the chains of the urn gives es and `is`
   pub read-ballots : (k d n : ℕ) (es : List Entry) (is urn : List ℕ) → LaidOut k d n es is urn → entriesOf k d urn ≡ es
   pub read-free : (k d n : ℕ) (es : List Entry) (is urn : List ℕ) → LaidOut k d n es is urn → freeOf k d urn ≡ is
   -- no other number of slots, ballots or free slots gives this urn

@@ -1,4 +1,4 @@
--- What the functions of this crate ask of each other; no entry point's contract needs it.
+-- What the functions of this crate require of each other; no entry point's contract needs it.
 pub mod Table
 pub mod Walk
 pub mod Position

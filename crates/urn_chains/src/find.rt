@@ -6,13 +6,13 @@ ghost use Rattle.urn_chains.specs.Slots.{slotsOf};
 ghost use Rattle.urn_chains.specs.Chains.{chain};
 ghost use Rattle.urn_chains.specs.inner.Position.{Searchable, positionOf};
 
-// A ballot's slot and the slot before it in the ballot chain, which is slot 0 for the first ballot.
+// A ballot's slot, and the slot before it in the ballot chain. Slot 0 comes before the first ballot.
 pub enum ChainPosition {
     Found { before: usize, slot: usize },
     Absent,
 }
 
-// Looks for the juror's ballot along the ballot chain. A ballot has `bytes` bytes.
+// Searches the ballot chain for the juror's ballot. A ballot has `bytes` bytes.
 pub fn find(urn: &[u8], bytes: usize, slots: usize, juror: usize) -> ChainPosition
     requires { ⌜ Searchable bytes slots (now urn) ⌝ }
     ensures { λ r. ⌜ r ≡ positionOf (slotsOf bytes slots (now (urn .entry))) juror 0

@@ -20,7 +20,7 @@ pub enum Soundness {
     Unsound,
 }
 
-// How many slots `length` bytes make, with ballots of `bytes` bytes; 0 if no urn has that length.
+// How many slots `length` bytes are, if a ballot has `bytes` bytes; 0 if no urn has that length.
 pub fn slots_in(bytes: usize, length: usize) -> usize
     requires { ⌜ bytes ≤ 56 ⌝ }
     ensures { λ r. ⌜ r ≡ cond (urnLength bytes length) (slotCount bytes length) 0 ⌝ }
@@ -39,8 +39,8 @@ pub fn slots_in(bytes: usize, length: usize) -> usize
     slots
 }
 
-// Tests slot 0 and both chains of an urn of the right length. No slot is in both chains, so all slots are in one if
-// the chains together have as many as there are.
+// Tests slot 0 and both chains of an urn of the right length. No slot is in both chains; so if the chains together
+// have as many slots as there are from 1 on, none is left out.
 fn test_slots(k: usize, d: usize, urn: &[u8], slots: usize) -> Soundness
     requires { ⌜ GradedTable k d slots (now urn) ⌝ }
     ensures { λ r. ⌜ r ≡ soundness (soundSlots k d (slotsOf (k * d) slots (now (urn .entry))))

@@ -13,20 +13,21 @@ ghost use Rattle.urn_chains.specs.Sound.{gradedShape, goodJuror, goodBal
 ghost use Rattle.urn_chains.specs.inner.Table.{SlotTable, GradedTable};
 ghost use Rattle.urn_chains.specs.inner.Walk.{BallotLook, FreeLook, Walked, noMarks, looked, ballotAt, freeAt, ballotsFrom, freeFrom};
 
-// What a walk along a chain found: whether all is well and, if so, the slots met so far and the length of this chain.
+// What a walk along a chain found: whether all is well and, if so, marks for all slots met so far and the chain's
+// length.
 pub struct Walk {
     pub good: bool,
     pub marks: [bool; 256],
     pub count: usize,
 }
 
-// What a look at one slot of a chain finds: its juror and the next slot's index, if the slot is sound.
+// What a look at one slot of a chain finds: its juror and the index of the next slot, if the slot is sound.
 pub enum SlotCheck {
     Sound { juror: usize, next: usize },
     Wrong,
 }
 
-// Whether all bytes are 0. It looks at each of them: a loop that may end at any byte cannot be vectorised.
+// Whether all bytes are 0. The loop always looks at all of them: one that could end early could not be vectorised.
 pub fn is_zero(bytes: &[u8]) -> bool
     ensures { λ r. ⌜ r ≡ allZero (now (bytes .entry)) ⌝ }
 {
@@ -41,8 +42,8 @@ pub fn is_zero(bytes: &[u8]) -> bool
     zero
 }
 
-// Whether a slot of the ballot chain holds a juror's number and a good ballot. A byte is at most 255, so only 0 is no
-// juror's number.
+// Whether a slot of the ballot chain holds a juror's number and a good ballot. Jurors are 1 to 255, so the only
+// other byte is 0.
 fn holds_ballot(k: usize, d: usize, juror: u8, ballot: &[u8]) -> bool
     requires { ⌜ T (gradedShape k d) ⌝ }
     ensures { λ r. ⌜ r ≡ (goodJuror juror && goodBallot k d (now (ballot .entry))) ⌝ }
@@ -110,7 +111,7 @@ fn look_at_free(urn: &[u8], bytes: usize, slots: usize, slot: usize) -> SlotChec
     }
 }
 
-// Walks along the ballot chain. A chain that has not ended after as many slots as there are never ends.
+// Walks along the ballot chain. A chain that has not ended after as many slots as there are will never end.
 pub fn walk_ballots(urn: &[u8], k: usize, d: usize, slots: usize) -> Walk
     requires { ⌜ GradedTable k d slots (now urn) ⌝ }
     ensures { λ r. ⌜ Walked
@@ -163,7 +164,7 @@ pub fn walk_ballots(urn: &[u8], k: usize, d: usize, slots: usize) -> Walk
     }
 }
 
-// Walks along the free chain in the same way, with the slots that were met before.
+// Walks along the free chain in the same way. `met` has marks for the slots of the ballot chain.
 pub fn walk_free(urn: &[u8], bytes: usize, slots: usize, met: [bool; 256]) -> Walk
     requires { ⌜ SlotTable bytes slots (now urn) ⌝ }
     ensures { λ r. ⌜ Walked

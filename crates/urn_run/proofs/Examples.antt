@@ -1,4 +1,4 @@
--- The pair of urns computes: each is sound, and the runs are those on their chains' ballots.
+-- The example of two urns: each is sound, and the runs are those on their chains' ballots.
 -- Assumes nothing.
 use mathlib.Core.Path.{_≡_, _∙_, refl, ap}
 use mathlib.Core.Bool.{true}

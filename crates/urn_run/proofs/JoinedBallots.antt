@@ -1,4 +1,4 @@
--- Good ballots of juries of one, one after another, are good ballots of a jury of as many.
+-- Good ballots of juries of one, joined together, are good ballots of a jury with that many jurors.
 -- Assumes nothing.
 use mathlib.Core.Path.{_≡_, _∙_, sym, ap, subst}
 use mathlib.Core.Logic.{⊎-elim}
@@ -33,7 +33,7 @@ pub record Good (k d m : ℕ) (xs : List ℕ) : Type 0 where
   pub bits : (i : ℕ) → getD xs i 0 ≤ 1
   pub rows : (r : ℕ) → r < m * k → ones (take d (drop (r * d) xs)) ≡ 1
 
--- no ballots
+-- the empty list is 0 good ballots
 pub good-none : (k d : ℕ) → Good k d 0 []
 good-none k d =
     record {
@@ -46,7 +46,7 @@ good-none k d =
     nothing zero = omega arith
     nothing (suc i) = omega arith
 
--- ballots after ballots
+-- good ballots joined with good ballots
 module _ (k d m n : ℕ) (xs ys : List ℕ) (g : Good k d m xs) (h : Good k d n ys) where
   both-bits : (i : ℕ) → getD (xs ++ ys) i 0 ≤ 1
   both-bits i =
@@ -102,7 +102,7 @@ good-one k d x w e =
       rows = b .rows;
     }
 
--- the ballots in these slots
+-- the joined ballots of these slots are good
 pub good-along : (k d : ℕ) (S : List Slot) (is : List ℕ) → gradedLimits (juryOfOne k d) ≡ true
     → all (λ i. goodBallot k d (slotAt S i .ballot)) is ≡ true
     → Good k d (length is) (joinedBallots (map (entryAt S) is))
@@ -115,7 +115,7 @@ good-along k d S (i ∷ is) w e =
     subst (λ (m : ℕ). Good k d m (x ++ rest)) {x = 1 + length is} {y = suc (length is)} (omega arith)
     (good-both k d 1 (length is) x rest (good-one k d x w (all-first p i is e)) (good-along k d S is w (all-rest p i is e)))
 
--- good ballots, as many as n says, are accepted
+-- n good ballots are accepted
 pub good-accepted : (s : Shape) (xs : List ℕ) → gradedLimits s ≡ true
     → Good (s .candidates) (s .grades) (s .ballots) xs → AcceptedBallots s xs
 good-accepted s xs w g =

@@ -52,7 +52,8 @@ pub along-step : (S : List Slot) (i : ℕ) (is : List ℕ) → along S (i ∷ is
 unfolding joinedBallots entryAt
 along-step S i is = refl
 
--- The table after `count` ballots, with `slot` next: writing the rest after them is writing all from the start.
+-- The wire table after `count` ballots, with `slot` as the next slot: writing the rest after them gives the table
+-- that writing all from the start gives.
 pub record OnLoad (S : List Slot) (n b size : ℕ) (final ws : List ℕ) (count slot : ℕ) : Type 0 where
   pub within : count ≤ n
   pub goes : ends (n - count) slot S ≡ true
@@ -78,7 +79,7 @@ load-start S n b first slot ws e g i r =
 
 module _ (S : List Slot) (n b size : ℕ) (final ws : List ℕ) (count slot : ℕ) (on : OnLoad S n b size final ws count slot) where
   module _ (p : 0 < slot) where
-    -- a chain that goes on has not met all slots
+    -- if the chain goes on, not all slots were met
     pub more : count < n
     more =
         let t : ends 0 slot S ≡ false = ends-never slot S p in
@@ -140,7 +141,7 @@ module _ (S : List Slot) (n b size : ℕ) (final ws : List ℕ) (count slot : �
       let none : chain (n - count) slot S ≡ [] = ap (λ (i : ℕ). chain (n - count) i S) e ∙ chain-end (n - count) S in
       sym (ap (λ (is : List ℕ). sets ws (count * b) (along S is)) none) ∙ on .left
 
--- a sound urn, by its bytes
+-- facts about a sound urn, from its bytes
 module _ (k d : ℕ) (urn : List ℕ) (w : T (gradedLimits (juryOfOne k d))) (e : sound k d urn ≡ true) where
   pub its-end : ends (slotCount (k * d) (length urn)) (getD urn 0 0) (slotsOf (k * d) (slotCount (k * d) (length urn)) urn) ≡ true
   unfolding urnSlots
@@ -159,7 +160,7 @@ module _ (k d : ℕ) (urn : List ℕ) (w : T (gradedLimits (juryOfOne k d))) (e 
       let n = slotCount (k * d) (length urn) in
       ap (along (slotsOf (k * d) n urn)) (slots-by-bytes (k * d) n urn (its-table k d urn w e))
 
-  -- the bytes of a slot's ballot
+  -- a slot's ballot has k times d bytes
   pub ballot-size : (i : ℕ) → i < slotCount (k * d) (length urn)
       → length (slotAt (slotsOf (k * d) (slotCount (k * d) (length urn)) urn) i .ballot) ≡ k * d
   unfolding slotBytes

@@ -1,4 +1,4 @@
--- The reasons of a run on an urn: what their order answers, and what is known if none applies.
+-- The reasons of a run on an urn: which of them is the first, and what holds if none applies.
 -- Assumes nothing.
 use mathlib.Core.Path.{_≡_, _∙_, refl, sym, ap, subst}
 use mathlib.Core.Logic.{⊎-elim, _≢_}
@@ -36,7 +36,7 @@ use Rattle.urn_chains.proofs.SoundLayouts.{its-parts}
 use Rattle.urn_run.specs.Run.{joinedBallots, chainBallots, ballotsIn, urnRunReasons, urnRunResult}
 use Rattle.urn_run.proofs.JoinedBallots.{Good, good-along, good-accepted}
 
--- the first reason of tests in order
+-- the first reason: that of the first test, else that of the others
 first-cons : (x : Option Reason) (xs : List (Option Reason)) → firstOf (x ∷ xs) ≡ orElse x (firstOf xs)
 unfolding firstOf orElse
 first-cons none xs = refl
@@ -50,7 +50,7 @@ or-assoc (some r) y z = refl
 unfoldable pub firstOnUrn : Bool → Bool → Option Reason → Option Reason → Option Reason → Option Reason
 firstOnUrn graded isSound list number lent = orElse (unless graded 1) (orElse (unless isSound 13) (orElse list (orElse number lent)))
 
--- a graded shape
+-- facts about a graded shape
 module _ (s : Shape) (g : gradedLimits s ≡ true) where
   pub whole-within : withinLimits s ≡ true
   whole-within = graded-within s g
@@ -73,7 +73,7 @@ module _ (s : Shape) (g : gradedLimits s ≡ true) where
   pub one-T : T (gradedLimits (juryOfOne (s .candidates) (s .grades)))
   one-T = true-T (gradedLimits (juryOfOne (s .candidates) (s .grades))) one-within
 
-  -- of the tests of a list, those of its gates decide
+  -- the shape is within its limits, so the test of a list depends only on its gates
   pub list-first : (table : List ℕ) → firstOf (testReasons s table) ≡ listReason (tested (ballotBytes s) (s .candidates) table)
   unfolding testReasons unless
   list-first table =
@@ -113,7 +113,7 @@ module _ (s : Shape) (g : gradedLimits s ≡ true) where
         n (eq-of-mul-eq-mul-right (k * d) p (ballotsIn k d urn) (s .ballots)
         (sym (chain-good .size) ∙ q ∙ bytes-are s w ∙ mul-assoc (s .ballots) k d))
 
-    -- so of the tests of ballots only 4 can apply, and does if n is not their number
+    -- so of the reasons of ballots only 4 can apply, and it applies if n is not the number of ballots
     four : (xs : List ℕ) → length xs ≢ ballotBytes s → firstOf (ballotReasons s xs) ≡ some (reasonAt 4 0)
     unfolding judged unless firstOf
     four xs n = judged-by s xs false (firstAboveOne 0 xs) (kindReason s xs) (ne-eqb (length xs) (ballotBytes s) n) refl refl
@@ -139,7 +139,7 @@ module _ (s : Shape) (table urn tape wires board : List ℕ) where
   unfolding urnRunReasons firstOnUrn
   urn-first = simp first-cons
 
-  -- the answer by the first test that applies
+  -- the first reason that applies, in each case
   pub by-1 : gradedLimits s ≡ false → firstOf (urnRunReasons s table urn tape wires board) ≡ some (reasonAt 1 0)
   unfolding firstOnUrn orElse unless
   by-1 g = urn-first ∙ rw g
@@ -201,7 +201,7 @@ module _ (s : Shape) (table urn tape wires board : List ℕ) where
           ap (λ (r : Option Reason). runResultAfter r s (gatesOf table) xs tape wires board) same-reasons
           ∙ sym (ran-by s table xs tape wires board o refl)
 
-  -- what a call leaves, by its first reason
+  -- what a call leaves, given its first reason
   pub ran-on-urn-by : (o : Option Reason) → firstOf (urnRunReasons s table urn tape wires board) ≡ o
       → urnRunResult s table urn tape wires board
       ≡ runResultAfter o s (gatesOf table) (chainBallots (s .candidates) (s .grades) urn) tape wires board
@@ -209,7 +209,7 @@ module _ (s : Shape) (table urn tape wires board : List ℕ) where
   ran-on-urn-by o e = ap (λ (r : Option Reason). runResultAfter r s (gatesOf table)
       (chainBallots (s .candidates) (s .grades) urn) tape wires board) e
 
-  -- what an accepted run on an urn has passed
+  -- the tests that an accepted run on an urn has passed, as facts
   pub record UrnRunPassed : Type 0 where
     pub graded : gradedLimits s ≡ true
     pub isSound : sound (s .candidates) (s .grades) urn ≡ true
@@ -244,7 +244,7 @@ module _ (s : Shape) (table urn tape wires board : List ℕ) where
     pub chain-room : length (chainBallots (s .candidates) (s .grades) urn) ≤ length wires
     chain-room = omega (arith, chain-length, p .run .wiresLength)
 
-    -- what the evaluation asks once they are there
+    -- after the ballots are loaded, the evaluation has what it requires
     pub finish-ready : (loaded : List ℕ) → length loaded ≡ length wires
         → FinishReady (ballotBytes s) table (s .candidates) tape loaded board
     finish-ready loaded l =
@@ -270,7 +270,7 @@ module _ (s : Shape) (table urn tape wires board : List ℕ) where
         let xs = chainBallots (s .candidates) (s .grades) urn in
         omega (arith, ap length q, length-append xs (drop (length xs) wires), length-drop (length xs) wires, chain-room)
 
--- for a shape outside the limits
+-- a shape outside the limits gives 1, and nothing changes
 pub outside-urn-run : (s : Shape) → withinLimits s ≡ false → (table urn tape wires board : List ℕ)
     → urnRunResult s table urn tape wires board ≡ record { answer = refused (reasonAt 1 0); wires = wires; board = board }
 unfolding runResultAfter

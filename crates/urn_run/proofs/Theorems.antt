@@ -30,14 +30,14 @@ use Rattle.urn_run.specs.Run.{urnRunReasons, urnRunResult}
 use Rattle.urn_run.specs.Theorems.{ballotsFor, SameAsRun, UrnRunMemory, UrnAccuracy, UrnTellsNoMore, UrnRunHolds}
 use Rattle.urn_run.proofs.Reasons.{by-1, by-13, by-4, same-run, ran-on-urn-by, chain-accepted, urn-run-passed, UrnRunPassed}
 
--- a call that is refused
+-- calls that are refused, and calls that are accepted
 module _ (s : Shape) (table urn tape wires board : List ℕ) where
   refusal-is : (r : Reason) → firstOf (urnRunReasons s table urn tape wires board) ≡ some r
       → urnRunResult s table urn tape wires board .answer ≡ refused r
   unfolding runResultAfter
   refusal-is r e = ap (λ (z : RunResult). z .answer) (ran-on-urn-by s table urn tape wires board (some r) e)
 
-  -- a call by its answer
+  -- a refused call changes nothing
   after-refusal : (o : Option Reason) (r : Reason) → firstOf (urnRunReasons s table urn tape wires board) ≡ o
       → urnRunResult s table urn tape wires board .answer ≡ refused r
       → (urnRunResult s table urn tape wires board .wires ≡ wires) × (urnRunResult s table urn tape wires board .board ≡ board)
@@ -81,7 +81,7 @@ module _ (s : Shape) (table urn tape wires board : List ℕ) where
       let l = run-lengths s table (ballotsFor s urn) tape wires board in
       (ap (λ (z : RunResult). length (z .wires)) f ∙ l .0, ap (λ (z : RunResult). length (z .board)) f ∙ l .1)
 
--- every reason of a run on an urn
+-- the numbers of the reasons of a run on an urn
 numbers : List ℕ
 numbers = 1 ∷ 13 ∷ 2 ∷ 3 ∷ 4 ∷ 7 ∷ 8 ∷ 9 ∷ 10 ∷ []
 

@@ -1,5 +1,5 @@
--- One candidate, two grades. The ballots come in the order of the chain, not of the slots; and demand 3 on two
--- concrete urns.
+-- Examples with one candidate and two grades: the ballots are taken in the order of the chain, not of the slots;
+-- and demand 3 on two concrete urns.
 use mathlib.Core.Path.{_≡_, refl}
 use mathlib.Core.List.{List, [], _∷_}
 use Prim.Native.Nat.{ℕ}
@@ -24,16 +24,16 @@ pub both : ballotsIn 1 2 backwards ≡ 2
 unfolding backwards ballotsIn slotBytes slotOf slotsOf slotAt chain entryAt ballotSlots ballotChain slotCount urnSlots
 both = refl
 
--- Juror 9, in the only slot, gave the better grade; juror 7, in the second of two slots, the first being free, the
--- worse.
+-- Juror 9, in slot 1 of two slots, gave the better grade.
 unfoldable pub better : List ℕ
 better = 1 ∷ 0 ∷ 0 ∷ 0 ∷ 0 ∷ 9 ∷ 1 ∷ 0 ∷ []
 
+-- Juror 7, in slot 2 of three slots, gave the worse grade; slot 1 is free.
 unfoldable pub worse : List ℕ
 worse = 2 ∷ 1 ∷ 0 ∷ 0 ∷ 0 ∷ 0 ∷ 0 ∷ 0 ∷ 0 ∷ 7 ∷ 0 ∷ 1 ∷ []
 
--- Two urns with different lengths, jurors, slots and ballots, equal closing bytes, two tapes, one board. The list is
--- a stranger's, a single gate that tells whether wires 0 and 1 are both 1.
+-- Runs on two urns with different lengths, jurors, slots and ballots: equal closing bytes, different tapes, the
+-- same board. The list is a stranger's: one gate that says whether wires 0 and 1 are both 1.
 pub record PairOfUrns : Type 0 where
   -- the better grade under the mask 0
   pub first-run : urnRunResult oneBallot oneGate better (0 ∷ []) (9 ∷ 9 ∷ 9 ∷ []) (9 ∷ 9 ∷ [])

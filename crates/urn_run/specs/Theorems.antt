@@ -1,5 +1,5 @@
--- What holds for a run on an urn, about the definition that the contract equates with answer, wire table and board.
--- The three demands are those of `tally` for this kind of call, whose input is an urn.
+-- What holds for a run on an urn, stated about the definition that the contract equates with answer, wire table and
+-- board. The three demands are those of `tally` for this kind of call, whose input is an urn.
 use mathlib.Core.Path.{_≡_}
 use mathlib.Core.Logic.{_≢_}
 use mathlib.Core.Bool.{true, false}
@@ -23,7 +23,7 @@ use Rattle.urn_run.specs.Run.{chainBallots, ballotsIn, urnRunResult}
 abbrev pub ballotsFor : Shape → List ℕ → List ℕ
 ballotsFor s urn = chainBallots (s .candidates) (s .grades) urn
 
--- A graded shape, and a sound urn of n ballots.
+-- The shape is graded, and the urn is sound and has n ballots.
 pub record RightUrn (s : Shape) (urn : List ℕ) : Type 0 where
   pub graded : gradedLimits s ≡ true
   pub isSound : sound (s .candidates) (s .grades) urn ≡ true
@@ -46,18 +46,18 @@ pub record SameAsRun : Type 0 where
   pub unsound : (s : Shape) (table urn tape wires board : List ℕ)
       → gradedLimits s ≡ true → sound (s .candidates) (s .grades) urn ≡ false
       → urnRunResult s table urn tape wires board .answer ≡ refused (reasonAt 13 0)
-  -- any other shape gives 1, first of all
+  -- any other shape gives 1, before all other reasons
   pub other-shape : (s : Shape) (table urn tape wires board : List ℕ) → gradedLimits s ≡ false
       → urnRunResult s table urn tape wires board .answer ≡ refused (reasonAt 1 0)
 
--- Demand 1: the wire table, which held the ballots in clear, is emptied.
+-- Demand 1: the wire table, which held the ballots in the clear, is emptied.
 abbrev pub UrnRunMemory : Type 0
 UrnRunMemory =
     (s : Shape) (table urn tape wires board : List ℕ)
     → BoardKeepsMemory (1 ∷ 13 ∷ 2 ∷ 3 ∷ 4 ∷ 7 ∷ 8 ∷ 9 ∷ 10 ∷ []) wires board
     (urnRunResult s table urn tape wires board)
 
--- Demand 2, with the list that an accepted write left: the closing bytes are majority judgment's on the chain's
+-- Demand 2, with the list that a write left: the closing bytes are those of majority judgment on the chain's
 -- ballots.
 abbrev pub UrnAccuracy : (s : Shape) (table : List ℕ) (size : Size) → Type 0
 UrnAccuracy = Accuracy urnRunResult ballotsFor RightUrn

@@ -1,3 +1,3 @@
-// The run on an urn: a list evaluated on the ballots of its ballot chain.
+// The run on an urn: a list is evaluated on the ballots of the urn's ballot chain.
 mod load;
 pub mod run;

@@ -6,7 +6,7 @@ ghost use lib.ListN.{length, drop};
 ghost use Rattle.urn_run.specs.Run.{chainBallots};
 ghost use Rattle.urn_run.specs.inner.Load.{Loadable};
 
-// Copies the ballots of a sound urn to the front of the wire table, in chain order.
+// Copies the ballots of a sound urn to the start of the wire table, in chain order.
 pub(crate) fn load(k: usize, d: usize, urn: &[u8], wires: &mut [u8])
     requires { ⌜ Loadable k d (now urn) (now wires) ⌝ }
     ensures { λ _. ⌜ now (wires .exit) ≡ chainBallots k d (now (urn .entry))

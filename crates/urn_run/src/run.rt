@@ -11,7 +11,7 @@ ghost use Rattle.jury.specs.Reason.{firstOf};
 ghost use Rattle.tally.specs.Answer.{outcomeOf, outcome, sizeOf};
 ghost use Rattle.urn_run.specs.Run.{urnRunReasons, urnRunResult};
 
-// Reasons 1, 13, 2, 3, 4, 7, 8, 9 and 10, in this order.
+// All tests of a run on an urn: reasons 1, 13, 2, 3, 4, 7, 8, 9 and 10, in this order.
 fn test_run(
     shape: Shape,
     table: &[u32],
@@ -55,7 +55,7 @@ fn test_run(
 }
 
 // Runs a list, whoever wrote it, on the ballots in an urn, in chain order, with one mask for each conditional gate.
-// The ballots go straight into the wire table, which is emptied once the closing bytes are on the board.
+// The ballots are copied directly into the wire table, which is emptied after the closing bytes are on the board.
 pub fn run_on_urn(
     shape: Shape,
     table: &[u32],

@@ -1,4 +1,4 @@
--- What the functions under the evaluation ask and promise, in every lane.
+-- What the functions of the evaluation require and promise, in every lane.
 use mathlib.Core.Path.{_≡_}
 use mathlib.Core.Bool.{Bool, cond}
 use mathlib.Core.List.{List, [], _∷_}
@@ -10,12 +10,13 @@ use Rattle.gates.specs.Board.{conditionalCount, shownBit}
 use Rattle.gates.specs.inner.Step.{GateReady, rangeOf, stepWires, stepBoard, gateAt}
 use Rattle.batch_lanes.specs.Lane.{laneCount, laneOf}
 
--- One gate: the lent column of marks is the table's, and the gate is ready.
+-- What running one gate requires: `marks` are the conditional marks of all kinds, and the gate is ready.
 pub record GateAsks (marks : List Bool) (table : List ℕ) (g own : ℕ) (tape : List ℕ) (shown : ℕ)
     (wires board : List ℕ) : Type 0 where
   pub marks-are : marks ≡ conditionalMarks
   pub ready : GateReady table g own tape shown wires board
 
+-- What running one gate leaves, in every lane.
 pub record GateDone (table : List ℕ) (g own : ℕ) (tape : List ℕ) (shown : ℕ) (wires board wires′ board′ : List ℕ)
     (next : ℕ) : Type 0 where
   pub shown-is : next ≡ shown + conditionalCount (gateAt table g ∷ [])
@@ -27,7 +28,7 @@ pub record GateDone (table : List ℕ) (g own : ℕ) (tape : List ℕ) (shown : 
       (set (laneOf j board) shown (shownBit (laneOf j wires) (gateAt table g) (getD (laneOf j tape) shown 0)))
       (laneOf j board)
 
--- A range of gates.
+-- What running a range of gates leaves, in every lane.
 pub record StepDone (inputs : ℕ) (table : List ℕ) (from to : ℕ) (tape : List ℕ) (shown : ℕ)
     (wires board wires′ board′ : List ℕ) (next : ℕ) : Type 0 where
   pub shown-is : next ≡ shown + conditionalCount (rangeOf table from to)
@@ -35,7 +36,7 @@ pub record StepDone (inputs : ℕ) (table : List ℕ) (from to : ℕ) (tape : Li
   pub board-is : (j : ℕ) → j < laneCount
       → laneOf j board′ ≡ stepBoard inputs table from to (laneOf j tape) shown (laneOf j wires) (laneOf j board)
 
--- The closing words: there are as many wires, and room for them after the shown words.
+-- There are enough wires for the closing words, and the board has room for them after the shown words.
 pub record CloseFits (outputs : ℕ) (wires : List ℕ) (shown : ℕ) (board : List ℕ) : Type 0 where
   pub enough : outputs ≤ length wires
   pub room : length board ≡ shown + outputs

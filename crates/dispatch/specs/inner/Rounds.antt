@@ -1,4 +1,4 @@
--- What the functions inside this crate ask and promise.
+-- What the functions inside this crate require and promise.
 use mathlib.Core.Path.{_≡_}
 use mathlib.Core.Option.{Option, none, some}
 use mathlib.Core.List.{List, [], _∷_}
@@ -25,16 +25,16 @@ unfoldable pub wireBytes : List JuryHeader → ℕ
 wireBytes [] = 0
 wireBytes (s ∷ ss) = ballotBytes (headerShape s) + s .gates + wireBytes ss
 
--- The most gates of a jury.
+-- The largest number of gates of a jury.
 unfoldable pub mostGates : List JuryHeader → ℕ
 mostGates [] = 0
 mostGates (s ∷ ss) = max (s .gates) (mostGates ss)
 
--- How many conditional gates a jury has, by its piece of the lists.
+-- How many conditional gates a jury has, counted in its piece of the lists.
 abbrev pub pieceConditional : JuryHeader → Tables → ℕ
 pieceConditional s p = conditionalCount (gatesOf (p .lists))
 
--- What the tests of one jury answer, on the rest of the tables: its first reason, or the size of its list.
+-- The answer of one jury's tests on the rest of the tables: its first reason, or the size of its list.
 abbrev pub JuryTested : JuryHeader → Tables → Outcome Size → Type 0
 JuryTested s t answer = answer ≡ outcome (firstOf (reasonsOf s t)) (sizeOf (gatesOf (listOf s t)))
 
@@ -44,12 +44,12 @@ pub record TestsFound (ss : List JuryHeader) (t : Tables) (r : Tests) : Type 0 w
   pub conditional : verdictReason (r .verdict) ≡ none → r .conditional ≡ eightOf pieceConditional ss t
   pub wires : verdictReason (r .verdict) ≡ none → r .wires ≡ wireBytes ss
 
--- The reason that is the answer of a jury's tests, if any.
+-- The reason in the answer of a jury's tests, if it is a refusal.
 unfoldable pub refusalIn : Answer → Option Reason
 refusalIn (answer.Accepted gates conditional) = none
 refusalIn (answer.Refused r) = some (reasonOf r)
 
--- What the rounds ask: juries that are not refused.
+-- What the rounds require: no jury is refused.
 pub record Ready (c : Call) (conditional : List ℕ) : Type 0 where
   pub few : c .count ≤ 8
   pub per-round-least : 1 ≤ c .gatesPerRound
@@ -57,14 +57,14 @@ pub record Ready (c : Call) (conditional : List ℕ) : Type 0 where
   pub accepted : firstOf (juryReasons 0 (juriesIn c) (c .tables)) ≡ none
   pub conditionalAre : conditional ≡ eightOf pieceConditional (juriesIn c) (c .tables)
 
--- What counting the rounds asks: no sum wraps.
+-- What counting the rounds requires: the numbers are so small that no sum wraps.
 pub record RoundsSmall (count : ℕ) (headers : List JuryHeader) (gatesPerRound : ℕ) : Type 0 where
   pub few : count ≤ 8
   pub per-round-least : 1 ≤ gatesPerRound
   pub per-round-most : gatesPerRound ≤ 65536
   pub gates-most : mostGates (take count headers) ≤ 1048576
 
--- What the rounds leave: every jury has done all its gates, and no round was idle.
+-- What the rounds leave after `done` rounds: every jury has done all its gates, and no round was idle.
 pub record RoundsFinished (c : Call) (conditional wires boards : List ℕ) : Type 0 where
   pub done : ℕ
   pub shown : List ℕ

@@ -1,4 +1,4 @@
--- What the functions inside this crate ask and promise.
+-- What the functions inside this crate require and promise.
 use mathlib.Core.Path.{_≡_}
 use mathlib.Core.List.{List}
 use Prim.Native.Nat.{ℕ, _+_, _*_, _≤_, _<_}
@@ -12,7 +12,7 @@ use Rattle.dispatch_rounds.specs.declared.header.Places.{Places}
 use Rattle.dispatch_rounds.specs.Tables.{Tables, tablesOf, headerShape}
 use Rattle.dispatch_rounds.specs.Rounds.{juryWires, juryBoard, juryShown, RoundState}
 
--- Where the next jury's pieces begin.
+-- Where the next jury's pieces begin, after those of a jury with c conditional gates.
 abbrev pub placesAfter : Places → JuryHeader → ℕ → Places
 placesAfter at s c =
     record {
@@ -32,7 +32,7 @@ pub record PlacesFit (at : Places) (s : JuryHeader) (c : ℕ) : Type 0 where
   pub wires : at .wires + (ballotBytes (headerShape s) + s .gates) < 18446744073709551616
   pub boards : at .boards + (c + s .candidates) < 18446744073709551616
 
--- One jury at work on its pieces p, which are as they were lent.
+-- One jury between two rounds. p has its pieces as they were lent.
 pub record JuryState (given : ℕ) (s : JuryHeader) (p : Tables) (wires board : List ℕ) (shown : ℕ) : Type 0 where
   pub run : RunReady (p .ballots) (p .lists) (s .candidates) (p .tapes) (p .wires) (p .boards)
   pub some-gate : 1 ≤ s .gates
@@ -41,7 +41,7 @@ pub record JuryState (given : ℕ) (s : JuryHeader) (p : Tables) (wires board : 
   pub boardIs : board ≡ juryBoard given s p
   pub count : shown ≡ juryShown given s p
 
--- What a turn asks: a jury at work, for some old contents of its wire table and board.
+-- What a jury's turn requires: the jury between two rounds, for some old contents of its wire table and board.
 pub record TurnReady (given gatesPerRound : ℕ) (s : JuryHeader) (list ballots tape wires board : List ℕ) (shown : ℕ)
     : Type 0 where
   pub per-round-least : 1 ≤ gatesPerRound
@@ -50,8 +50,8 @@ pub record TurnReady (given gatesPerRound : ℕ) (s : JuryHeader) (list ballots 
   pub board-lent : List ℕ
   pub state : JuryState given s (tablesOf list ballots tape wires-lent board-lent) wires board shown
 
--- What a round asks: a call between two rounds. A jury has at most 1,048,576 gates, so at most that many rounds come
--- before one.
+-- What a round requires: a call between two rounds. A jury has at most 1,048,576 gates, so at most that many rounds
+-- come before this one.
 pub record RoundReady (count : ℕ) (headers : List JuryHeader) (done gatesPerRound : ℕ) (lists ballots tapes : List ℕ)
     (conditional wires boards shown : List ℕ) : Type 0 where
   pub few : count ≤ 8

@@ -9,7 +9,8 @@ use Rattle.basics.specs.Lists.{tabulate}
 use Rattle.jury.specs.declared.shape.Shape.{Shape}
 use Rattle.jury.specs.Counts.{countArray, AddUp}
 
--- The array of counts while it is filled: eight rows of seven counts, each small enough for one more.
+-- The array of counts while it is filled: eight rows of seven counts, each so small that adding a byte does not
+-- overflow.
 pub record EightBySeven (counts : List (List ℕ)) : Type 0 where
   pub rows : length counts ≡ 8
   pub columns : (c : ℕ) → c < 8 → length (getD counts c []) ≡ 7
@@ -41,7 +42,7 @@ plusBallot k d counts ballot =
 unfoldable pub rowsIn : ℕ → ℕ → List (List ℕ) → List (List ℕ)
 rowsIn k d counts = map (take d) (take k counts)
 
--- The array of counts at the end: a row adds up to the number of ballots.
+-- The array of counts at the end: the rows of the candidates add up to the number of ballots.
 pub record Counted (s : Shape) (xs : List ℕ) (counts : List (List ℕ)) : Type 0 where
   pub array : counts ≡ countArray s xs
   pub addUp : AddUp s (rowsIn (s .candidates) (s .grades) counts)

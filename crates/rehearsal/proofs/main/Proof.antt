@@ -1,4 +1,5 @@
--- `rehearsal::main` is safe: the buffers are as long as the rehearsal asks, and the closing bytes lie on the board.
+-- `rehearsal::main` is safe: the buffers are as long as the rehearsal requires, and the closing bytes lie on the
+-- board.
 -- Assumes nothing.
 use mathlib.Core.Path.{ap}
 use Prim.Native.Nat.{_+_, _≤_}

@@ -12,7 +12,7 @@ use Rattle.tally.specs.OwnList.{ownList}
 use Rattle.rehearsal.specs.Rehearsal.{shapeOfInput}
 
 -- A tape of bits (the program's are zeros), a table for at most 4,000 gates, and a wire table and a board that are
--- long enough for them.
+-- long enough for that many gates.
 pub record Buffers (table tape wires board : List ℕ) : Type 0 where
   pub tableLength : length table ≤ 16000
   pub tapeLength : 4000 ≤ length tape
@@ -20,7 +20,7 @@ pub record Buffers (table tape wires board : List ℕ) : Type 0 where
   pub wiresLength : 20320 ≤ length wires
   pub boardLength : 4008 ≤ length board
 
--- The same, with the input's shape.
+-- The same, and s is the shape in the input.
 pub record Ready (s : Shape) (input table tape wires board : List ℕ) : Type 0 where
   pub shape-is : s ≡ shapeOfInput input
   pub buffers : Buffers table tape wires board
@@ -37,11 +37,12 @@ pub record Cut (s : Shape) (list : List ℕ) (gates conditional : ℕ) (tape wir
   pub wiresLength : 20320 ≤ length wires
   pub boardLength : 4008 ≤ length board
 
--- A new buffer of zeros; a new tape, whose zeros are bits.
+-- A new buffer of n zeros.
 pub record Zeros (n : ℕ) (buffer : List ℕ) : Type 0 where
   pub long : n ≡ length buffer
   pub zeros : buffer ≡ replicate n 0
 
+-- A new tape of n zeros, which are bits.
 pub record ZeroTape (n : ℕ) (tape : List ℕ) : Type 0 where
   pub long : n ≡ length tape
   pub zeros : tape ≡ replicate n 0

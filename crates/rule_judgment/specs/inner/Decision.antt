@@ -13,13 +13,13 @@ unfoldable pub byteBeside : List (List ℕ) → ℕ → ℕ → ℕ → ℕ → 
 byteBeside counts k d first c =
     cond (ltb c k && sameNumbers (take d (getD counts c [])) (take d (getD counts first []))) 1 0
 
--- Whether the sum of one of two candidates is at least half of n.
+-- Whether the running sum of one of the two candidates is at least half of n.
 unfoldable pub halfReached : ℕ → Sums → Bool
 halfReached n sums = leb n (2 * sums .a) || leb n (2 * sums .b)
 
--- Whether a comes before b, by their sums at the nearest differences below and above half. Whoever is larger at both,
--- or at the only difference, comes first. If each is larger at one, the one that is larger at the lower difference
--- comes first if its two sums add up to at least n.
+-- Whether a comes before b, by their sums at the nearest differences below half and from half on. If one is larger
+-- at both, or at the only one, it comes first. If each is larger at one, the one that is larger at the lower
+-- difference comes first exactly if its two sums add up to at least n.
 unfoldable pub decidedBy : ℕ → Sums → Sums → Bool
 decidedBy n lower upper =
     cond (ltb (lower .b) (lower .a)) (leb (upper .b) (upper .a) || leb n (lower .a + upper .a))

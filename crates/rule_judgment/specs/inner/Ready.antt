@@ -1,4 +1,4 @@
--- What the functions of the rule ask of each other, and what they promise.
+-- What the functions of the rule require of each other, and what they promise.
 use mathlib.Core.Path.{_≡_}
 use mathlib.Core.Bool.{Bool}
 use mathlib.Core.List.{List, []}
@@ -12,7 +12,7 @@ use Rattle.jury.specs.inner.Counts.{rowsIn}
 use Rattle.rule_judgment.specs.Judgment.{judgmentOf}
 use Rattle.rule_judgment.specs.Theorems.{EachGets}
 
--- The array of counts of a shape: each candidate has as many grades as there are ballots.
+-- `counts` is an array of counts for the shape: each candidate was given as many grades as there are ballots.
 pub record WinnersReady (s : Shape) (counts : List (List ℕ)) : Type 0 where
   pub within : T (gradedLimits s)
   pub eight : length counts ≡ 8
@@ -29,7 +29,7 @@ pub record FirstReady (counts : List (List ℕ)) (k d n : ℕ) : Type 0 where
   pub fewBallots : n ≤ 255
   pub gets : EachGets n (rowsIn k d counts)
 
--- Candidate r is one of k and wins.
+-- Candidate r is one of the k candidates, and wins.
 pub record WinningCandidate (counts : List (List ℕ)) (k d r : ℕ) : Type 0 where
   pub inside : r < k
   pub byte : getD (judgmentOf (rowsIn k d counts)) r 0 ≡ 1
@@ -42,13 +42,13 @@ pub record RowsReady (counts : List (List ℕ)) (a b d : ℕ) : Type 0 where
   pub firstColumns : length (getD counts a []) ≡ 7
   pub secondColumns : length (getD counts b []) ≡ 7
 
--- The rows x and y, of d counts each, were compared.
+-- r says whether the rows x and y are equal; both have d counts.
 pub record Compared (x y : List ℕ) (d : ℕ) (r : Bool) : Type 0 where
   pub answer : r ≡ sameNumbers x y
   pub firstLength : length x ≡ d
   pub secondLength : length y ≡ d
 
--- The rows of candidates a and b have n grades each.
+-- Candidates a and b were given n grades each.
 pub record SumsReady (counts : List (List ℕ)) (a b d n : ℕ) : Type 0 where
   pub firstInside : a < 8
   pub secondInside : b < 8

@@ -13,7 +13,7 @@ pub record Small (r : Run) : Type 0 where
   pub gates-small : r .gates < 2 ^ 32
   pub conditional-small : r .conditional < 2 ^ 32
 
--- Each total is at most what n runs can sum to.
+-- Each total is at most what n runs can add up to.
 pub record SumsOf (n : ℕ) (t : Totals) : Type 0 where
   pub runs-most : t .runs ≤ n
   pub gates-most : t .gates ≤ 4294967296 * n
@@ -31,15 +31,17 @@ plusRun t r = record {
   shared = t .shared + sharedOf r;
 }
 
--- A byte, a number of four bytes and a run as they were read.
+-- r is the byte x.
 pub record ByteRead (x r : ℕ) : Type 0 where
   pub is : r ≡ x
   pub small : r < 256
 
+-- r is the 32-bit number that starts at a place.
 pub record NumberRead (at : ℕ) (xs : List ℕ) (r : ℕ) : Type 0 where
   pub is : r ≡ numberAt at xs
   pub small : r < 2 ^ 32
 
+-- r is the run in these bytes.
 pub record RunRead (xs : List ℕ) (r : Run) : Type 0 where
   pub is : r ≡ runOf xs
   pub small : Small r

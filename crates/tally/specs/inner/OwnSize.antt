@@ -1,4 +1,4 @@
--- What the writer has counted after the own list.
+-- The writer w has counted the gates and the conditional gates of the own list.
 use mathlib.Core.Path.{_≡_}
 use lib.ListN.{length}
 use Rattle.gates.specs.Board.{conditionalCount}

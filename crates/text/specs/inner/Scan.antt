@@ -1,4 +1,4 @@
--- What reading a text asks for once its lines are tested.
+-- What the passes over a text require after its lines are tested.
 use mathlib.Core.Path.{_≡_}
 use mathlib.Core.List.{List}
 use Prim.Native.Nat.{ℕ, _*_, _≤_, _<_}
@@ -6,7 +6,7 @@ use lib.ListN.{length}
 use Rattle.gates.specs.declared.place.Place.the-variants.{Nowhere}
 use Rattle.text.specs.Text.{linesOf, firstMalformed}
 
--- The gates can be tested, with `inputs` inputs.
+-- The gates of a list with `inputs` inputs can be tested: every line is a gate's.
 pub record ScanReady (inputs : ℕ) (text : List ℕ) : Type 0 where
   pub some : 0 < inputs
   pub few : inputs < 4294967296

@@ -1,5 +1,5 @@
--- What the functions that read from a place on find there, in terms of the definitions. No entry point's contract
--- needs it.
+-- The answers of the functions that read from a place on, in terms of the definitions. No entry point's contract
+-- needs them.
 use mathlib.Core.Path.{_≡_}
 use mathlib.Core.Option.{Option, none}
 use mathlib.Core.List.{List}
@@ -28,7 +28,7 @@ abbrev pub LineWithin : List ℕ → Line → Type 0
 LineWithin text (line.Gate kind a b c next) = next ≤ length text
 LineWithin text line.Malformed = Unit {0}
 
--- A reading found what it should, and is within the text.
+-- The answer r is the wanted one, and the place after it is within the text.
 pub record NumberRead (text : List ℕ) (wanted : Option (Taken ℕ)) (r : Found) : Type 0 where
   pub found : numberFound text r ≡ wanted
   pub within : NumberWithin text r

@@ -1,4 +1,4 @@
--- What inner functions ask; no entry point's contract needs it.
+-- What inner functions require; no entry point's contract needs it.
 use mathlib.Core.Path.{_≡_}
 use mathlib.Core.List.{List}
 use Prim.Native.Nat.{ℕ, _≤_}
@@ -8,7 +8,7 @@ use Rattle.gates.specs.Board.{conditionalCount}
 use Rattle.gates.specs.Test.{firstBad}
 use Rattle.gates.specs.declared.place.Place.the-variants.{Nowhere}
 
--- A list that passed its test, with its own sizes.
+-- The list has passed its test, and `gates` and `conditional` are its own numbers.
 pub record TablesReady (inputs k gates conditional : ℕ) (table : List ℕ) : Type 0 where
   pub some-input : 1 ≤ inputs
   pub inputs-most : inputs ≤ 1048576

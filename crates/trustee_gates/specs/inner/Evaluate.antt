@@ -1,4 +1,4 @@
--- What the evaluation asks of its caller, and leaves.
+-- What the evaluation requires of its caller, and what it leaves.
 use mathlib.Core.Path.{_≡_}
 use mathlib.Core.List.{List}
 use Prim.Native.Nat.{ℕ, _+_, _*_, _≤_, _<_}
@@ -12,7 +12,8 @@ use Rattle.trustee_shares.specs.Shares.{partsOf}
 use Rattle.trustee_shares.specs.Views.{Dealing, piece, joined, maskedFactors, wirePartsOf, publishedOf}
 use Rattle.trustee_gates.specs.declared.gate.Pieces.{Pieces}
 
--- A list of good gates over at least one input, and room for all parts, triples and factors of t trustees.
+-- The gates are good and there is at least one input; the tables have room for all parts, triples and factors of t
+-- trustees.
 pub record RunReady (t : ℕ) (pieces : Pieces) (inputs : ℕ) (table triples wires published : List ℕ) : Type 0 where
   pub some-input : 1 ≤ inputs
   pub few : inputs + length (gatesOf table) < 1073741824
@@ -24,7 +25,8 @@ pub record RunReady (t : ℕ) (pieces : Pieces) (inputs : ℕ) (table triples wi
   pub triples-length : length triples ≡ t * pieces .triples
   pub published-length : length published ≡ t * pieces .published
 
--- Also: tables of exactly the lengths of request 2.7, and at least k gates.
+-- The same for the whole evaluation: there are at least k gates, and the tables have exactly the lengths of request
+-- 2.7.
 pub record EvaluateReady (t inputs : ℕ) (table : List ℕ) (conditional k : ℕ)
     (ballotParts triples wires published : List ℕ) : Type 0 where
   pub some-input : 1 ≤ inputs
@@ -37,7 +39,7 @@ pub record EvaluateReady (t inputs : ℕ) (table : List ℕ) (conditional k : �
   pub wires-length : length wires ≡ t * (inputs + length (gatesOf table))
   pub published-length : length published ≡ t * (2 * conditional + k)
 
--- After all gates, over the inputs at the front of each trustee's wire parts.
+-- The tables after all gates. The inputs were at the start of each trustee's wire parts.
 pub record GatesRan (t : ℕ) (pieces : Pieces) (inputs : ℕ) (table triples wires published wires′ published′ : List ℕ) :
     Type 0 where
   pub parts : wires′ ≡ joined t (partsOf t (piece (pieces .triples) triples)
@@ -46,7 +48,7 @@ pub record GatesRan (t : ℕ) (pieces : Pieces) (inputs : ℕ) (table triples wi
       (maskedFactors (partsOf t (piece (pieces .triples) triples) (λ q. take inputs (piece (pieces .wires) wires q)) 0
       (gatesOf table) p) (piece (pieces .triples) triples p) 0 (gatesOf table)))
 
--- After the whole evaluation.
+-- The tables after the whole evaluation.
 pub record Evaluated (t inputs : ℕ) (table : List ℕ) (k : ℕ) (d : Dealing) (wires′ published′ : List ℕ) : Type 0 where
   pub parts : wires′ ≡ joined t (wirePartsOf t inputs (gatesOf table) d)
   pub shown : published′ ≡ joined t (publishedOf t inputs (gatesOf table) k d)

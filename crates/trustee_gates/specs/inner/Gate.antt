@@ -1,4 +1,4 @@
--- What the functions on one gate ask for and leave.
+-- What the functions for one gate require and leave.
 use mathlib.Core.Path.{_≡_}
 use mathlib.Core.Bool.{true, cond}
 use mathlib.Core.List.{List, [], _∷_}
@@ -13,7 +13,7 @@ use Rattle.trustee_gates.specs.declared.gate.Pieces.{Pieces}
 use Rattle.trustee_gates.specs.declared.gate.Opened.{Opened}
 use Rattle.trustee_gates.specs.inner.Tables.{eachPuts}
 
--- The gate of these numbers.
+-- The gate that has these four numbers.
 abbrev pub gateOfNumbers : Numbers → Gate
 gateOfNumbers g = record { kind = g .kind; a = g .a; b = g .b; c = g .c }
 
@@ -24,17 +24,17 @@ pub record InWires (size : ℕ) (g : Numbers) (p : ℕ) (wires : List ℕ) : Typ
   pub c-in : g .c < size
   pub wires-reach : p * size + size ≤ length wires
 
--- So are its bits of the i-th triple.
+-- Trustee p's bits of the i-th triple are in the table.
 pub record InTriples (size i p : ℕ) (triples : List ℕ) : Type 0 where
   pub triple-in : 3 * i + 2 < size
   pub triples-reach : p * size + size ≤ length triples
 
--- Operands and triple are both in the tables.
+-- Trustee p's parts of the operands and its bits of the triple are in the tables.
 pub record FactorReady (pieces : Pieces) (g : Numbers) (i p : ℕ) (triples wires : List ℕ) : Type 0 where
   pub operands : InWires (pieces .wires) g p wires
   pub triple : InTriples (pieces .triples) i p triples
 
--- The operands and the own wire of a gate, in tables for t trustees.
+-- The operands and the own wire of a gate are within the pieces of the wire table of t trustees.
 pub record FreeReady (t size : ℕ) (g : Numbers) (own : ℕ) (wires : List ℕ) : Type 0 where
   pub a-in : g .a < size
   pub b-in : g .b < size
@@ -42,6 +42,7 @@ pub record FreeReady (t size : ℕ) (g : Numbers) (own : ℕ) (wires : List ℕ)
   pub own-in : own < size
   pub wires-length : length wires ≡ t * size
 
+-- All trustees can publish their factors of the i-th conditional gate.
 pub record PublishReady (t : ℕ) (pieces : Pieces) (g : Numbers) (i : ℕ) (triples wires published : List ℕ)
     : Type 0 where
   pub a-in : g .a < pieces .wires
@@ -53,6 +54,7 @@ pub record PublishReady (t : ℕ) (pieces : Pieces) (g : Numbers) (i : ℕ) (tri
   pub triples-length : length triples ≡ t * pieces .triples
   pub published-length : length published ≡ t * pieces .published
 
+-- All trustees can enter their parts of the i-th conditional gate's wire.
 pub record ProductReady (t : ℕ) (pieces : Pieces) (g : Numbers) (own i : ℕ) (triples wires : List ℕ) : Type 0 where
   pub free : FreeReady t (pieces .wires) g own wires
   pub triple-in : 3 * i + 2 < pieces .triples
@@ -69,14 +71,14 @@ pub record GateReady (t : ℕ) (pieces : Pieces) (g : Numbers) (own i : ℕ) (tr
   pub triples-length : length triples ≡ t * pieces .triples
   pub published-length : length published ≡ t * pieces .published
 
--- What trustee p publishes for a gate: both factors, masked.
+-- What trustee p publishes for the i-th conditional gate: both factors, masked.
 abbrev pub bothMasked : Pieces → Numbers → ℕ → List ℕ → List ℕ → ℕ → List ℕ
 bothMasked pieces g i triples wires p =
     maskedFirst (piece (pieces .wires) wires p) (piece (pieces .triples) triples p) i (gateOfNumbers g)
     ∷ maskedSecond (piece (pieces .wires) wires p) (piece (pieces .triples) triples p) i (gateOfNumbers g)
     ∷ []
 
--- After all have published: the opened factors, and the table with what they published.
+-- After all trustees have published for a gate: the opened sums, and the table with the published bits.
 pub record Published (t : ℕ) (pieces : Pieces) (g : Numbers) (i : ℕ) (triples wires old : List ℕ) (r : Opened)
     (new : List ℕ) : Type 0 where
   pub first : r .first
@@ -85,7 +87,8 @@ pub record Published (t : ℕ) (pieces : Pieces) (g : Numbers) (i : ℕ) (triple
       ≡ openedSecond t (piece (pieces .triples) triples) (piece (pieces .wires) wires) i (gateOfNumbers g)
   pub shown : new ≡ eachPuts t (pieces .published) (2 * i) (λ p. bothMasked pieces g i triples wires p) old
 
--- After one gate: how many conditional ones there are, each trustee's part of its wire, and what was published.
+-- After one gate: the number of conditional gates so far, each trustee's part of the gate's wire, and what was
+-- published.
 pub record GateRan (t : ℕ) (pieces : Pieces) (g : Numbers) (own i : ℕ) (triples wires old : List ℕ) (r : ℕ)
     (wires′ new : List ℕ) : Type 0 where
   pub next : r ≡ i + markOf (gateOfNumbers g)

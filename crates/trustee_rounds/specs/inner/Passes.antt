@@ -1,4 +1,4 @@
--- What inner functions ask for and leave; no entry point's contract needs it.
+-- What inner functions require and leave; no entry point's contract needs it.
 use mathlib.Core.Path.{_≡_}
 use mathlib.Core.Bool.{true}
 use mathlib.Core.List.{List}
@@ -13,7 +13,7 @@ use Rattle.trustee_gates.specs.declared.gate.Numbers.{Numbers}
 use Rattle.trustee_rounds.specs.declared.round.Seat.{Seat}
 use Rattle.trustee_rounds.specs.Rounds.{Turn, enters, publishes, closes}
 
--- A turn by the program's numbers and tables.
+-- The turn that the program's numbers and tables describe.
 abbrev pub turnBy : Seat → List ℕ → List ℕ → List ℕ → Turn
 turnBy seat levels triples heard = record {
   trustee =
@@ -31,7 +31,7 @@ pub record GateIn (g : Numbers) (ws : List ℕ) : Type 0 where
   pub b-in : g .b < length ws
   pub c-in : g .c < length ws
 
--- If the gate is conditional, so are its triple and its sums.
+-- The same and, if the gate is conditional, its triple and its two sums are in their tables.
 pub record PartReady (g : Numbers) (i : ℕ) (triples heard ws : List ℕ) : Type 0 where
   pub operands : GateIn g ws
   pub known : g .kind < 8
@@ -47,7 +47,7 @@ pub record PublishReady (g : Numbers) (i : ℕ) (triples ws published : List ℕ
   pub triple-in : conditionalOf (g .kind) ≡ true → 3 * i + 2 < length triples
   pub places-in : conditionalOf (g .kind) ≡ true → 2 * i + 1 < length published
 
--- A list of good gates with at least one input, and tables of one trustee's lengths.
+-- The gates are good, there is at least one input, and the tables have the lengths of one trustee's tables.
 pub record Pass (inputs : ℕ) (table levels triples ws : List ℕ) : Type 0 where
   pub some-input : 1 ≤ inputs
   pub few : inputs + length (gatesOf table) < 1073741824

@@ -1,29 +1,30 @@
--- What inner functions ask; no entry point's contract needs it.
+-- What inner functions require; no entry point's contract needs it.
 use mathlib.Core.Path.{_≡_}
 use mathlib.Core.List.{List}
 use Prim.Native.Nat.{ℕ, _+_, _*_, _≤_}
 use lib.ListN.{length}
 use Rattle.trustee_shares.specs.Views.{Dealing}
 
--- Sizes of an accepted list and of accepted ballots: small enough that no product with the number of trustees wraps.
+-- The sizes of an accepted list and of accepted ballots are so small that no product with the number of trustees
+-- wraps.
 pub record SmallSizes (inputs outputs gates conditional : ℕ) : Type 0 where
   pub inputs-most : inputs ≤ 1048576
   pub outputs-most : outputs ≤ 8
   pub gates-most : gates ≤ 1048576
   pub conditional-most : conditional ≤ 1048576
 
--- Also, at most five trustees.
+-- The same, and there are at most five trustees.
 pub record SmallCall (inputs outputs gates conditional t : ℕ) : Type 0 where
   pub sizes : SmallSizes inputs outputs gates conditional
   pub few : t ≤ 5
 
--- The closing bits, k of them from `first` on, are in each trustee's piece of what is published.
+-- The k closing bits, from place `first` on, are in each trustee's piece of the published table.
 pub record ClosingFits (t size first k : ℕ) (published : List ℕ) : Type 0 where
   pub k-most : k ≤ 8
   pub closing-in : first + k ≤ size
   pub published-length : length published ≡ t * size
 
--- A dealing whose tables have the lengths that ballots and list need.
+-- The tables of the dealing have the lengths that ballots and list need.
 pub record DealingFits (t conditional : ℕ) (ballots : List ℕ) (d : Dealing) : Type 0 where
   pub conditional-most : conditional ≤ 1048576
   pub ballot-length : length (d .ballotParts) ≡ t * length ballots

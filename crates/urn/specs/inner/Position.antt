@@ -1,4 +1,4 @@
--- Where a juror's ballot lies in an urn.
+-- Where a juror's ballot is in an urn.
 use mathlib.Core.List.{List}
 use Prim.Native.Nat.{ℕ, _*_}
 use lib.ListN.{length, getD}
@@ -7,7 +7,7 @@ use Rattle.urn_chains.specs.Chains.{chain}
 use Rattle.urn_chains.specs.Sound.{slotCount, urnSlots}
 use Rattle.urn_chains.specs.inner.Position.{positionOf}
 
--- Where the ballot lies, and the slot before it in the ballot chain.
+-- The slot of the juror's ballot, and the slot before it in the ballot chain.
 unfoldable pub positionIn : ℕ → ℕ → List ℕ → ℕ → ChainPosition
 positionIn k d urn juror =
     positionOf (urnSlots k d urn) juror 0 (chain (slotCount (k * d) (length urn)) (getD urn 0 0) (urnSlots k d urn))

@@ -1,4 +1,5 @@
--- What holds for an urn when a ballot is about to be looked for, put in or taken out.
+-- What the functions require of an urn, and promise about it, when they search for a ballot, put one in or take one
+-- out.
 use mathlib.Core.Path.{_≡_}
 use mathlib.Core.Bool.{true, false}
 use mathlib.Core.List.{List}
@@ -13,18 +14,18 @@ use Rattle.urn.specs.declared.facts.UrnCheck.{UrnCheck}
 use Rattle.urn.specs.Facts.{isEmpty, factsOf}
 use Rattle.urn.specs.inner.Position.{positionIn}
 
--- What a look at an urn gives: its facts, and where the juror's ballot is in a sound one.
+-- The result of a look at an urn: its facts and, if it is sound, where the juror's ballot is.
 pub record Looked (k d : ℕ) (urn : List ℕ) (juror : ℕ) (check : UrnCheck) : Type 0 where
   pub told : check .facts ≡ factsOf k d urn juror
   pub few : check .facts .ballots ≤ 256
   pub placed : check .facts .sound ≡ true → check .position ≡ positionIn k d urn juror
 
--- Facts that decide an admission: the number of ballots leaves room for one more.
+-- The facts can decide an admission: the number of ballots is so small that adding one does not overflow.
 pub record Countable (k d : ℕ) (facts : Facts) : Type 0 where
   pub graded : T (gradedShape k d)
   pub few : facts .ballots ≤ 256
 
--- A juror's ballot for which there is a free slot.
+-- The ballot can be put into the urn, which is sound and has a free slot.
 pub record Admissible (k d : ℕ) (urn : List ℕ) (juror : ℕ) (ballot : List ℕ) : Type 0 where
   pub graded : T (gradedShape k d)
   pub isSound : sound k d urn ≡ true
@@ -32,7 +33,7 @@ pub record Admissible (k d : ℕ) (urn : List ℕ) (juror : ℕ) (ballot : List 
   pub numbered : goodJuror juror ≡ true
   pub size : length ballot ≡ k * d
 
--- A ballot in this slot, which comes after slot `before` in the chain.
+-- A ballot is in this slot, which comes after slot `before` in the chain.
 pub record Present (k d : ℕ) (urn : List ℕ) (before slot : ℕ) : Type 0 where
   pub graded : T (gradedShape k d)
   pub isSound : sound k d urn ≡ true

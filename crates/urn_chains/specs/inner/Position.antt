@@ -13,13 +13,13 @@ use Rattle.urn_chains.specs.declared.find.ChainPosition.{ChainPosition}
 use Rattle.urn_chains.specs.declared.find.ChainPosition.the-variants.{Found, Absent}
 use Rattle.urn_chains.specs.inner.Table.{SlotTable}
 
--- n slots of an urn, in which the ballot chain stays.
+-- The urn has n slots, and the ballot chain does not leave them.
 pub record Searchable (b n : ℕ) (urn : List ℕ) : Type 0 where
   pub table : SlotTable b n urn
   pub inside : all (inUrn n) (chain n (getD urn 0 0) (slotsOf b n urn)) ≡ true
 
--- The slot of the juror's ballot among these slots, and the slot before it in the chain; `before` is the slot before
--- the first of these.
+-- The slot of the juror's ballot among these slots of a chain, and the slot before it in the chain. `before` is the
+-- slot before the first of these.
 unfoldable pub positionOf : List Slot → ℕ → ℕ → List ℕ → ChainPosition
 positionOf slots juror before [] = Absent
 positionOf slots juror before (i ∷ is) =

@@ -22,7 +22,7 @@ pub record GradedTable (k d n : ℕ) (urn : List ℕ) : Type 0 where
   pub graded : T (gradedShape k d)
   pub table : SlotTable (k * d) n urn
 
--- What the test of an urn answers.
+-- The answer of an urn's test: whether it is sound and, if so, how many ballots it has.
 unfoldable pub soundness : Bool → ℕ → Soundness
 soundness true ballots = Sound ballots
 soundness false ballots = Unsound

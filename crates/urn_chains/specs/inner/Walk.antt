@@ -13,7 +13,7 @@ use Rattle.urn_chains.specs.declared.walk.SlotCheck.the-variants.{Sound,
 use Rattle.urn_chains.specs.declared.walk.Walk.{Walk}
 use Rattle.urn_chains.specs.inner.Table.{SlotTable, GradedTable}
 
--- What a look at a slot asks: n slots of bytes, and a slot from 1 on, possibly past the last.
+-- A slot can be looked at: the bytes are n slots, and the index is not 0. It may be past the last slot.
 pub record BallotLook (k d n slot : ℕ) (urn : List ℕ) : Type 0 where
   pub bytes : GradedTable k d n urn
   pub chained : 0 < slot
@@ -22,7 +22,7 @@ pub record FreeLook (b n slot : ℕ) (urn : List ℕ) : Type 0 where
   pub table : SlotTable b n urn
   pub chained : 0 < slot
 
--- What a look at a slot answers.
+-- The answer of a look at a slot: its juror and the next index if it is sound.
 unfoldable pub looked : Bool → Slot → SlotCheck
 looked true s = Sound (s .juror) (s .next)
 looked false s = Wrong
@@ -40,7 +40,7 @@ freeAt slots i = inUrn (length slots) i && emptySlot (slotAt slots i)
 unfoldable pub noMarks : List Bool
 noMarks = replicate 256 false
 
--- The marks with those of these numbers set.
+-- The marks after those of these numbers are set.
 unfoldable pub markAll : List ℕ → List Bool → List Bool
 markAll [] marks = marks
 markAll (i ∷ is) marks = markAll is (set marks i true)
@@ -54,18 +54,20 @@ fresh (i ∷ is) marks = not (getD marks i false) && fresh is (set marks i true)
 unfoldable pub jurorsAt : List Slot → List ℕ → List ℕ
 jurorsAt slots is = map (λ i. slotAt slots i .juror) is
 
--- The walk along the ballot chain from slot i on finds nothing wrong, given the slots and jurors marked before.
+-- The walk along the ballot chain from slot i on finds nothing wrong. `marks` and `jurors` have the slots and
+-- jurors met before.
 unfoldable pub ballotsFrom : ℕ → ℕ → List Slot → ℕ → ℕ → List Bool → List Bool → Bool
 ballotsFrom k d slots most i marks jurors =
     ends most i slots && all (ballotAt k d slots) (chain most i slots) && fresh (chain most i slots) marks
     && fresh (jurorsAt slots (chain most i slots)) jurors
 
--- The walk along the free chain from slot i on finds nothing wrong, given the slots marked before.
+-- The walk along the free chain from slot i on finds nothing wrong. `marks` has the slots met before.
 unfoldable pub freeFrom : List Slot → ℕ → ℕ → List Bool → Bool
 freeFrom slots most i marks =
     ends most i slots && all (freeAt slots) (chain most i slots) && fresh (chain most i slots) marks
 
--- What a walk along these slots leaves: whether all is well and, if so, their marks and their number.
+-- What a walk along the slots `is` answers: whether all is well and, if so, the marks with those of `is` added, and
+-- their number.
 pub record Walked (well : Bool) (is : List ℕ) (before : List Bool) (walk : Walk) : Type 0 where
   pub told : walk .good ≡ well
   pub marked : walk .good ≡ true → walk .marks ≡ markAll is before

@@ -8,7 +8,7 @@ use lib.ListN.{length}
 use Rattle.urn_chains.specs.Sound.{gradedShape, sound}
 use Rattle.urn_run.specs.Run.{chainBallots}
 
--- A sound urn, and room for its ballots.
+-- The urn is sound, and the wire table has room for its ballots.
 pub record Loadable (k d : ℕ) (urn wires : List ℕ) : Type 0 where
   pub graded : T (gradedShape k d)
   pub isSound : sound k d urn ≡ true

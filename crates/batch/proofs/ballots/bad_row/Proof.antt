@@ -1,5 +1,5 @@
--- `batch::ballots::bad_row` meets its contract: after i words, `once` and `twice` say for each lane whether it had a
--- 1, and a second one.
+-- `batch::ballots::bad_row` meets its contract: after i words, `once` and `twice` say for each lane whether it had
+-- a 1, and whether it had a second 1.
 -- Assumes nothing.
 use mathlib.Core.Path.{sym, ap, subst}
 use Prim.Native.Nat.{ℕ, _-_, _≤_, _<_}

@@ -1,4 +1,4 @@
--- `batch::ballots::bad_rows` meets its contract: in each lane, the faults so far and those of the rows left are the
+-- `batch::ballots::bad_rows` meets its contract: in each lane, the faults so far and those of the rest are the
 -- faults of all rows.
 -- Assumes nothing.
 use mathlib.Core.Path.{_≡_, _∙_, sym, ap}
@@ -78,7 +78,7 @@ add-row c = omega arith
 loop-less : tie.Need-loop-less Inv-loop μ-loop
 loop-less c = omega arith
 
--- what the call says about a lane of the row
+-- the call says for each lane whether this turn's row is bad
 row-says : (c : tie.After-bad-row Inv-loop μ-loop) → let at = c .before .before .before in let a = at .before .before .args in
     (j : ℕ) → j < laneCount → lane j (c .bad-row .result)
     ≡ cond (eqb (ones (take (a .d) (drop (at .loop .at) (laneOf j (a .words .now))))) 1) 0 1

@@ -1,4 +1,4 @@
--- `batch::ballots::test` meets its contract: after the length, the tests of the shape's kind decide.
+-- `batch::ballots::test` meets its contract: if the length is right, the tests of the shape's kind decide.
 -- Assumes nothing.
 use mathlib.Core.Path.{_≡_, _∙_, sym}
 use mathlib.Core.Bool.{true, false}
@@ -29,7 +29,7 @@ returns c =
 size-known : (c : tie.Else1) → length (c .before .before .before .args .ballots .now) ≡ ballotBytes (c .before .before .before .args .shape)
 size-known c = c .if1 .left ∙ c .before .ballot-bytes .ensures
 
--- so the answer is that of the tests of the kind
+-- so the tests of the shape's kind decide
 by-kind : (c : tie.Else1) → let a = c .before .before .before .args in
     firstOf (wordBallotReasons (a .shape) (a .ballots .now)) ≡ wordKind (a .shape) (a .ballots .now)
 by-kind c =

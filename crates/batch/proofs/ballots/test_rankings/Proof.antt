@@ -23,7 +23,7 @@ first-jury-requires c κs = search needs
 enum-known-j : tie.Need-enum-known-j
 enum-known-j c = search needs
 
--- the answer by both searches
+-- the answer from what the two searches found
 both : Place → Place → Option Reason
 both clash notWeakOrder = firstOf (foundAt 11 clash ∷ foundAt 12 notWeakOrder ∷ [])
 

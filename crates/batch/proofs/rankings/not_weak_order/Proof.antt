@@ -1,5 +1,5 @@
--- `batch::rankings::not_weak_order` meets its contract: in each lane, the word says whether 12 finds a ballot before
--- b.
+-- `batch::rankings::not_weak_order` meets its contract: in each lane, the word says whether 12 applies to a ballot
+-- before b.
 -- Assumes nothing.
 use mathlib.Core.Path.{_≡_, _∙_, ap}
 use mathlib.Core.Bool.{cond}

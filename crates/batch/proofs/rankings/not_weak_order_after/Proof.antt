@@ -1,5 +1,5 @@
--- `batch::rankings::not_weak_order_after` meets its contract: in each lane, the word says whether the test fails for
--- a candidate below j.
+-- `batch::rankings::not_weak_order_after` meets its contract: in each lane, the word says whether 12 applies for i
+-- and a candidate below j.
 -- Assumes nothing.
 use mathlib.Core.Path.{_≡_, _∙_, ap}
 use mathlib.Core.Bool.{_&&_}

@@ -1,4 +1,4 @@
--- `batch::rankings::not_weak_order_in_ballot` meets its contract: in each lane, the word says whether the test fails
+-- `batch::rankings::not_weak_order_in_ballot` meets its contract: in each lane, the word says whether 12 applies
 -- for a candidate below i.
 -- Assumes nothing.
 use mathlib.Core.Path.{_≡_, _∙_, ap}

@@ -19,7 +19,7 @@ use Rattle.batch.proofs.Reasons.{batch-passed, batch-ready, result-by, 
 use Rattle.batch.proofs.run.run.Statement.{statement}
 use Rattle.batch.proofs.run.run.Tie as tie
 
--- This call, by its arguments at the start.
+-- This call, from its arguments at the start.
 abbrev call : tie.Start → Call
 call s =
     let a = s .args in

@@ -1,5 +1,5 @@
--- `batch::run::test_buffers` meets its contract: each answer is the definition's for the outcomes of the tests that
--- led there.
+-- `batch::run::test_buffers` meets its contract: each branch answers what the definition gives for the outcomes of
+-- the tests.
 -- Assumes nothing.
 use mathlib.Core.Path.{_≡_, _∙_, refl, sym, ap}
 use mathlib.Core.Bool.{true, false}
@@ -15,7 +15,7 @@ use Rattle.batch.proofs.Reasons.{lentFound, lent-by}
 use Rattle.batch.proofs.run.test_buffers.Statement.{statement}
 use Rattle.batch.proofs.run.test_buffers.Tie as tie
 
--- the list's size, as the definition has it
+-- G and C as the record that the definition takes
 abbrev size : tie.Start → Size
 size c = record { gates = c .args .gates; conditional = c .args .conditional }
 

@@ -18,7 +18,7 @@ use Rattle.batch.proofs.Reasons.{by-test, by-ballots, by-lent}
 use Rattle.batch.proofs.run.test_run.Statement.{statement}
 use Rattle.batch.proofs.run.test_run.Tie as tie
 
--- This call, by its arguments at the start.
+-- This call, from its arguments at the start.
 abbrev call : tie.Start → Call
 call s =
     let a = s .args in
@@ -47,7 +47,7 @@ refuses : (s : tie.Start) (r : Reason) → firstOf (batchReasons (call s)) ≡ s
 unfolding outcome
 refuses s r e = sym (ap (λ (o : Option Reason). outcome o (sizeOf (gatesOf (call s .table)))) e)
 
--- after the test of the list
+-- the size that the test of the list answered
 size : tie.After-known-told → Size
 size c = let g = c .before .answer .given in record { gates = g .0 .0; conditional = g .0 .1 .0 }
 
@@ -58,7 +58,7 @@ passed c =
     test-passed (of .shape) (of .table) (size c)
     (sym (c .before .before .before .test .ensures) ∙ ap outcomeOf (c .before .answer .given .1))
 
--- after the test of the ballots
+-- no reason of the ballots applies
 no-reason : (c : tie.After-enum-told2)
     → let of = call (started (list-passed c)) in firstOf (wordBallotReasons (of .shape) (of .ballots)) ≡ none
 unfolding refusedFor
@@ -113,7 +113,7 @@ enum-known-reason-2 c = search needs
 enum-told-3 : tie.Need-enum-told-3
 enum-told-3 c = search needs
 
--- what the tests 7, 9 and 10 answer is what the whole answers
+-- if the tests before have passed, the tests 7, 9 and 10 decide
 lent-answer : (c : tie.After-test-buffers)
     → firstOf (batchReasons (call (started (list-passed (ballots-passed c))))) ≡ refusedFor (c .test-buffers .result)
 unfolding size

@@ -1,5 +1,5 @@
--- `batch_lanes::step::run` meets its contract: copying, stepping and closing leave in each lane the wires and the
--- board of the whole list.
+-- `batch_lanes::step::run` meets its contract: copying the inputs, running the gates and copying the closing words
+-- leave in each lane the wires and the board of the whole list.
 -- Assumes nothing.
 use borrow.Author.Needs.{needs}
 use Rattle.batch_lanes.proofs.RunLaws.{step-ready, can-close, final-wires, final-board}

@@ -1,5 +1,5 @@
--- `batch_lanes::step::step` meets its contract: after each gate, the gates that are left make in every lane what the
--- whole range makes there.
+-- `batch_lanes::step::step` meets its contract: in every lane, running the gates that are left gives what running
+-- the whole range gives.
 -- Assumes nothing.
 use mathlib.Core.Path.{refl}
 use Prim.Native.Nat.{_-_}

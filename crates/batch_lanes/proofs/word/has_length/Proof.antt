@@ -1,5 +1,5 @@
--- `batch_lanes::word::has_length` meets its contract: the rest of the length is the second number exactly if the
--- whole is the sum.
+-- `batch_lanes::word::has_length` meets its contract: the length minus `first` is `second` exactly if the length is
+-- the sum.
 -- Assumes nothing.
 use mathlib.Core.Path.{_≡_, sym}
 use Prim.Native.Nat.{_+_}

@@ -1,4 +1,4 @@
--- `batch_lanes::word::value` meets its contract: in every lane, each arm's word is its kind's value.
+-- `batch_lanes::word::value` meets its contract: in every lane, the word of each arm is the value of its kind.
 -- Assumes nothing.
 use Prim.Native.Nat.{_≤_}
 use native.Mathlib.Omega.{arith}

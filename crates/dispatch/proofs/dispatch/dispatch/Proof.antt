@@ -1,5 +1,5 @@
 -- `dispatch::dispatch::dispatch` meets its contract: the first reason decides; if there is none, the rounds finish
--- every jury.
+-- every jury, and then the wires are emptied.
 -- Assumes nothing.
 use mathlib.Core.Path.{_≡_, _∙_, sym, ap}
 use mathlib.Core.Bool.{true, _&&_}
@@ -22,7 +22,7 @@ use Rattle.dispatch.proofs.Whole.{bad-count, bad-per-round, by-juries, 
 use Rattle.dispatch.proofs.dispatch.dispatch.Statement.{statement}
 use Rattle.dispatch.proofs.dispatch.dispatch.Tie as tie
 
--- This call, by its arguments at the start.
+-- This call, from its arguments at the start.
 abbrev call : tie.Start → Call
 call s =
     let a = s .args in
@@ -120,7 +120,7 @@ returns-3 c =
     same-result _ _ (told ∙ sym (ap (λ (d : DispatchResult). d .reason) e)) (sym (ap (λ (d : DispatchResult). d .rounds) e))
     (sym (ap (λ (d : DispatchResult). d .wires) e)) (sym (ap (λ (d : DispatchResult). d .boards) e))
 
--- after the tests
+-- the tests have passed
 passes : (c : tie.After-enum-told) → verdictReason (tested c .test-juries .result .verdict) ≡ none
 unfolding verdictReason
 passes c = ap verdictReason (c .enum-told .given .1)

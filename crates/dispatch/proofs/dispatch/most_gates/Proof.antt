@@ -1,5 +1,5 @@
--- `dispatch::dispatch::most_gates` meets its contract: the larger of what was found so far and the most of the juries
--- ahead is the most of all.
+-- `dispatch::dispatch::most_gates` meets its contract: the larger of the maximum so far and the maximum of the rest
+-- is that of all juries.
 -- Assumes nothing.
 use mathlib.Core.Path.{_≡_, _∙_, ap}
 use mathlib.Core.List.{[]}

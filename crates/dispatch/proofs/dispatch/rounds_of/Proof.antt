@@ -1,4 +1,5 @@
--- `dispatch::dispatch::rounds_of` meets its contract: the juries passed have their numbers, those ahead 0.
+-- `dispatch::dispatch::rounds_of` meets its contract: the juries before j have their numbers, and the others have
+-- 0.
 -- Assumes nothing.
 use mathlib.Core.Path.{_≡_, refl, sym, ap, subst}
 use mathlib.Core.List.{List, []}
@@ -40,7 +41,7 @@ blank = record { candidates = 0; grades = 0; ballots = 0; gates = 0 }
 enough : (s : tie.Start Inv-loop μ-loop) → s .args .count ≤ length (s .args .t2)
 enough s = omega (arith, s .pre .few, s .good .1 .0 .1 .0 .1)
 
--- how many gates this turn's jury has
+-- a bound for the gates of this turn's jury
 few : (c : tie.In-loop Inv-loop μ-loop) → getD (c .before .before .args .t2) (c .before .loop .j) blank .gates ≤ 1048576
 few c =
     let s = c .before .before in
@@ -94,7 +95,7 @@ add-j c = omega arith
 loop-less : tie.Need-loop-less Inv-loop μ-loop
 loop-less c = omega arith
 
--- the jury's number put in its place
+-- the numbers after this turn's jury
 next : (c : tie.In-loop Inv-loop μ-loop) (t : Tables) → let s = c .before .before in let l = c .before .loop in
     let ss = take (s .args .count) (s .args .t2) in
     (u : Tables) × Upto (oneOf unknown) (oneOf (rate (s .args .gates-per-round))) (padding ss) (drop (l .j + 1) ss) u (l .j + 1)

@@ -34,13 +34,13 @@ begun c = c .before .before .before .before .before .before .before .before
 abbrev all : tie.Start Inv-loop μ-loop → Tables
 all s = tablesOf (s .args .lists .now) (s .args .ballots .now) (s .args .tapes .now) (s .args .wires .now) (s .args .boards .now)
 
--- no jury has too many gates
+-- a bound for the gates of the longest jury
 few : (c : tie.At-loop Inv-loop μ-loop) → c .before .most-gates .result ≤ 1048576
 few c =
     let s = c .before .before .before .before .before .before .before in
     omega (arith, c .before .most-gates .ensures, few-gates 0 (take (s .args .count) (s .args .headers)) (all s) (s .pre .accepted))
 
--- a round gives at least one gate
+-- a round gives at least one gate, so there are no more rounds than gates
 below : (done gatesPerRound most : ℕ) → 1 ≤ gatesPerRound → done * gatesPerRound < most → done < most
 below done gatesPerRound most h l = omega (arith, mul-le-mul {n₁ = done} {m₁ = 1} {n₂ = done} {m₂ = gatesPerRound} (omega arith) h)
 
@@ -91,7 +91,7 @@ add-done c =
     let l = c .before .before .before .before .before .before .before .before in
     omega (arith, l .loop .inv .3, few l)
 
--- no round was idle
+-- this round is needed: the longest jury is not finished
 needed : (c : tie.In-loop Inv-loop μ-loop) → c .before .loop .done < c .before .before .most-gates .result
 needed c =
     let s = c .before .before .before .before .before .before .before .before in

@@ -1,4 +1,5 @@
--- `dispatch::tests::bytes_fitting` meets its contract, by the outcomes of its tests.
+-- `dispatch::tests::bytes_fitting` meets its contract: each branch answers what the definition gives for the
+-- outcomes of the tests.
 -- Assumes nothing.
 use Prim.Native.Nat.{_+_}
 use native.Mathlib.Omega.{arith}

@@ -1,5 +1,5 @@
--- `dispatch::tests::numbers_fitting` meets its contract: four numbers a gate fit if a quarter of what is left is
--- enough.
+-- `dispatch::tests::numbers_fitting` meets its contract: four numbers for each gate fit if the gates are at most a
+-- quarter of what is left.
 -- Assumes nothing.
 use Prim.Native.Nat.{_*_}
 use native.Mathlib.Omega.{arith}

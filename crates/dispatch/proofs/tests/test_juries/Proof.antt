@@ -1,4 +1,5 @@
--- `dispatch::tests::test_juries` meets its contract: while juries pass, the first reason is that of the juries ahead.
+-- `dispatch::tests::test_juries` meets its contract: as long as all juries pass, the first reason is that of the
+-- rest.
 -- Assumes nothing.
 use mathlib.Core.Path.{_≡_, _∙_, sym, ap, subst}
 use mathlib.Core.Option.{none, some}
@@ -56,7 +57,7 @@ ahead c =
     subst (λ (left : List JuryHeader). TestedSoFar (take (s .args .count) (s .args .t2)) (all s) (l .j) left (l .at) (l .conditional))
     (left-cons (s .args .count) (l .j) (s .args .t2) blank (c .loop-test .taken) (enough s)) (l .inv .1)
 
--- what its tests answer
+-- what the tests of this turn's jury answer
 found : (c : tie.After-test-jury Inv-loop μ-loop) → let i = c .before .before .before .before .before .before .before in
     outcomeOf (c .test-jury .result) ≡ outcome (firstOf (reasonsOf (jury i) (here i))) (sizeOf (gatesOf (listOf (jury i) (here i))))
 found c =
@@ -73,7 +74,7 @@ found c =
 abbrev in-turn : tie.After-test-jury Inv-loop μ-loop → tie.In-loop Inv-loop μ-loop
 in-turn c = c .before .before .before .before .before .before .before
 
--- it passed
+-- this turn's jury has passed
 well : (c : tie.After-known-told Inv-loop μ-loop) → let i = in-turn (c .before .before .before) in
     (firstOf (reasonsOf (jury i) (here i)) ≡ none) × (c .before .answer .given .0 .1 .0 ≡ conditionalIn (jury i) (here i))
 unfolding conditionalIn

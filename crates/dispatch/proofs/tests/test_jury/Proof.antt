@@ -32,7 +32,7 @@ all s = tablesOf (s .args .lists .now) (s .args .ballots .now) (s .args .tapes .
 abbrev pieces : tie.Start → Tables
 pieces s = piecesOf (s .args .header) (all s)
 
--- The stages, by what has happened so far. Each leads back to the one before it.
+-- The stages of the function. Each leads back to the one before it.
 abbrev to-start : tie.After-test → tie.Start
 to-start c = c .before .before .before .before .before .before .before .before
 
@@ -82,7 +82,7 @@ passed c =
     test-passed (headerShape (s .args .header)) (pieces s .lists) (size c)
     (sym (list-outcome (to-list-test c)) ∙ ap outcomeOf (c .before .answer .given .1))
 
--- the test of the ballots, on theirs
+-- the test of the ballots, on their piece
 ballots-outcome : (c : tie.After-test2) → let s = listed (to-list-passed c) in refusedFor (c .test2 .result)
     ≡ firstOf (ballotReasons (headerShape (s .args .header)) (pieces s .ballots))
 ballots-outcome c =
@@ -250,7 +250,7 @@ lent-outcome c =
     ∙ ap (λ (x : List ℕ). firstOf (bufferReasons (ballotBytes (headerShape st)) k z (p .tapes) (p .wires) x))
     (board-piece st (all s) (z .conditional) (o .result) (facts .1) (o .ensures))
 
--- what they answer is the answer of the whole
+-- if the tests before have passed, the tests of the buffers decide
 whole-outcome : (c : tie.After-test-buffers) → let s = listed (buffered c) in
     firstOf (reasonsOf (s .args .header) (all s)) ≡ refusedFor (c .test-buffers .result)
 unfolding reasonsOf

@@ -1,5 +1,5 @@
--- `dispatch_rounds::round::round` meets its contract: after each turn the juries passed have had their share of the
--- round, and those ahead are as before it.
+-- `dispatch_rounds::round::round` meets its contract: the juries before j have had their turn, and the others are
+-- as they were before the round.
 -- Assumes nothing.
 use mathlib.Core.Path.{_≡_, _∙_, refl, sym, ap, subst}
 use mathlib.Core.List.{List, [], _∷_, _++_}
@@ -81,7 +81,7 @@ mid c ws bs st =
     (given s + s .args .gates-per-round) (s .args .t3) (l .j) left (l .at) (l .wires) (l .boards) (l .shown))
     (left-cons (s .args .count) (l .j) (s .args .t2) blank (c .loop-test .taken) (enough s)) (l .inv .1 ws bs st)
 
--- what is known of it, whatever the wires and boards held
+-- facts about this jury, whatever the wire table and the boards held
 record Turn (c : tie.In-loop Inv-loop μ-loop) (ws bs : List ℕ) : Type 0 where
   pub passed : Passed (jury c) (here c ws bs)
   pub mark : getD (c .before .before .before .before .before .before .before .args .t3) (c .before .loop .j) 0
@@ -261,7 +261,7 @@ part-turn-end-5 : tie.Need-part-turn-end-5 Inv-loop μ-loop
 part-turn-end-5 c = let k = known (c .before .before .before .before .before .before) in
     omega (arith, ap (λ (x : Places). x .boards) (places (c .before .before .before .before)), k .boards-room)
 
--- the pieces that the turn is handed
+-- the pieces that the turn is given
 record Handed (c : tie.After-after Inv-loop μ-loop) (ws bs : List ℕ) : Type 0 where
   pub list : take (c .after .result .lists - c .before .before .before .loop .at .lists)
       (drop (c .before .before .before .loop .at .lists) (begun (in-loop c) .args .lists .now))
@@ -299,7 +299,7 @@ handed c ws bs k =
       board = slice-is _ (l .at .boards) (c .after .result .boards) (l .boards) (ap (λ (x : Places). x .boards) q) ∙ k .boards;
     }
 
--- the jury on them
+-- the jury has what its turn requires
 ready : (c : tie.After-after Inv-loop μ-loop) (ws bs : List ℕ) → Turn (c .before .before) ws bs → let s =
     begun (in-loop c) in let l = c .before .before .before .loop in let j = jury (c .before .before) in let p =
     piecesOf j (here (c .before .before) ws bs) in

@@ -1,5 +1,5 @@
--- `dispatch_rounds::round::turn` meets its contract: a finished jury stays as it is; for any other the step does the
--- next gates, and the last gate closes the board.
+-- `dispatch_rounds::round::turn` meets its contract: a finished jury stays as it is; for any other the step does
+-- the next gates, and after the last gate the closing bytes are put on the board.
 -- Assumes nothing.
 use mathlib.Core.Path.{sym, ap, subst}
 use mathlib.Core.List.{List}
@@ -49,7 +49,7 @@ load-requires c κs =
 sub-if2 : tie.Need-sub-if2
 sub-if2 c = search needs
 
--- once the wire table holds the ballots
+-- the jury after the ballots were put into its wire table
 begun : (c : tie.After-load) (ws bs : List ℕ)
     → Entry (c .before .before .before .before .before .before .before .before) ws bs → let a =
     c .before .before .before .before .before .before .before .before .args in
@@ -70,7 +70,7 @@ step-requires c κs =
     (s .pre .board-lent) (j .run) (a .given) (a .header .gates) (omega arith) (omega (arith, j .gates))
     _ (a .board .now) (a .shown) (begun l (s .pre .wires-lent) (s .pre .board-lent) j)
 
--- after its last gate
+-- the jury after its last gate
 finished : (c : tie.After-step) (ws bs : List ℕ) → Entry (started (loaded c)) ws bs → let a = started (loaded c) .args in
     Stands (a .ballots .now) (a .list .now) (a .tape .now) ws bs (length (gatesOf (a .list .now)))
     (c .step .last .1 .1 .1 .1 .1 .1 .0) (c .step .last .1 .1 .1 .1 .1 .1 .1 .0) (c .step .result)

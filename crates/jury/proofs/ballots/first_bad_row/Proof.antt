@@ -1,4 +1,4 @@
--- `jury::ballots::first_bad_row` meets its contract: testing the rows from here on is testing all of them.
+-- `jury::ballots::first_bad_row` meets its contract: the first bad row of the rest is the first bad row of all.
 -- Assumes nothing.
 use mathlib.Core.Path.{_≡_, _∙_, sym, ap}
 use mathlib.Core.List.{List}
@@ -54,7 +54,7 @@ ones-in-requires c κs =
     let start = at .before .before in
     λ i l. part-bits (start .args .bytes .now) (at .loop .at) (at .loop .at + start .args .d - at .loop .at) i (start .pre .bits) l
 
--- what the call counts
+-- the call counts the ones of this turn's row
 counted : (c : tie.After-ones-in Inv-loop μ-loop) →
     c .ones-in .result ≡ ones (take (c .before .before .before .before .before .args .d)
     (drop (c .before .before .before .loop .at) (c .before .before .before .before .before .args .bytes .now)))

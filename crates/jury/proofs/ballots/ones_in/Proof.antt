@@ -1,4 +1,4 @@
--- `jury::ballots::ones_in` meets its contract: the ones counted so far and the ones in the rest are the ones in all.
+-- `jury::ballots::ones_in` meets its contract: the ones counted so far plus those in the rest are all ones.
 -- Assumes nothing.
 use mathlib.Core.Path.{_≡_, ap}
 use Prim.Native.Nat.{ℕ, _+_, _-_, _≤_, _<_}

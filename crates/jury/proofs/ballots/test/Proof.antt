@@ -1,5 +1,5 @@
--- `jury::ballots::test` meets its contract: each answer is the definition's for the outcomes of the tests that led
--- there.
+-- `jury::ballots::test` meets its contract: each branch answers what the definition gives for the outcomes of the
+-- tests.
 -- Assumes nothing.
 use mathlib.Core.Path.{_≡_, _∙_, refl, sym}
 use mathlib.Core.Bool.{true, false}
@@ -58,7 +58,7 @@ enum-told c = search needs
 no-byte : (c : tie.After-enum-told) → firstAboveOne 0 (c .before .before .before .before .before .before .args .ballots .now) ≡ Nowhere
 no-byte c = sym (c .before .before .first-above-one .ensures) ∙ c .enum-told .given .1
 
--- so the answer is that of the tests of the kind
+-- so the tests of the shape's kind decide
 by-kind : (c : tie.After-enum-told) → let a = c .before .before .before .before .before .before .args in
     firstOf (ballotReasons (a .shape) (a .ballots .now)) ≡ kindReason (a .shape) (a .ballots .now)
 by-kind c =

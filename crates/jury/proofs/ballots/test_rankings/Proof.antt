@@ -18,7 +18,7 @@ first-not-asymmetric-requires c κs = search needs
 enum-known-i : tie.Need-enum-known-i
 enum-known-i c = search needs
 
--- the answer by both searches
+-- the answer from what the two searches found
 found : Place → Place → Option Reason
 found clash notWeakOrder = firstOf (foundAt 11 clash ∷ foundAt 12 notWeakOrder ∷ [])
 

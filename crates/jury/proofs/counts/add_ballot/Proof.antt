@@ -63,7 +63,7 @@ part-add-row-start c = omega arith
 part-add-row-end : tie.Need-part-add-row-end Inv-loop μ-loop
 part-add-row-end c = end-within (c .before)
 
--- the row that a turn finds
+-- the row that a turn finds is still the one that was lent
 found : (c : tie.In-loop Inv-loop μ-loop) →
     getD (c .before .loop .counts) (c .before .loop .c) [] ≡ getD (c .before .before .before .args .counts .now) (c .before .loop .c) []
 found c =

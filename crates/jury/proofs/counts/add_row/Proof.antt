@@ -43,7 +43,7 @@ mul-counts c = omega arith
 element-copy-out-counts : tie.Need-element-copy-out-counts Inv-loop μ-loop
 element-copy-out-counts c = omega arith
 
--- the count that a turn finds
+-- the count that a turn finds is still the one that was lent
 found : (c : tie.After-shared-slice-known Inv-loop μ-loop) →
     getD (c .before .before .loop .counts) (c .before .before .loop .g) 0
     ≡ getD (c .before .before .before .args .counts .now) (c .before .before .loop .g) 0

@@ -1,4 +1,5 @@
--- `jury::rankings::not_asymmetric_in_ballot` meets its contract: no byte in the rows before i is 1 with its opposite.
+-- `jury::rankings::not_asymmetric_in_ballot` meets its contract: in the rows before i no byte and its opposite are
+-- both 1.
 -- Assumes nothing.
 use mathlib.Core.Path.{_≡_, _∙_, refl, sym, ap}
 use Prim.Native.Nat.{ℕ, _-_, _≤_}

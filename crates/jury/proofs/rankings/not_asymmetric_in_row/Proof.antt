@@ -1,4 +1,5 @@
--- `jury::rankings::not_asymmetric_in_row` meets its contract: no byte of the row before j is 1 with its opposite.
+-- `jury::rankings::not_asymmetric_in_row` meets its contract: before column j, no byte of the row and its opposite
+-- are both 1.
 -- Assumes nothing.
 use mathlib.Core.Path.{_≡_, _∙_, refl, sym, ap}
 use mathlib.Core.Logic.{⊎-elim}

@@ -1,4 +1,4 @@
--- `jury::rankings::not_weak_order` meets its contract: the test fails for every candidate below i.
+-- `jury::rankings::not_weak_order` meets its contract: 12 does not apply for any candidate below i.
 -- Assumes nothing.
 use mathlib.Core.Path.{_≡_, _∙_, refl, sym, ap}
 use mathlib.Core.Bool.{false}

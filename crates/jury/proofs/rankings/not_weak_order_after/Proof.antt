@@ -1,4 +1,4 @@
--- `jury::rankings::not_weak_order_after` meets its contract: the test fails for every candidate below j.
+-- `jury::rankings::not_weak_order_after` meets its contract: 12 does not apply for i and any candidate below j.
 -- Assumes nothing.
 use mathlib.Core.Path.{_≡_, _∙_, refl, sym, ap}
 use mathlib.Core.Bool.{Bool, false, _&&_}
@@ -14,7 +14,7 @@ use Rattle.jury.proofs.Searches.{some-later, some-here}
 use Rattle.jury.proofs.rankings.not_weak_order_after.Statement.{statement}
 use Rattle.jury.proofs.rankings.not_weak_order_after.Tie as tie
 
--- i is before j while some candidate is not after i and not before j
+-- i is before j, and some candidate is not after i and not before j
 abbrev test : ℕ → List ℕ → ℕ → ℕ → ℕ → Bool
 test k xs b i j = before k xs b i j && neitherAfterNorBefore k xs b i j
 

@@ -18,7 +18,7 @@ abbrev μ-loop : tie.MeasureT-loop
 loop-holds : tie.Need-loop-holds Inv-loop μ-loop
 loop-holds c = zero-add _
 
--- one digit more, and the rest halved
+-- a turn counts one digit and halves the rest
 turn : (n digits rest : ℕ) → 0 < rest → digits + widthOf rest ≡ widthOf n → digits + 1 + widthOf (rest / 2) ≡ widthOf n
 turn n digits rest h e = omega (arith, width-half rest h)
 

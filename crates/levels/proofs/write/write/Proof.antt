@@ -44,7 +44,7 @@ returns c =
     call-refused (a .shape) (a .table .now) (a .levels .now) (reasonAt 200 0)
     (other-length (a .shape) (a .table .now) (a .levels .now) (f .reasons) (λ e. differs (e ∙ sym (f .gates-are))))
 
--- the table fits
+-- the level table has one number for each gate
 long : (c : tie.Else1) → let a = c .before .before .before .before .before .before .before .args in
     length (a .levels .now) ≡ length (gatesOf (a .table .now))
 long c = c .if1 .left ∙ facts (c .before .before) .gates-are

@@ -1,4 +1,5 @@
--- `rehearsal::rehearse::rehearse_shape` meets its contract: a refused write decides; otherwise the run does.
+-- `rehearsal::rehearse::rehearse_shape` meets its contract: if the write is refused, its reason is the answer;
+-- otherwise the run decides.
 -- Assumes nothing.
 use mathlib.Core.Path.{_≡_, _∙_, sym, ap}
 use mathlib.Core.List.{List, []}
@@ -95,7 +96,7 @@ slice-aggregate-list c = cut-long (4 * gates-of (c .before)) ((write-from-list c
 slice-aggregate-run-list : tie.Need-slice-aggregate-run-list
 slice-aggregate-run-list c = search needs
 
--- what the run asks of the list and the buffers
+-- the list and the buffers are what the run requires
 cut : (c : tie.After-known-told2) →
     let w = (write-from-known-told2 c) in
     let start = (start-from-write w) in

@@ -1,5 +1,5 @@
--- `rehearsal::rehearse::run_list` meets its contract: the buffers are long enough to be cut, and only the ballots
--- decide the run's answer.
+-- `rehearsal::rehearse::run_list` meets its contract: the buffers are long enough to be cut, and the run is refused
+-- only because of the ballots.
 -- Assumes nothing.
 use mathlib.Core.Path.{_∙_, sym, ap}
 use Prim.Native.Nat.{_+_, _≤_}
@@ -14,7 +14,7 @@ use Rattle.rehearsal.proofs.Rehearsing.{cut-long, inputs-most, tape-fit
 use Rattle.rehearsal.proofs.rehearse.run_list.Statement.{statement}
 use Rattle.rehearsal.proofs.rehearse.run_list.Tie as tie
 
--- the facts of the call
+-- the buffers are long enough
 long-tape : (c : tie.Start) → let a = c .args in a .conditional ≤ length (a .tape .now)
 long-tape c = let a = c .args in
     tape-fits (a .shape) (a .list .now) (a .gates) (a .conditional) (a .tape .now) (a .wires .now) (a .board .now)

@@ -1,5 +1,5 @@
--- `rule_judgment::rule::comes_before` meets its contract: the loop keeps the last difference below half, and returns
--- at the first one that is not below.
+-- `rule_judgment::rule::comes_before` meets its contract: the loop keeps the last difference below half, and
+-- returns at the first difference from half on.
 -- Assumes nothing.
 use mathlib.Core.Path.{_∙_, refl, sym, ap, subst}
 use mathlib.Core.Logic.{⊎-elim}

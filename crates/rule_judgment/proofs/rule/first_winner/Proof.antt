@@ -27,7 +27,7 @@ rows c = rowsIn (c .args .k) (c .args .d) (c .args .counts .now)
 rows-are : (c : tie.Start Inv-loop μ-loop) → length (rows c) ≡ c .args .k
 rows-are c = rows-length (c .args .k) (c .args .d) (c .args .counts .now) (omega (arith, c .pre .eight, c .pre .fewCandidates))
 
--- a row's grades
+-- each row has n grades
 row-sum : (c : tie.Start Inv-loop μ-loop) (i : ℕ) → i < c .args .k → sum (take (c .args .d) (getD (c .args .counts .now) i [])) ≡ c .args .n
 row-sum c i l = ap sum (sym (row-at (c .args .k) (c .args .d) (c .args .counts .now) i l)) ∙ c .pre .gets i (omega (arith, rows-are c))
 

@@ -1,4 +1,4 @@
--- `rule_judgment::rule::same_counts` meets its contract: the rest of the two rows is the same exactly if the rows
+-- `rule_judgment::rule::same_counts` meets its contract: the rows are the same exactly if their rests from g on
 -- are.
 -- Assumes nothing.
 use mathlib.Core.Path.{_≡_, _∙_, refl, sym, ap}

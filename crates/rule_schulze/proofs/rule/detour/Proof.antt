@@ -1,5 +1,5 @@
--- `rule_schulze::rule::detour` meets its contract: the rows below i allow paths over l, which is the definition's
--- detour wherever i and j differ.
+-- `rule_schulze::rule::detour` meets its contract: the rows below i allow paths over l. Off the diagonal they are
+-- the definition's.
 -- Assumes nothing.
 use mathlib.Core.Path.{_≡_, _∙_, refl}
 use Prim.Native.Nat.{ℕ, min, max, _-_, _≤_, _<_}

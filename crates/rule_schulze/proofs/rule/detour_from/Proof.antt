@@ -1,5 +1,5 @@
--- `rule_schulze::rule::detour_from` meets its contract: below j the row has the better of the strength so far and the
--- path over l.
+-- `rule_schulze::rule::detour_from` meets its contract: below j the row has the larger of the strength so far and
+-- that of the path over l.
 -- Assumes nothing.
 use mathlib.Core.Path.{_≡_, _∙_, refl, ap}
 use Prim.Native.Nat.{ℕ, min, max, _-_, _≤_, _<_}

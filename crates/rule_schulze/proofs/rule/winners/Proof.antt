@@ -19,7 +19,7 @@ use Rattle.rule_schulze.proofs.Counting.{table-wins, eight-table}
 use Rattle.rule_schulze.proofs.rule.winners.Statement.{statement}
 use Rattle.rule_schulze.proofs.rule.winners.Tie as tie
 
--- a closing byte, as the table says
+-- a closing byte by the table
 abbrev winner : List (List ℕ) → ℕ → ℕ → ℕ
 winner paths k i = cond (unbeatenIn paths k i) 1 0
 

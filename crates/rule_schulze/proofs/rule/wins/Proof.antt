@@ -1,4 +1,5 @@
--- `rule_schulze::rule::wins` meets its contract: nobody below j beats i; the first who does ends the loop.
+-- `rule_schulze::rule::wins` meets its contract: nobody below j beats i; the first candidate that does ends the
+-- loop.
 -- Assumes nothing.
 use mathlib.Core.Path.{_≡_, sym}
 use mathlib.Core.Bool.{true, _||_}

@@ -18,7 +18,7 @@ Inv-loop ballots k n i j ballot at₀ count₀ b₀ at count b = (b ≤ n) × (a
 abbrev μ-loop : tie.MeasureT-loop
 μ-loop ballots k n i j ballot at₀ count₀ b₀ at count b = n - b
 
--- the first place that is read is a small number
+-- a bound for the first place that is read
 first-place : (c : tie.Start Inv-loop μ-loop) → c .args .i * c .args .k ≤ 64
 first-place c = mul-le-mul {n₁ = c .args .i} {m₁ = c .args .k} {n₂ = 8} {m₂ = 8} (omega arith) (omega arith)
 

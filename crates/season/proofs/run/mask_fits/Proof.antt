@@ -1,4 +1,4 @@
--- `season::run::mask_fits` meets its contract: the rest of the mask fits the rest of the candidates.
+-- `season::run::mask_fits` meets its contract: the mask fits exactly if its rest fits the rest of the candidates.
 -- Assumes nothing.
 use mathlib.Core.Path.{_≡_, _∙_, ap}
 use Prim.Native.Nat.{ℕ, _-_, _^_, _≤_}

@@ -1,4 +1,4 @@
--- `season::run::winners` meets its contract: the ones counted so far and those of the rest are all ones.
+-- `season::run::winners` meets its contract: the ones counted so far plus those of the rest are all ones.
 -- Assumes nothing.
 use mathlib.Core.Path.{_≡_}
 use Prim.Native.Nat.{_+_, _-_, _≤_}

@@ -1,4 +1,4 @@
--- `season::sheet::first_bad` meets its contract: testing the runs from here on is testing all of them.
+-- `season::sheet::first_bad` meets its contract: the first bad run of the rest is the first bad run of all.
 -- Assumes nothing.
 use mathlib.Core.Path.{_≡_, _∙_, sym, ap}
 use mathlib.Core.List.{List}
@@ -47,7 +47,7 @@ part-read-end c = end-within c
 read-requires : tie.Need-read-requires Inv-loop μ-loop
 read-requires c κs = part-long (c .before .before .loop .at) (c .before .before .before .before .args .bytes .now) (end-within (c .before))
 
--- what the test says about the run
+-- the test of this turn's run is the definition's
 tested : (c : tie.After-is-good Inv-loop μ-loop) → c .is-good .result
     ≡ goodRun
     (runOf (take (c .before .before .before .before .loop .at + runBytes

@@ -1,4 +1,4 @@
--- `season::sheet::sums` meets its contract: the sums so far and those of the runs left add up to those of all.
+-- `season::sheet::sums` meets its contract: the totals so far plus those of the rest are the totals of all.
 -- Assumes nothing.
 use mathlib.Core.Path.{_≡_, _∙_, sym, ap}
 use Prim.Native.Nat.{ℕ, _+_, _-_, _*_, _≤_}

@@ -1,4 +1,4 @@
--- `tally::count::closing_bytes` meets its contract: it counts grades or preferences, and applies the rule of that
+-- `tally::count::closing_bytes` meets its contract: it counts grades or votes, and applies the rule of the shape's
 -- kind.
 -- Assumes nothing.
 use mathlib.Core.Path.{_≡_, _∙_, sym, ap, subst}

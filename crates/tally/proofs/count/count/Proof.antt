@@ -1,5 +1,5 @@
--- `tally::count::count` meets its contract: each answer is the definition's for the outcomes of the tests that led
--- there.
+-- `tally::count::count` meets its contract: each branch answers what the definition gives for the outcomes of the
+-- tests.
 -- Assumes nothing.
 use mathlib.Core.Path.{_≡_, _∙_, sym, ap}
 use mathlib.Core.Bool.{true}
@@ -48,7 +48,7 @@ enum-told c = search needs
 abbrev start-from-enum-told : tie.After-enum-told → tie.Start
 start-from-enum-told c = c .before .before .before .before .before .before
 
--- no test of the ballots applies
+-- no reason of the ballots applies
 no-reason : (c : tie.After-enum-told)
     → firstOf (ballotReasons ((start-from-enum-told c) .args .shape) ((start-from-enum-told c) .args .ballots .now))
     ≡ none

@@ -1,4 +1,5 @@
--- `tally::own::gates` meets its contract: each kind has its own way to count its gates.
+-- `tally::own::gates` meets its contract: for rankings the writer counts the gates, for grades the sizes are added
+-- up.
 -- Assumes nothing.
 use mathlib.Core.Path.{_≡_, _∙_, sym, ap}
 use mathlib.Core.Bool.{false}

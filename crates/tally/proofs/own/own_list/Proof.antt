@@ -31,7 +31,7 @@ ranking c = sym (c .before .is-ranking .ensures) ∙ c .if1 .taken
 grading : (c : tie.Else1) → isRanking (c .before .before .before .args .shape) ≡ false
 grading c = sym (c .before .is-ranking .ensures) ∙ c .if1 .left
 
--- so their numbers are small
+-- so the numbers of the shape are within the limits of a ranking
 ranks : (c : tie.Then1) → Ranked (c .before .before .before .args .shape)
 ranks c =
     let start = c .before .before .before in

@@ -20,11 +20,11 @@ test-run-requires c κs = search needs
 enum-told : tie.Need-enum-told
 enum-told c = search needs
 
--- after the tests
+-- the start, seen from the end of the tests
 abbrev tested : tie.After-test-run → tie.Start
 tested c = c .before .before .before .before .before .before .before .before
 
--- after the tests have passed
+-- the start, seen from where the tests have passed
 start-of : tie.After-enum-told → tie.Start
 start-of c = tested (c .before .before)
 
@@ -58,7 +58,7 @@ same-length c = search needs
 same-length-2 : tie.Need-same-length-2
 same-length-2 c = search needs
 
--- the run is done, then the wire table is emptied
+-- at the end the list has been run, and then the wire table emptied
 returns : tie.Need-returns
 unfolding outcome runResultAfter start-of
 returns c =

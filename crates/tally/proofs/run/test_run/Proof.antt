@@ -27,7 +27,7 @@ refuses : (c : tie.Start) (r : Reason) → let a = c .args in
 unfolding outcome
 refuses c r e = sym (ap (λ (o : Option Reason). outcome o (sizeOf (gatesOf (c .args .table .now)))) e)
 
--- after the test of the list
+-- the size that the test of the list answered
 size : tie.After-known-told → Size
 size c = let g = c .before .answer .given in record { gates = g .0 .0; conditional = g .0 .1 .0 }
 
@@ -54,7 +54,7 @@ passed c =
     test-passed (a .shape) (a .table .now) (size c)
     (sym (c .before .before .before .test .ensures) ∙ ap outcomeOf (c .before .answer .given .1))
 
--- after the test of the ballots
+-- no reason of the ballots applies
 no-reason : (c : tie.After-enum-told2) → let a = (start-from-enum-told2 c) .args in
     firstOf (ballotReasons (a .shape) (a .ballots .now)) ≡ none
 unfolding refusedFor
@@ -113,7 +113,7 @@ enum-known-reason-2 c = search needs
 enum-told-3 : tie.Need-enum-told-3
 enum-told-3 c = search needs
 
--- what the tests 7 to 10 answer is what the whole answers
+-- if the tests before have passed, the tests 7 to 10 decide
 lent-answer : (c : tie.After-test-buffers) → let a = (start-from-test-buffers c) .args in
     firstOf (runReasons (a .shape) (a .table .now) (a .ballots .now) (a .tape .now) (a .wires .now) (a .board .now))
     ≡ refusedFor (c .test-buffers .result)

@@ -1,5 +1,5 @@
--- `tally::test::test` meets its contract: each answer is the definition's for the outcomes of the tests that led
--- there.
+-- `tally::test::test` meets its contract: each branch answers what the definition gives for the outcomes of the
+-- tests.
 -- Assumes nothing.
 use mathlib.Core.Path.{_≡_, _∙_, refl, sym, ap}
 use mathlib.Core.Bool.{true}
@@ -40,7 +40,7 @@ test-requires c κs = search needs
 abbrev start-from-test : tie.After-test → tie.Start
 start-from-test c = c .before .before .before .before .before
 
--- what the gate layer answers is what its test answers for the shape
+-- the gate layer's answer is that of its definition, for the shape's inputs and outputs
 answer : (c : tie.After-test) → let a = (start-from-test c) .args in
     tested (ballotBytes (a .shape)) (a .shape .candidates) (a .table .now) ≡ c .test .result
 answer c =

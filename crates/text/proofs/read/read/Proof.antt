@@ -1,4 +1,5 @@
--- `text::read::read` meets its contract.
+-- `text::read::read` meets its contract: each branch answers what the definition gives for the outcomes of the
+-- tests.
 -- Assumes nothing.
 use mathlib.Core.Path.{_≡_, _∙_, sym, ap}
 use mathlib.Core.Bool.{true}
@@ -37,7 +38,7 @@ returns c =
     (shape-outside (a .shape) (a .text .now) (a .output .now)
     (sym (w .ensures) ∙ not-true (w .result) (c .if1 .taken))))
 
--- what each test that passed establishes
+-- what holds after each test that passed
 limits : (c : tie.Else1) → withinLimits (c .before .before .before .before .args .shape) ≡ true
 limits c = sym (c .before .is-within-limits .ensures) ∙ not-false (c .before .is-within-limits .result) (c .if1 .left)
 

@@ -1,4 +1,4 @@
--- `text::scan::first_bad` meets its contract.
+-- `text::scan::first_bad` meets its contract: the first bad gate of the rest is the first bad gate of all.
 -- Assumes nothing.
 use mathlib.Core.Path.{_≡_, _∙_, refl, sym, ap}
 use Prim.Native.Nat.{ℕ, _+_, _-_, _≤_}

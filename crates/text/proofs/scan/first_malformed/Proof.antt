@@ -1,4 +1,4 @@
--- `text::scan::first_malformed` meets its contract.
+-- `text::scan::first_malformed` meets its contract: the first malformed line of the rest is the first one of all.
 -- Assumes nothing.
 use mathlib.Core.Path.{_≡_, _∙_, refl, sym, ap}
 use Prim.Native.Nat.{ℕ, _-_, _≤_}

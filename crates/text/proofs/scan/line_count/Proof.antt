@@ -1,4 +1,5 @@
--- `text::scan::line_count` meets its contract.
+-- `text::scan::line_count` meets its contract: the line feeds counted so far plus those in the rest are all line
+-- feeds.
 -- Assumes nothing.
 use mathlib.Core.Path.{_≡_, sym, ap}
 use mathlib.Core.Logic.{⊎-elim}

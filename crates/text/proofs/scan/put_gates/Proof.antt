@@ -1,4 +1,5 @@
--- `text::scan::put_gates` meets its contract.
+-- `text::scan::put_gates` meets its contract: storing the rest from here on gives what storing all from the start
+-- gives.
 -- Assumes nothing.
 use mathlib.Core.Path.{_≡_, _∙_, refl, sym, ap}
 use Prim.Native.Nat.{_+_, _-_, _*_, _≤_}

@@ -1,4 +1,5 @@
--- `text::write::put_text` meets its contract.
+-- `text::write::put_text` meets its contract: storing the rest from here on gives what storing all from the start
+-- gives.
 -- Assumes nothing.
 use mathlib.Core.Path.{_≡_, _∙_, refl, sym, ap}
 use mathlib.Core.List.{List}

@@ -1,4 +1,4 @@
--- `text::write::text_length` meets its contract.
+-- `text::write::text_length` meets its contract: the total so far plus the length of the rest is the whole length.
 -- Assumes nothing.
 use mathlib.Core.Path.{_≡_, ap}
 use Prim.Native.Nat.{ℕ, suc, _+_, _-_, _*_, _≤_}

@@ -1,4 +1,5 @@
--- `text::write::write` meets its contract.
+-- `text::write::write` meets its contract: each branch answers what the definition gives for the outcomes of the
+-- tests.
 -- Assumes nothing.
 use mathlib.Core.Path.{_∙_, sym, ap}
 use Prim.Native.Nat.{ℕ, _≤_}

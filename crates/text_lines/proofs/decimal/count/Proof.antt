@@ -1,4 +1,5 @@
--- `text_lines::decimal::count` meets its contract.
+-- `text_lines::decimal::count` meets its contract: the number has more than `more` digits, and the bound is the
+-- next power of ten.
 -- Assumes nothing.
 use mathlib.Core.Path.{subst}
 use Prim.Native.Nat.{ℕ, _*_, _≤_}

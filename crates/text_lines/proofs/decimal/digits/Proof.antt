@@ -1,4 +1,4 @@
--- `text_lines::decimal::digits` meets its contract.
+-- `text_lines::decimal::digits` meets its contract: reading on from here gives what reading from the start gives.
 -- Assumes nothing.
 use mathlib.Core.Path.{_≡_, _∙_, refl, sym, ap}
 use mathlib.Core.Bool.{true}
@@ -80,7 +80,7 @@ sub-value c = omega (arith, digit-is _ (is-digit-here (c .before)))
 add-value : tie.Need-add-value Inv-loop μ-loop
 add-value c = omega (arith, digit-is _ (is-digit-here (c .before)))
 
--- the number of a turn
+-- the value after a turn
 value-is : (c : tie.After-wide Inv-loop μ-loop) →
     let at = (loop-reached-from-wide c) in
     10 * at .loop .value + (c .wide .result - 48) ≡ 10 * at .loop .value + (getD (at .before .before .args .text .now) (at .loop .i) 0 - 48)

@@ -1,4 +1,5 @@
--- `text_lines::decimal::put` meets its contract: the last digit goes to the last place, and its tenth before it.
+-- `text_lines::decimal::put` meets its contract: a turn stores the last digit, and the digits of the tenth go
+-- before it.
 -- Assumes nothing.
 use mathlib.Core.Path.{refl}
 use mathlib.Core.Path.{_≡_, _∙_}

@@ -1,4 +1,4 @@
--- `text_lines::line::gate_at` meets its contract.
+-- `text_lines::line::gate_at` meets its contract: it reads the parts of a line in the definition's order.
 -- Assumes nothing.
 use mathlib.Core.Path.{_≡_, _∙_, sym, ap}
 use mathlib.Core.Option.{none, some}
@@ -123,7 +123,7 @@ start-from-else3 c = start-from-b (c .before .before .before .before .before .be
 abbrev start-from-then3 : tie.Then3 → tie.Start
 start-from-then3 c = start-from-b (c .before .before .before .before .before .before .before .before)
 
--- the kind as it was read, and what is left of the reading
+-- the kind that was read, and the characters after it
 abbrev kind-read : tie.After-known-told → Taken ℕ
 kind-read c = record {
   value = c .before .kind .given .0 .0;

@@ -23,7 +23,7 @@ operand-length-requires-2 c κs = search needs
 operand-length-requires-3 : tie.Need-operand-length-requires-3
 operand-length-requires-3 c κs = search needs
 
--- each part is short
+-- bounds for the lengths of the parts
 record Short (c : tie.After-operand-length3) : Type 0 where
   kind : c .before .before .before .count .result ≤ 10
   a : c .before .before .operand-length .result ≤ 11

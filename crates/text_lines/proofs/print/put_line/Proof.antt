@@ -1,4 +1,4 @@
--- `text_lines::print::put_line` meets its contract.
+-- `text_lines::print::put_line` meets its contract: the parts of the line are stored one after the other.
 -- Assumes nothing.
 use mathlib.Core.Path.{_≡_, _∙_, refl, ap}
 use mathlib.Core.List.{List, [], _∷_, _++_}
@@ -33,7 +33,7 @@ fits c =
       c .before .before .before .pre,
     )
 
--- what is stored after each part
+-- the characters stored so far, after each part
 abbrev kind-text : tie.Start → List ℕ
 kind-text s = decimal (s .args .kind)
 
@@ -106,7 +106,7 @@ c-stored : (c : tie.After-put-operand3)
     (c .put-operand3 .last .1 .1 .1 .0) (c .put-operand3 .result)
 c-stored c = stored-then (b-stored (c .before .before .before .before)) (c .put-operand3 .ensures)
 
--- how long they are
+-- their lengths
 a-long : (c : tie.After-put-operand) → length (a-text c) ≡ length (decimal ((start-from-put-operand c) .args .kind))
     + length (operandText (ltb 0 ((operands-from-put-operand c) .operands .result))
     ((start-from-put-operand c) .args .a))

@@ -1,4 +1,5 @@
--- `trustee_alone::finish::finish` meets its contract: it tests the list, then the length.
+-- `trustee_alone::finish::finish` meets its contract: it tests the list, then the length, and empties the table
+-- only after that.
 -- Assumes nothing.
 use borrow.Author.Needs.{needs}
 use mathlib.Core.Path.{_≡_, _∙_, sym, ap}

@@ -1,4 +1,4 @@
--- `trustee_alone::own::is_trustee` meets its contract.
+-- `trustee_alone::own::is_trustee` meets its contract: the three tests are the definition's.
 -- Assumes nothing.
 use borrow.Author.Tests.{le-leb, lt-leb}
 use Rattle.trustee_alone.specs.Own.{isTrustee}

@@ -48,7 +48,7 @@ answer-from-published c = c .before .before .before .before .before .before .bef
 abbrev ballot-bytes-from-published : tie.After-published → tie.After-ballot-bytes
 ballot-bytes-from-published c = c .before .before .before .before .before .before
 
--- the tests passed, and the answer is the list's own
+-- the tests have passed, and the answer is the list's own G, C and R
 accepted-by : (c : tie.After-answer) → let a = (start-from-answer c) .args in
     (firstOf (roundReasons (a .shape) (a .table .now) (a .t) (a .p) (a .round) (a .levels .now) (a .triples .now)
     (a .heard .now) (a .wires .now) (a .published .now)) ≡ none)
@@ -68,7 +68,7 @@ accepted-by c =
     (depthsOf (ballotBytes (a .shape)) (gatesOf (a .table .now))) _
     (sym (c .before .before .test-round .ensures) ∙ ap depthsOutcome (c .answer .given .1))
 
--- what is known then
+-- what holds if the tests have passed
 known : (c : tie.After-answer) → let a = (start-from-answer c) .args in
     Passed (a .shape) (a .table .now) (a .round) (a .levels .now) (a .triples .now) (a .heard .now) (a .wires .now)
     (a .published .now)

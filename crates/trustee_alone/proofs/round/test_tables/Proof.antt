@@ -1,4 +1,5 @@
--- `trustee_alone::round::test_tables` meets its contract: each answer is the first test that fails.
+-- `trustee_alone::round::test_tables` meets its contract: each branch answers the reason of the first test that
+-- fails.
 -- Assumes nothing.
 use borrow.Author.Needs.{needs}
 use mathlib.Core.Path.{_≡_, _∙_, sym, ap}

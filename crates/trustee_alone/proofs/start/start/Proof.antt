@@ -87,7 +87,7 @@ facts c =
     (test-passed (a .shape) (a .table .now) _
     (sym (c .before .before .test .ensures) ∙ ap outcomeOf (c .answer .given .1)))
 
--- what the tests 16 to 18 answer is what the whole answers
+-- if the list has passed its test, the tests 16 to 18 decide
 own-answer : (c : tie.After-test-own) → let a = (start-from-test-own c) .args in
     firstOf (startReasons (a .shape) (a .table .now) (a .t) (a .p) (a .shares .now) (a .triples .now) (a .wires .now)
     (a .published .now)) ≡ refusedFor (c .test-own .result)
@@ -118,7 +118,7 @@ none-applies : (c : tie.After-enum-told2) → let a = (start-from-enum-told2 c) 
 unfolding refusedFor
 none-applies c = own-answer (c .before .before) ∙ ap refusedFor (c .enum-told2 .given .1)
 
--- so the tables have their lengths
+-- so the tables have the right lengths
 lengths : (c : tie.After-enum-told2) → let a = (start-from-enum-told2 c) .args in
     (length (a .shares .now) ≡ ballotBytes (a .shape))
     × Fit (ballotBytes (a .shape)) (a .shape .candidates) (gatesOf (a .table .now)) (a .triples .now) (a .wires .now)

@@ -1,4 +1,4 @@
--- `trustee_alone::start::test_own` meets its contract: each answer is the first test that fails.
+-- `trustee_alone::start::test_own` meets its contract: each branch answers the reason of the first test that fails.
 -- Assumes nothing.
 use borrow.Author.Needs.{needs}
 use mathlib.Core.Path.{_≡_, _∙_, sym}

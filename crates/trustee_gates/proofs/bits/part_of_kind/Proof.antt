@@ -1,4 +1,5 @@
--- `trustee_gates::bits::part_of_kind` meets its contract: each arm is its kind's entry in the list of bits.
+-- `trustee_gates::bits::part_of_kind` meets its contract: each arm is the entry of its kind in the definition's
+-- list.
 -- Assumes nothing.
 use borrow.Author.Needs.{needs}
 use mathlib.Core.Path.{_≡_, sym}

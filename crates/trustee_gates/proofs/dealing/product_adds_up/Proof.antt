@@ -1,4 +1,4 @@
--- `trustee_gates::dealing::product_adds_up` meets its contract.
+-- `trustee_gates::dealing::product_adds_up` meets its contract: it opens u, v and the product, and compares.
 -- Assumes nothing.
 use borrow.Author.Needs.{needs}
 use mathlib.Core.Path.{_≡_, _∙_, ap}

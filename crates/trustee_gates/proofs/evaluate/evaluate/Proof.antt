@@ -1,5 +1,5 @@
--- `trustee_gates::evaluate::evaluate` meets its contract: the inputs are copied, the gates run, and the closing bits
--- copied.
+-- `trustee_gates::evaluate::evaluate` meets its contract: the inputs are copied, the gates are run, and the closing
+-- bits are copied.
 -- Assumes nothing.
 use borrow.Author.Needs.{needs}
 use mathlib.Core.Path.{_≡_, _∙_, refl, sym, ap}
@@ -17,7 +17,7 @@ use Rattle.trustee_gates.proofs.evaluate.evaluate.Tie as tie
 abbrev dealing : tie.Start → Dealing
 dealing s = record { ballotParts = s .args .shares .now; dealerParts = s .args .triples .now }
 
--- sizes, by the length of the table
+-- the number of gates, from the length of the table
 size-is : (s : tie.Start) → s .args .inputs + length (s .args .table .now) / 4 ≡ s .args .inputs + length (gatesOf (s .args .table .now))
 size-is s = omega (arith, length-gates (s .args .table .now))
 

@@ -1,4 +1,5 @@
--- `trustee_gates::evaluate::run_gates` meets its contract: doing the rest is doing all.
+-- `trustee_gates::evaluate::run_gates` meets its contract: running the rest of the gates gives what running all
+-- gives.
 -- Assumes nothing.
 use mathlib.Core.Path.{_∙_, refl, sym}
 use mathlib.Core.List.{List}
@@ -16,7 +17,7 @@ use Rattle.trustee_gates.proofs.Running.{Left, left-start, left-end, ga
 use Rattle.trustee_gates.proofs.evaluate.run_gates.Statement.{statement}
 use Rattle.trustee_gates.proofs.evaluate.run_gates.Tie as tie
 
--- what the whole list makes of the tables
+-- the wire parts after the whole list
 abbrev final : ℕ → Pieces → ℕ → List ℕ → List ℕ → List ℕ → Held
 final t pieces inputs table triples ws =
     partsOf t (piece (pieces .triples) triples) (λ p. take inputs (piece (pieces .wires) ws p)) 0 (gatesOf table)

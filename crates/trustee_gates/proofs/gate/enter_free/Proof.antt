@@ -46,7 +46,7 @@ new-part-requires c κs =
 abbrev start-from-new-part : tie.After-new-part Inv-loop μ-loop → tie.Start Inv-loop μ-loop
 start-from-new-part c = c .before .before .before .before .before
 
--- the place where a part is entered
+-- the place where a part is stored
 place : (c : tie.After-new-part Inv-loop μ-loop) → let l = c .before .before .before .loop in let a =
     (start-from-new-part c) .args in l .p * a .size + a .own < length (l .wires)
 place c =

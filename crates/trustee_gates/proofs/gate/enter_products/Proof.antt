@@ -64,7 +64,7 @@ new-part-requires c κs =
       wires-reach = reaches (a .t) (a .pieces .wires) (l .wires) (l .p) (l .inv .1 ∙ s .pre .free .wires-length) (omega arith);
     }
 
--- the place where a part is entered
+-- the place where a part is stored
 place : (c : tie.After-new-part Inv-loop μ-loop) → let l = c .before .before .before .before .loop in let a =
     (start-from-new-part c) .args in l .p * a .pieces .wires + a .own < length (l .wires)
 place c =

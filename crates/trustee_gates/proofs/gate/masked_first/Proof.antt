@@ -1,4 +1,4 @@
--- `trustee_gates::gate::masked_first` meets its contract.
+-- `trustee_gates::gate::masked_first` meets its contract: it adds the trustee's part of wire a and its bit of u.
 -- Assumes nothing.
 use borrow.Author.Needs.{needs}
 use mathlib.Core.Path.{sym}

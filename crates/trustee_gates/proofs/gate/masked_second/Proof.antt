@@ -1,4 +1,5 @@
--- `trustee_gates::gate::masked_second` meets its contract.
+-- `trustee_gates::gate::masked_second` meets its contract: it adds the trustee's bit of the second factor and its
+-- bit of v.
 -- Assumes nothing.
 use borrow.Author.Needs.{needs}
 use mathlib.Core.Path.{sym}

@@ -1,4 +1,4 @@
--- `trustee_gates::gate::new_part` meets its contract.
+-- `trustee_gates::gate::new_part` meets its contract: it reads the trustee's parts of the three operands.
 -- Assumes nothing.
 use borrow.Author.Needs.{needs}
 use mathlib.Core.Path.{sym}

@@ -1,4 +1,4 @@
--- `trustee_gates::gate::product_part` meets its contract.
+-- `trustee_gates::gate::product_part` meets its contract: it reads the trustee's three bits of the triple.
 -- Assumes nothing.
 use borrow.Author.Needs.{needs}
 use mathlib.Core.Path.{sym}

@@ -1,4 +1,5 @@
--- `trustee_gates::gate::publish` meets its contract: the first p trustees have published their bits, which are added.
+-- `trustee_gates::gate::publish` meets its contract: the first p trustees have published their bits, and these are
+-- added up.
 -- Assumes nothing.
 use borrow.Author.Needs.{needs}
 use mathlib.Core.Path.{_≡_, _∙_, refl, sym, ap}
@@ -49,7 +50,7 @@ start-from-round c = c .before .before .before .before .before
 abbrev start-from-masked-second : tie.After-masked-second Inv-loop μ-loop → tie.Start Inv-loop μ-loop
 start-from-masked-second c = c .before .before .before .before .before .before .before
 
--- what both factors ask of the tables
+-- the tables have what both factors need
 asked : (c : tie.In-loop Inv-loop μ-loop) → let a = (start-from-round c) .args in let l = c .before .loop in
     FactorReady (a .pieces) (a .gate) (a .i) (l .p) (a .triples .now) (a .wires .now)
 asked c =
@@ -72,7 +73,7 @@ asked c =
       };
     }
 
--- the places of both bits
+-- the places of both bits are within the table
 place : (c : tie.After-masked-second Inv-loop μ-loop) → let l = c .before .before .before .loop in let a =
     (start-from-masked-second c) .args in
     (l .p * a .pieces .published + (2 * a .i + 1) < length (l .published)) × (2 * a .i + 1 < a .pieces .published)

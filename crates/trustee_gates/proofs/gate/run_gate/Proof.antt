@@ -1,5 +1,5 @@
--- `trustee_gates::gate::run_gate` meets its contract: a conditional gate is published, opened and entered, a free one
--- only entered.
+-- `trustee_gates::gate::run_gate` meets its contract: for a conditional gate, factors are published and opened, and
+-- parts are stored; for a free gate, parts are only stored.
 -- Assumes nothing.
 use borrow.Author.Needs.{needs}
 use mathlib.Core.Path.{_≡_, _∙_, sym, ap}

@@ -1,4 +1,4 @@
--- `trustee_gates::gate::second_factor` meets its contract, by the kind.
+-- `trustee_gates::gate::second_factor` meets its contract, for a choice and for other kinds.
 -- Assumes nothing.
 use borrow.Author.Needs.{needs}
 use mathlib.Core.Path.{sym}

@@ -1,4 +1,4 @@
--- `trustee_gates::table::copy_part` meets its contract: copying the rest is copying all.
+-- `trustee_gates::table::copy_part` meets its contract: copying the rest gives what copying all gives.
 -- Assumes nothing.
 use mathlib.Core.Path.{_≡_, _∙_, refl, sym}
 use mathlib.Core.List.{List}

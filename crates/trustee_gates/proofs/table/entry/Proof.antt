@@ -1,4 +1,4 @@
--- `trustee_gates::table::entry` meets its contract.
+-- `trustee_gates::table::entry` meets its contract: the place lies within the table.
 -- Assumes nothing.
 use borrow.Author.Needs.{needs}
 use mathlib.Core.Path.{sym}

@@ -1,4 +1,4 @@
--- `trustee_rounds::part::enter_gate` meets its contract.
+-- `trustee_rounds::part::enter_gate` meets its contract: it stores the part only if the round is the gate's level.
 -- Assumes nothing.
 use borrow.Author.Needs.{needs}
 use mathlib.Core.Path.{_∙_, sym, ap}

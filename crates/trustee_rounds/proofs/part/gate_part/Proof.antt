@@ -1,5 +1,5 @@
--- `trustee_rounds::part::gate_part` meets its contract: a conditional gate takes its bit of the product, a free one
--- ignores it.
+-- `trustee_rounds::part::gate_part` meets its contract: a conditional gate uses the bit of the product; a free gate
+-- does not depend on it.
 -- Assumes nothing.
 use borrow.Author.Needs.{needs}
 use mathlib.Core.Path.{_∙_, sym, ap}

@@ -1,4 +1,4 @@
--- `trustee_rounds::part::own_part` meets its contract.
+-- `trustee_rounds::part::own_part` meets its contract: it reads the trustee's parts of the three operands.
 -- Assumes nothing.
 use borrow.Author.Needs.{needs}
 use Rattle.trustee_shares.specs.Shares.{part}

@@ -1,4 +1,4 @@
--- `trustee_rounds::part::product` meets its contract.
+-- `trustee_rounds::part::product` meets its contract: it reads the trustee's triple and the two sums.
 -- Assumes nothing.
 use borrow.Author.Needs.{needs}
 use Rattle.trustee_shares.specs.Shares.{part, uOf, vOf, productOf, productPart}

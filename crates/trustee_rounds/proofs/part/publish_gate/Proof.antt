@@ -1,4 +1,5 @@
--- `trustee_rounds::part::publish_gate` meets its contract: only a conditional gate of this level publishes.
+-- `trustee_rounds::part::publish_gate` meets its contract: only for a conditional gate of the next level anything
+-- is published.
 -- Assumes nothing.
 use borrow.Author.Needs.{needs}
 use mathlib.Core.Path.{_≡_, _∙_, sym, ap}
@@ -50,7 +51,7 @@ returns c =
     (maskedFirst (a .wires .now) (a .triples .now) (a .i) (gateOfNumbers (a .numbers)) ∷ maskedSecond (a .wires .now)
     (a .triples .now) (a .i) (gateOfNumbers (a .numbers)) ∷ [])) (a .published .now)) is)
 
--- after the first test
+-- after the first test, the gate is conditional
 conditional-here : (c : tie.Else1) → conditionalOf ((start-from-else1 c) .args .numbers .kind) ≡ true
 conditional-here c = sym (c .before .conditional .ensures) ∙ not-false (c .before .conditional .result) (c .if1 .left)
 

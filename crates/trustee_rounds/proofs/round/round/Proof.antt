@@ -1,4 +1,5 @@
--- `trustee_rounds::round::round` meets its contract: parts, factors, and after the last level the closing bits.
+-- `trustee_rounds::round::round` meets its contract: it enters parts, publishes factors and, after the last level,
+-- the closing bits.
 -- Assumes nothing.
 use borrow.Author.Needs.{needs}
 use mathlib.Core.Path.{_∙_, ap}

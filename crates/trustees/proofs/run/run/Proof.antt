@@ -20,7 +20,7 @@ use Rattle.trustees.proofs.Sums.{Ready, call-ready, opened-closing}
 use Rattle.trustees.proofs.run.run.Statement.{statement}
 use Rattle.trustees.proofs.run.run.Tie as tie
 
--- This call, by its arguments at the start.
+-- This call, from its arguments at the start.
 abbrev call : tie.Start → Call
 call s =
     let a = s .args in
@@ -36,8 +36,8 @@ call s =
       };
     }
 
--- The stages, by what has happened so far: the tests refuse; they pass; the gates are evaluated; the closing bits are
--- opened; the wire parts are emptied.
+-- The stages of the function: the tests refuse; they pass; the gates are evaluated; the closing bits are opened;
+-- the wire parts are emptied.
 abbrev started : tie.After-known-told → tie.Start
 started c = let lending = c .before .before .before .before in lending .before .before .before .before .before .before .before .before
 
@@ -58,7 +58,7 @@ no-reason c =
     outcome-accepted (firstOf (trusteesReasons of)) (sizeOf (gatesOf (of .table))) (size c)
     (sym (c .before .before .before .test .ensures) ∙ ap outcomeOf (c .before .answer .given .1))
 
--- and the answer is the list's own size
+-- if the tests pass, the answer is the list's own size
 is-size : (c : tie.After-known-told) → size c ≡ sizeOf (gatesOf (call (started c) .table))
 unfolding outcomeOf outcome
 is-size c =

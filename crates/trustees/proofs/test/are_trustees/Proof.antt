@@ -1,4 +1,4 @@
--- `trustees::test::are_trustees` meets its contract.
+-- `trustees::test::are_trustees` meets its contract: both tests are the definition's.
 -- Assumes nothing.
 use borrow.Author.Tests.{le-leb, lt-leb}
 use Rattle.trustees.proofs.test.are_trustees.Statement.{statement}

@@ -17,7 +17,7 @@ use Rattle.trustees.proofs.Reasons.{by-test, by-ballots, by-parts, smal
 use Rattle.trustees.proofs.test.test.Statement.{statement}
 use Rattle.trustees.proofs.test.test.Tie as tie
 
--- This call, by its arguments at the start.
+-- This call, from its arguments at the start.
 abbrev call : tie.Start → Call
 call s =
     let a = s .args in
@@ -33,7 +33,7 @@ call s =
       };
     }
 
--- The stages, by what has happened so far: the list passes its test; the ballots pass theirs; the parts are tested.
+-- The stages of the function: the list passes its test; the ballots pass theirs; the parts are tested.
 abbrev started : tie.After-known-told → tie.Start
 started c = let lending = c .before .before .before .before in lending .before .before .before .before .before .before
 
@@ -46,7 +46,7 @@ refuses : (s : tie.Start) (r : Reason) → firstOf (trusteesReasons (call s)) �
 unfolding outcome
 refuses s r e = sym (ap (λ (o : Option Reason). outcome o (sizeOf (gatesOf (call s .table)))) e)
 
--- after the test of the list
+-- the size that the test of the list answered
 size : tie.After-known-told → Size
 size c = let g = c .before .answer .given in record { gates = g .0 .0; conditional = g .0 .1 .0 }
 
@@ -57,12 +57,12 @@ passed c =
     test-passed (of .shape) (of .table) (size c)
     (sym (c .before .before .before .test .ensures) ∙ ap outcomeOf (c .before .answer .given .1))
 
--- after the test of the ballots
+-- no reason of the ballots applies
 no-reason : (c : tie.After-enum-told2) → let of = call (started (list-passed c)) in firstOf (ballotReasons (of .shape) (of .ballots)) ≡ none
 unfolding refusedFor
 no-reason c = sym (c .before .before .test2 .ensures) ∙ ap refusedFor (c .enum-told2 .given .1)
 
--- what the tests 16 to 18 answer is what the whole answers
+-- if the tests before have passed, the tests 16 to 18 decide
 parts-answer : (c : tie.After-test-parts)
     → firstOf (trusteesReasons (call (started (list-passed (c .before))))) ≡ refusedFor (c .test-parts .result)
 unfolding size

@@ -1,5 +1,5 @@
--- `trustees::test::test_parts` meets its contract: each answer is the definition's for the outcomes of the tests that
--- led there.
+-- `trustees::test::test_parts` meets its contract: each branch answers what the definition gives for the outcomes
+-- of the tests.
 -- Assumes nothing.
 use borrow.Author.Needs.{needs}
 use mathlib.Core.Path.{_≡_, _∙_, refl, sym}
@@ -43,7 +43,7 @@ fits : (c : tie.Else2) → let s = started (counted c) in
     tablesFit (length (s .args .ballots .now)) (s .args .outputs) (size s) (s .args .t) (lent s) ≡ true
 fits c = sym (c .before .tables-fit .ensures) ∙ not-false (c .before .tables-fit .result) (c .if2 .left)
 
--- what the three outcomes answer
+-- the answer, from the outcomes of the three tests
 by : (s : tie.Start) (a b c : Bool) → (leb 2 (s .args .t) && leb (s .args .t) 5) ≡ a
     → tablesFit (length (s .args .ballots .now)) (s .args .outputs) (size s) (s .args .t) (lent s) ≡ b
     → dealtWell (s .args .t) (s .args .conditional) (s .args .ballots .now) (lent s .dealing) ≡ c

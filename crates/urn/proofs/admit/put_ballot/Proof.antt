@@ -35,7 +35,7 @@ small s = few-bytes (s .args .k) (s .args .d) ((s .pre .graded))
 abbrev from-wide : tie.After-wide → tie.Start
 from-wide c = c .before .before .before .before .before
 
--- the slot's place, by the byte that names it
+-- the slot's place, from the byte that names it
 placed : (c : tie.After-wide) →
     let a = c .before .before .before .before .before .args in
     c .wide .result * (2 + a .k * a .d) ≡ getD (a .urn .now) 1 0 * (2 + a .k * a .d)

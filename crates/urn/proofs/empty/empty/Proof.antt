@@ -1,4 +1,4 @@
--- `urn::empty::empty` meets its contract: both reasons, or all slots freed.
+-- `urn::empty::empty` meets its contract: it answers one of the two reasons, or frees all slots.
 -- Assumes nothing.
 use mathlib.Core.Path.{_≡_, _∙_, sym, ap}
 use mathlib.Core.Bool.{true}

@@ -1,4 +1,4 @@
--- `urn::empty::free_all` meets its contract: the slots after the present one are free, in order.
+-- `urn::empty::free_all` meets its contract: the slots after slot `left` are free, in order.
 -- Assumes nothing.
 use mathlib.Core.Path.{_≡_, _∙_, refl, sym, ap, subst}
 use Prim.Native.Nat.{ℕ, suc, _+_, _-_, _*_, _≤_, _<_}
@@ -25,7 +25,7 @@ inside c =
     let l = c .before .loop in
     omega (arith, l .inv .1, slot-within (l .left) (s .args .slots) (s .args .bytes) (omega (arith, l .inv .0 .most)))
 
--- one slot before another
+-- the place of the slot before slot `left`
 one-before : (left bytes : ℕ) → 0 < left → left * slotBytes bytes ≡ slotBytes bytes + (left - 1) * slotBytes bytes
 one-before left bytes h =
     let e : left ≡ suc (left - 1) = omega arith in

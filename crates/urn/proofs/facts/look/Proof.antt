@@ -1,5 +1,4 @@
--- `urn::facts::look` meets its contract: the facts are the definition's for the outcomes of test and search, and the
--- search finds the ballot.
+-- `urn::facts::look` meets its contract: the facts are the definition's for what the test and the search found.
 -- Assumes nothing.
 use mathlib.Core.Path.{_≡_, _∙_, sym, ap}
 use mathlib.Core.Bool.{true}

@@ -1,5 +1,5 @@
--- `urn::withdraw::decide` meets its contract: each answer is the definition's for the outcomes of the tests that led
--- there.
+-- `urn::withdraw::decide` meets its contract: each branch answers what the definition gives for the outcomes of the
+-- tests.
 -- Assumes nothing.
 use mathlib.Core.Path.{_∙_, sym, ap}
 use Prim.Native.Nat.{_-_}

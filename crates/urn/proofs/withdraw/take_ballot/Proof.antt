@@ -38,7 +38,7 @@ small s = few-bytes (s .args .k) (s .args .d) (limits s)
 holder : (s : tie.Start) → ℕ
 holder s = slotAt (urnSlots (s .args .k) (s .args .d) (s .args .urn .now)) (s .args .slot) .juror
 
--- where the ballot lies, and the slot before it
+-- where the ballot is, and the slot before it
 told : (s : tie.Start) →
     let a = s .args in
     positionOf (slotsOf (a .k * a .d) (slotCount (a .k * a .d) (length (a .urn .now))) (a .urn .now)) (holder s) 0

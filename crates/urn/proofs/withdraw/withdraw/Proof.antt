@@ -67,7 +67,7 @@ its-sound e =
     let a = start e .args in
     facts-sound (a .k) (a .d) (a .urn .now) (a .juror) (passed e .isSound)
 
--- the juror's ballot is in, and the look found it
+-- the juror's ballot is in the urn, and the look found it
 inside : (e : tie.After-enum-told) →
     let a = start e .args in
     member (a .juror) (jurorsOf (ballotChain (urnSlots (a .k) (a .d) (a .urn .now)))) ≡ true

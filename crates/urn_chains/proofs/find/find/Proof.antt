@@ -1,4 +1,5 @@
--- `urn_chains::find::find` meets its contract: searching the rest of the chain is searching all of it.
+-- `urn_chains::find::find` meets its contract: the search in the rest of the chain finds what the search in all of
+-- it finds.
 -- Assumes nothing.
 use mathlib.Core.Path.{_∙_, sym}
 use Prim.Native.Nat.{_+_, _-_, _*_, _≤_, _<_}

@@ -1,5 +1,5 @@
--- `urn_chains::sound::slots_in` meets its contract: each answer is the definition's for the outcomes of the tests
--- that led there.
+-- `urn_chains::sound::slots_in` meets its contract: each branch answers what the definition gives for the outcomes
+-- of the tests.
 -- Assumes nothing.
 use mathlib.Core.Path.{sym, ap}
 use mathlib.Core.Bool.{Bool, cond}

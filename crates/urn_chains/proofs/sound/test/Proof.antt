@@ -1,4 +1,4 @@
--- `urn_chains::sound::test` meets its contract: the length first, then the slots.
+-- `urn_chains::sound::test` meets its contract: it tests the length, then the slots.
 -- Assumes nothing.
 use mathlib.Core.Path.{_∙_, sym, ap}
 use mathlib.Core.Bool.{Bool, _&&_}

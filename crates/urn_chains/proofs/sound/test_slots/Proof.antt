@@ -1,4 +1,4 @@
--- `urn_chains::sound::test_slots` meets its contract: the code's tests all pass exactly if the slots are sound.
+-- `urn_chains::sound::test_slots` meets its contract: the program's tests all pass exactly if the slots are sound.
 -- Assumes nothing.
 use mathlib.Core.Path.{_≡_, _∙_, sym, ap}
 use Prim.Native.Nat.{ℕ, _+_, _*_, _-_}
@@ -27,7 +27,7 @@ from-ballots c = from-head (c .before .before .before)
 abbrev from-free : tie.Else3 → tie.Start
 from-free c = from-ballots (c .before .before .before .before)
 
--- what the bytes of slot 0 say
+-- the test of slot 0, from its bytes
 head-told : (c : tie.After-is-zero) →
     let a = c .before .before .before .args in
     allZero (take (a .k * a .d) (drop 2 (a .urn .now))) ≡ c .is-zero .result
@@ -36,7 +36,7 @@ head-told c =
     ap (λ (n : ℕ). allZero (take n (drop 2 (a .urn .now)))) {x = a .k * a .d} {y = 2 + a .k * a .d - 2}
     (omega arith) ∙ sym (c .is-zero .ensures)
 
--- what the walks found: each its chain; the one along the free chain began with the other's marks
+-- what the walks found, each along its chain; the walk along the free chain began with the marks of the other
 ballots-counted : (c : tie.Else2) →
     let a = from-ballots c .args in
     c .before .before .walk-ballots .result .count

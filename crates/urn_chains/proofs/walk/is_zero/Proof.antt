@@ -23,7 +23,7 @@ abbrev μ-loop : tie.MeasureT-loop
 μ-loop bytes zero₀ i₀ zero i =
     length bytes - i
 
--- nothing is left
+-- if nothing is left, the flag is the answer
 done : (z t : Bool) → t ≡ true → (z && t) ≡ z
 done true t e = e
 done false t e = refl

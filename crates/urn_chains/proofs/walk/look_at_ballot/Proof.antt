@@ -24,7 +24,7 @@ inside c =
     let a = c .before .before .args in
     omega (arith, slot-within (a .slot) (a .slots) (a .k * a .d) (c .if1 .left), c .before .before .pre .bytes .table .size)
 
--- what the tests of the slot say
+-- the test of the slot is the definition's
 held : (c : tie.After-holds-ballot)
     → ballotAt (c .before .before .before .before .before .args .k)
     (c .before .before .before .before .before .args .d)

@@ -23,7 +23,7 @@ inside c =
     let a = c .before .before .args in
     omega (arith, slot-within (a .slot) (a .slots) (a .bytes) (c .if1 .left), c .before .before .pre .table .size)
 
--- what the tests of the slot say
+-- the test of the slot is the definition's
 held : (c : tie.After-is-zero)
     → freeAt (slotsOf (c .before .before .before .before .before .before .args .bytes)
     (c .before .before .before .before .before .before .args .slots)

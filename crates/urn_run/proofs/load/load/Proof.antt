@@ -1,5 +1,5 @@
--- `urn_run::load::load` meets its contract: after each turn, writing the rest of the ballots after those written is
--- writing all of them.
+-- `urn_run::load::load` meets its contract: writing the rest of the ballots after those written gives the table
+-- that writing all gives.
 -- Assumes nothing.
 use Prim.Native.Nat.{_+_, _-_, _*_, _≤_, _<_}
 use native.Mathlib.Omega.{arith}

@@ -22,7 +22,7 @@ use Rattle.urn_run.proofs.Reasons.{one-T, whole-within, UrnRunPassed, u
 use Rattle.urn_run.proofs.run.run_on_urn.Statement.{statement}
 use Rattle.urn_run.proofs.run.run_on_urn.Tie as tie
 
--- the result of a call is equal if its three parts are
+-- two results are equal if their three parts are
 whole : {a b : Outcome Size} {v w x y : List ℕ} → a ≡ b → v ≡ w → x ≡ y
     → _≡_ {A = RunResult} (record { answer = a; wires = v; board = x }) (record { answer = b; wires = w; board = y })
 whole e f g = cc

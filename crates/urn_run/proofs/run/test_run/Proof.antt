@@ -48,11 +48,11 @@ from-number c = from-list (c .before .before)
 abbrev from-buffers : tie.After-test-buffers → tie.Start
 from-buffers c = from-number (c .before .before)
 
--- after the test of the shape
+-- the shape is graded
 graded : (c : tie.Else1) → gradedLimits (from-shape c .args .shape) ≡ true
 graded c = sym (c .before .is-within-graded-limits .ensures) ∙ not-false (c .before .is-within-graded-limits .result) (c .if1 .left)
 
--- after the test of the urn
+-- the urn is sound, and its number of ballots is known
 sound-told : (c : tie.After-known-told) →
     let a = from-urn c .args in
     (sound (a .shape .candidates) (a .shape .grades) (a .urn .now) ≡ true)
@@ -60,7 +60,7 @@ sound-told : (c : tie.After-known-told) →
 unfolding ballotsIn
 sound-told c = soundness-sound _ _ _ (sym (c .before .before .before .test .ensures) ∙ c .before .ballots .given .1)
 
--- after the test of the list
+-- the size that the test of the list answered
 size : tie.After-known-told2 → Size
 size c = let g = c .before .answer .given in record { gates = g .0 .0; conditional = g .0 .1 .0 }
 
@@ -146,7 +146,7 @@ enum-known-reason c = search needs
 enum-told-3 : tie.Need-enum-told-3
 enum-told-3 c = search needs
 
--- what the tests 7 to 10 answer is what the whole answers
+-- if the tests before have passed, the tests 7 to 10 decide
 lent-answer : (c : tie.After-test-buffers) → let a = from-buffers c .args in
     firstOf (urnRunReasons (a .shape) (a .table .now) (a .urn .now) (a .tape .now) (a .wires .now) (a .board .now))
     ≡ refusedFor (c .test-buffers .result)

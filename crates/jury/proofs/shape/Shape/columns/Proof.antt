@@ -1,4 +1,4 @@
--- `jury::shape::Shape::columns` meets its contract: it is the definition's choice, by whether there are grades.
+-- `jury::shape::Shape::columns` meets its contract: like the definition, it asks whether there are grades.
 -- Assumes nothing.
 use mathlib.Core.Path.{sym, ap}
 use mathlib.Core.Bool.{Bool, cond}

@@ -1,4 +1,4 @@
--- `season::run::Run::read` meets its contract: each number is read where the definition has it.
+-- `season::run::Run::read` meets its contract: each number is read at the definition's place.
 -- Assumes nothing.
 use Rattle.season.proofs.RunLaws.{run-is}
 use borrow.Author.Needs.{needs}
