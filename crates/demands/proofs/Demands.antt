@@ -5,7 +5,7 @@ use Prim.Native.Nat.{ℕ}
 use Rattle.jury.specs.Shape.{withinLimits}
 use Rattle.jury.specs.Reason.{reasonAt}
 use Rattle.basics.proofs.Flags.{T-true}
-use Rattle.rule_judgment.proofs.Theorems.{bytes-say, somebody, equal-exactly, gauge-alone}
+use Rattle.rule_judgment.proofs.Theorems.{bytes-say, somebody, shared-win, gauge-alone}
 use Rattle.rule_schulze.proofs.Theorems.{schulze-holds}
 use Rattle.tally.specs.Answer.{hasNumberIn}
 use Rattle.tally.specs.Memory.{Each}
@@ -60,7 +60,7 @@ all-demands =
       rules = record {
         judgment-bytes = bytes-say;
         judgment-somebody = somebody;
-        judgment-shared = equal-exactly;
+        judgment-shared = shared-win;
         gauge-kept = gauge-alone;
         schulze = schulze-holds;
       };

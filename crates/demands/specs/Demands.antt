@@ -5,7 +5,7 @@ use mathlib.Core.Path.{_≡_}
 use mathlib.Core.List.{List, [], _∷_}
 use Prim.Native.Nat.{ℕ}
 use Rattle.jury.specs.declared.shape.Shape.{Shape}
-use Rattle.rule_judgment.specs.Theorems.{BytesSay, EqualSequences, GaugeKept, SomebodyWins}
+use Rattle.rule_judgment.specs.Theorems.{BytesSay, GaugeKept, SharedWin, SomebodyWins}
 use Rattle.rule_schulze.specs.Theorems.{SchulzeHolds}
 use Rattle.jury.specs.Reason.{firstOf}
 use Rattle.tally.specs.Answer.{accepted, outcome, Size}
@@ -55,11 +55,11 @@ pub record TallyAccuracy : Type 0 where
 
 -- The rules: who wins, as statements instead of computations.
 pub record Rules : Type 0 where
-  -- majority judgment: a byte says who wins; somebody wins; sequences are equal exactly if all counts are; the
-  -- gauge's winner is the only winner [judgment-gauge]
+  -- majority judgment: a byte says who wins; somebody wins; candidates share a win only if their counts are equal;
+  -- the gauge's winner is the only winner [judgment-gauge]
   pub judgment-bytes : BytesSay
   pub judgment-somebody : SomebodyWins
-  pub judgment-shared : EqualSequences
+  pub judgment-shared : SharedWin
   pub gauge-kept : GaugeKept
   -- Schulze's rule: strongest paths exist and have one strength; somebody wins; a Condorcet winner is the only
   -- winner

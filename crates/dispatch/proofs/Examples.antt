@@ -18,7 +18,7 @@ use Rattle.tally.specs.Examples.{oneBallot}
 use Rattle.tally.proofs.Examples.{pair-of-runs}
 use Rattle.tally.proofs.RunReasons.{run-passed}
 use Rattle.tally.proofs.Hiding.{ran-accepted, run-answer}
-use Rattle.dispatch_rounds.specs.Tables.{Tables, tablesOf, headerShape, fitting, pieceOf, listOf, conditionalIn, piecesOf, behind, through}
+use Rattle.dispatch_rounds.specs.Tables.{Tables, tablesOf, headerShape, fitting, pieceOf, listOf, conditionalIn, piecesOf, remaining, through}
 use Rattle.dispatch_rounds.specs.Reasons.{reasonsOf, atJury, juryReasons}
 use Rattle.dispatch_rounds.specs.Rounds.{eightOf, roundsFor}
 use Rattle.dispatch.specs.Reasons.{dispatchReasons}
@@ -50,8 +50,8 @@ module _ (t : Tables) (ballots tape wires board : List ℕ) (f : Front t ballots
   unfolding piecesOf listOf oneHeader
   in-front = rw (two-bytes, marked, f .list, f .ballots-are, f .tape-is, f .wires-are, f .board-is)
 
-  then : behind oneHeader t ≡ tablesOf (drop 4 (t .lists)) (drop 2 (t .ballots)) (drop 1 (t .tapes)) (drop 3 (t .wires)) (drop 2 (t .boards))
-  unfolding behind oneHeader
+  then : remaining oneHeader t ≡ tablesOf (drop 4 (t .lists)) (drop 2 (t .ballots)) (drop 1 (t .tapes)) (drop 3 (t .wires)) (drop 2 (t .boards))
+  unfolding remaining oneHeader
   then = rw (two-bytes, marked)
 
   module _ (ran : runResult oneBallot oneGate ballots tape wires board .answer ≡ accepted (record { gates = 1; conditional = 1 })) where
@@ -80,7 +80,7 @@ module _ (mask : ℕ) where
   two-front = record { list = refl; ballots-are = refl; tape-is = refl; wires-are = refl; board-is = refl }
 
   abbrev second : Tables
-  second = behind oneHeader (twoJuries mask .tables)
+  second = remaining oneHeader (twoJuries mask .tables)
 
   second-is : second ≡ tablesOf oneGate (0 ∷ 1 ∷ []) (mask ∷ []) (7 ∷ 7 ∷ 7 ∷ []) (7 ∷ 7 ∷ [])
   unfolding twoJuries oneGate
@@ -98,7 +98,7 @@ better-ran = ap (λ (r : RunResult). r .answer) (pair-of-runs .first-run)
 better-board : runResult oneBallot oneGate (1 ∷ 0 ∷ []) (0 ∷ []) (9 ∷ 9 ∷ 9 ∷ []) (9 ∷ 9 ∷ []) .board ≡ 1 ∷ 0 ∷ []
 better-board = ap (λ (r : RunResult). r .board) (pair-of-runs .first-run)
 
-first-left : behind oneHeader (oneJury .tables) ≡ tablesOf [] [] [] (9 ∷ []) (9 ∷ [])
+first-left : remaining oneHeader (oneJury .tables) ≡ tablesOf [] [] [] (9 ∷ []) (9 ∷ [])
 unfolding oneJury oneGate
 first-left = then (oneJury .tables) _ _ _ _ first-front
 
@@ -130,14 +130,14 @@ first-call =
     (unfold dispatchResultAfter oneJury eightOf through roundsFor oneHeader in refl)
     (unfold dispatchResultAfter through oneJury in wires) (unfold dispatchResultAfter through oneJury in boards)
   where
-    wires : zeroWires oneHeader (piecesOf oneHeader (oneJury .tables)) ++ behind oneHeader (oneJury .tables) .wires ≡ 0 ∷ 0 ∷ 0 ∷ 9 ∷ []
+    wires : zeroWires oneHeader (piecesOf oneHeader (oneJury .tables)) ++ remaining oneHeader (oneJury .tables) .wires ≡ 0 ∷ 0 ∷ 0 ∷ 9 ∷ []
     wires =
-        ap (λ (z : List ℕ). z ++ behind oneHeader (oneJury .tables) .wires) (its-zeros (oneJury .tables) _ _ _ _ first-front better-ran)
+        ap (λ (z : List ℕ). z ++ remaining oneHeader (oneJury .tables) .wires) (its-zeros (oneJury .tables) _ _ _ _ first-front better-ran)
         ∙ ap (λ (u : Tables). 0 ∷ 0 ∷ 0 ∷ u .wires) first-left
 
-    boards : runBoard oneHeader (piecesOf oneHeader (oneJury .tables)) ++ behind oneHeader (oneJury .tables) .boards ≡ 1 ∷ 0 ∷ 9 ∷ []
+    boards : runBoard oneHeader (piecesOf oneHeader (oneJury .tables)) ++ remaining oneHeader (oneJury .tables) .boards ≡ 1 ∷ 0 ∷ 9 ∷ []
     boards =
-        ap (λ (z : List ℕ). z ++ behind oneHeader (oneJury .tables) .boards)
+        ap (λ (z : List ℕ). z ++ remaining oneHeader (oneJury .tables) .boards)
         (its-board (oneJury .tables) _ _ _ _ first-front better-ran ∙ better-board)
         ∙ ap (λ (u : Tables). 1 ∷ 0 ∷ u .boards) first-left
 
@@ -146,7 +146,7 @@ module _ (mask : ℕ) (board : List ℕ)
     (second-ran : runResult oneBallot oneGate (0 ∷ 1 ∷ []) (mask ∷ []) (7 ∷ 7 ∷ 7 ∷ []) (7 ∷ 7 ∷ []) .answer
     ≡ accepted (record { gates = 1; conditional = 1 }))
     (second-board : runResult oneBallot oneGate (0 ∷ 1 ∷ []) (mask ∷ []) (7 ∷ 7 ∷ 7 ∷ []) (7 ∷ 7 ∷ []) .board ≡ board) where
-  left-over : behind oneHeader (second mask) ≡ tablesOf [] [] [] [] []
+  left-over : remaining oneHeader (second mask) ≡ tablesOf [] [] [] [] []
   unfolding oneGate
   left-over =
       then (second mask) _ _ _ _ (second-front mask)
@@ -184,24 +184,24 @@ module _ (mask : ℕ) (board : List ℕ)
       (unfold dispatchResultAfter through twoJuries in wires) (unfold dispatchResultAfter through twoJuries in boards)
     where
       wires : zeroWires oneHeader (piecesOf oneHeader (twoJuries mask .tables))
-          ++ (zeroWires oneHeader (piecesOf oneHeader (second mask)) ++ behind oneHeader (second mask) .wires)
+          ++ (zeroWires oneHeader (piecesOf oneHeader (second mask)) ++ remaining oneHeader (second mask) .wires)
           ≡ 0 ∷ 0 ∷ 0 ∷ 0 ∷ 0 ∷ 0 ∷ []
       wires =
           ap (λ (z : List ℕ). z ++ (zeroWires oneHeader (piecesOf oneHeader (second mask))
-          ++ behind oneHeader (second mask) .wires))
+          ++ remaining oneHeader (second mask) .wires))
           (its-zeros (twoJuries mask .tables) _ _ _ _ (two-front mask) better-ran)
-          ∙ ap (λ (z : List ℕ). 0 ∷ 0 ∷ 0 ∷ (z ++ behind oneHeader (second mask) .wires))
+          ∙ ap (λ (z : List ℕ). 0 ∷ 0 ∷ 0 ∷ (z ++ remaining oneHeader (second mask) .wires))
           (its-zeros (second mask) _ _ _ _ (second-front mask) second-ran)
           ∙ ap (λ (u : Tables). 0 ∷ 0 ∷ 0 ∷ 0 ∷ 0 ∷ 0 ∷ u .wires) left-over
 
       boards : runBoard oneHeader (piecesOf oneHeader (twoJuries mask .tables))
-          ++ (runBoard oneHeader (piecesOf oneHeader (second mask)) ++ behind oneHeader (second mask) .boards)
+          ++ (runBoard oneHeader (piecesOf oneHeader (second mask)) ++ remaining oneHeader (second mask) .boards)
           ≡ 1 ∷ 0 ∷ (board ++ [])
       boards =
           ap (λ (z : List ℕ). z ++ (runBoard oneHeader (piecesOf oneHeader (second mask))
-          ++ behind oneHeader (second mask) .boards))
+          ++ remaining oneHeader (second mask) .boards))
           (its-board (twoJuries mask .tables) _ _ _ _ (two-front mask) better-ran ∙ better-board)
-          ∙ ap (λ (z : List ℕ). 1 ∷ 0 ∷ (z ++ behind oneHeader (second mask) .boards))
+          ∙ ap (λ (z : List ℕ). 1 ∷ 0 ∷ (z ++ remaining oneHeader (second mask) .boards))
           (its-board (second mask) _ _ _ _ (second-front mask) second-ran ∙ second-board)
           ∙ ap (λ (u : Tables). 1 ∷ 0 ∷ (board ++ u .boards)) left-over
 

@@ -22,7 +22,7 @@ use Rattle.tally.specs.declared.answer.Answer.{Answer}
 use Rattle.tally.specs.declared.answer.Answer.the-variants as answer
 use Rattle.tally.proofs.TestReasons.{never, TestPassed}
 use Rattle.dispatch_rounds.specs.declared.header.JuryHeader.{JuryHeader}
-use Rattle.dispatch_rounds.specs.Tables.{Tables, tablesOf, headerShape, fitting, pieceOf, listOf, conditionalIn, piecesOf, behind}
+use Rattle.dispatch_rounds.specs.Tables.{Tables, tablesOf, headerShape, fitting, pieceOf, listOf, conditionalIn, piecesOf, remaining}
 use Rattle.dispatch_rounds.specs.Reasons.{reasonsOf, atJury, juryReasons}
 use Rattle.dispatch_rounds.specs.declared.header.Places.{Places}
 use Rattle.dispatch_rounds.specs.Rounds.{eightOf}
@@ -73,14 +73,14 @@ module _ (s : JuryHeader) (t : Tables) where
 
   -- if a jury passes, the next ones decide; if it does not, its reason decides
   pub next-jury : (j : ℕ) (ss : List JuryHeader) → firstOf (reasonsOf s t) ≡ none
-      → firstOf (juryReasons j (s ∷ ss) t) ≡ firstOf (juryReasons (suc j) ss (behind s t))
+      → firstOf (juryReasons j (s ∷ ss) t) ≡ firstOf (juryReasons (suc j) ss (remaining s t))
   unfolding juryReasons atJury firstOf
-  next-jury j ss e = ap (λ (o : Option Reason). firstOf (atJury j o ∷ juryReasons (suc j) ss (behind s t))) e
+  next-jury j ss e = ap (λ (o : Option Reason). firstOf (atJury j o ∷ juryReasons (suc j) ss (remaining s t))) e
 
   pub bad-jury : (j : ℕ) (ss : List JuryHeader) (r : Reason) → firstOf (reasonsOf s t) ≡ some r
       → firstOf (juryReasons j (s ∷ ss) t) ≡ atJury j (some r)
   unfolding juryReasons atJury firstOf
-  bad-jury j ss r e = ap (λ (o : Option Reason). firstOf (atJury j o ∷ juryReasons (suc j) ss (behind s t))) e
+  bad-jury j ss r e = ap (λ (o : Option Reason). firstOf (atJury j o ∷ juryReasons (suc j) ss (remaining s t))) e
 
 -- the reason in an answer is the first of the tests
 pub refusal-is : (a : Answer) (o : Option Reason) (size : Size) → outcomeOf a ≡ outcome o size → refusalIn a ≡ o
@@ -146,7 +146,7 @@ tested-next ss t j s left at conditional v k e c =
           subst (λ (x : Tables). Upto (oneOf (λ (s : JuryHeader) (p : Tables). 0)) (oneOf marks) (padding ss) left x
           (suc j) (set conditional j v) (eightOf marks ss t)) q
           (subst (λ (i : ℕ). Upto (oneOf (λ (s : JuryHeader) (p : Tables). 0)) (oneOf marks) (padding ss) left
-          (behind s h) i (set conditional j v) (eightOf marks ss t)) (add-one j)
+          (remaining s h) i (set conditional j v) (eightOf marks ss t)) (add-one j)
           (upto-set (λ (s : JuryHeader) (p : Tables). 0) marks (padding ss) s left h j conditional
           (eightOf marks ss t) (k .marksUp) v (c ∙ sym (p .marked))));
       wires = omega (arith, k .wires);

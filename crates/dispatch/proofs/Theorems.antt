@@ -32,7 +32,7 @@ use Rattle.tally.proofs.TestReasons.{never}
 use Rattle.tally.proofs.RunReasons.{outcome-refused, ran-by}
 use Rattle.tally.proofs.Demands.{run-lengths, three-demands}
 use Rattle.dispatch_rounds.specs.declared.header.JuryHeader.{JuryHeader}
-use Rattle.dispatch_rounds.specs.Tables.{Tables, tablesOf, headerShape, listOf, conditionalIn, piecesOf, behind, through}
+use Rattle.dispatch_rounds.specs.Tables.{Tables, tablesOf, headerShape, listOf, conditionalIn, piecesOf, remaining, through}
 use Rattle.dispatch_rounds.specs.Reasons.{reasonsOf, atJury, juryReasons}
 use Rattle.dispatch.specs.Call.{Call, juriesIn}
 use Rattle.dispatch.specs.Reasons.{dispatchReasons}
@@ -124,7 +124,7 @@ accepted-at : (i j : ℕ) (ss : List JuryHeader) (t : Tables) → firstOf (juryR
 unfolding tablesFrom
 accepted-at i j [] t e h = absurd (omega arith)
 accepted-at i zero (s ∷ ss) t e h = first-accepted i s ss t e .0
-accepted-at i (suc j) (s ∷ ss) t e h = accepted-at (suc i) j ss (behind s t) (first-accepted i s ss t e .1) (omega arith)
+accepted-at i (suc j) (s ∷ ss) t e h = accepted-at (suc i) j ss (remaining s t) (first-accepted i s ss t e .1) (omega arith)
 
 -- a run on the pieces of a jury that is not refused is accepted
 run-accepted : (ss : List JuryHeader) (t : Tables) (j : ℕ) → firstOf (reasonsOf (juryAt j ss) (tablesFrom j ss t)) ≡ none → RunsAt j ss t
@@ -138,7 +138,7 @@ number-at : (f : JuryHeader → Tables → ℕ) (rest : Tables → List ℕ) (j 
 unfolding through tablesFrom
 number-at f rest j [] t h = absurd (omega arith)
 number-at f rest zero (s ∷ ss) t h = refl
-number-at f rest (suc j) (s ∷ ss) t h = number-at f rest j ss (behind s t) (omega arith)
+number-at f rest (suc j) (s ∷ ss) t h = number-at f rest j ss (remaining s t) (omega arith)
 
 -- the length of a run's board
 ran-long : (s : JuryHeader) (t : Tables) → firstOf (reasonsOf s t) ≡ none → length (runBoard s (piecesOf s t))
@@ -152,33 +152,33 @@ ran-long s t e =
 board-at : (i j : ℕ) (ss : List JuryHeader) (t : Tables) (w : List ℕ) → firstOf (juryReasons i ss t) ≡ none → j < length ss
     → piecesAt j ss (tablesOf (t .lists) (t .ballots) (t .tapes) w
     (through runBoard (λ (t : Tables). t .boards) ss t)) .boards ≡ runBoard (juryAt j ss) (piecesAt j ss t)
-unfolding through tablesFrom behind conditionalIn listOf
+unfolding through tablesFrom remaining conditionalIn listOf
 board-at i j [] t w e h = absurd (omega arith)
 board-at i zero (s ∷ ss) t w e h = first-board s ss t w (first-accepted i s ss t e .0)
   where
     first-board : (s : JuryHeader) (ss : List JuryHeader) (t : Tables) (w : List ℕ) → firstOf (reasonsOf s t) ≡ none
         → piecesOf s (tablesOf (t .lists) (t .ballots) (t .tapes) w
-        (runBoard s (piecesOf s t) ++ through runBoard (λ (t : Tables). t .boards) ss (behind s t))) .boards
+        (runBoard s (piecesOf s t) ++ through runBoard (λ (t : Tables). t .boards) ss (remaining s t))) .boards
         ≡ runBoard s (piecesOf s t)
     first-board s ss t w a =
         unfold piecesOf conditionalIn listOf in
         (let n = conditionalIn s t + s .candidates in
         let b = runBoard s (piecesOf s t) in
-        let rest = through runBoard (λ (t : Tables). t .boards) ss (behind s t) in
+        let rest = through runBoard (λ (t : Tables). t .boards) ss (remaining s t) in
         let long : length b ≡ n = ran-long s t a in
         piece-fits n (b ++ rest) (omega (arith, length-append b rest)) ∙ take-at b rest n long)
 board-at i (suc j) (s ∷ ss) t w e h =
     let a = first-accepted i s ss t e in
     let n = conditionalIn s t + s .candidates in
     let b = runBoard s (piecesOf s t) in
-    let rest = through runBoard (λ (t : Tables). t .boards) ss (behind s t) in
+    let rest = through runBoard (λ (t : Tables). t .boards) ss (remaining s t) in
     let long : length b ≡ n = ran-long s t (a .0) in
     let cut : drop n (b ++ rest) ≡ rest = drop-at b rest n long in
-    let later = behind s t in
+    let later = remaining s t in
     ap (λ (x : List ℕ). piecesAt j ss
     (tablesOf (later .lists) (later .ballots) (later .tapes) (drop (ballotBytes (headerShape s) + s .gates) w)
     x) .boards) cut
-    ∙ board-at (suc i) j ss (behind s t) (drop (ballotBytes (headerShape s) + s .gates) w) (a .1) (omega arith)
+    ∙ board-at (suc i) j ss (remaining s t) (drop (ballotBytes (headerShape s) + s .gates) w) (a .1) (omega arith)
 
 -- the number of zeros in place of a jury's wires
 zeros-long : (s : JuryHeader) (t : Tables) → firstOf (reasonsOf s t) ≡ none → length (zeroWires s (piecesOf s t))
@@ -189,61 +189,61 @@ zeros-long s t e = length-replicate {A = ℕ} (length (piecesOf s t .wires)) 0 �
 wires-at : (i j : ℕ) (ss : List JuryHeader) (t : Tables) (o : List ℕ) → firstOf (juryReasons i ss t) ≡ none → j < length ss
     → piecesAt j ss (tablesOf (t .lists) (t .ballots) (t .tapes) (through zeroWires (λ (t : Tables). t .wires) ss t)
     o) .wires ≡ zeroWires (juryAt j ss) (piecesAt j ss t)
-unfolding through tablesFrom behind conditionalIn listOf
+unfolding through tablesFrom remaining conditionalIn listOf
 wires-at i j [] t o e h = absurd (omega arith)
 wires-at i zero (s ∷ ss) t o e h = first-wires s ss t o (first-accepted i s ss t e .0)
   where
     first-wires : (s : JuryHeader) (ss : List JuryHeader) (t : Tables) (o : List ℕ) → firstOf (reasonsOf s t) ≡ none
         → piecesOf s (tablesOf (t .lists) (t .ballots) (t .tapes)
-        (zeroWires s (piecesOf s t) ++ through zeroWires (λ (t : Tables). t .wires) ss (behind s t)) o) .wires
+        (zeroWires s (piecesOf s t) ++ through zeroWires (λ (t : Tables). t .wires) ss (remaining s t)) o) .wires
         ≡ zeroWires s (piecesOf s t)
     first-wires s ss t o a =
         unfold piecesOf in
         (let n = ballotBytes (headerShape s) + s .gates in
         let z = zeroWires s (piecesOf s t) in
-        let rest = through zeroWires (λ (t : Tables). t .wires) ss (behind s t) in
+        let rest = through zeroWires (λ (t : Tables). t .wires) ss (remaining s t) in
         let long : length z ≡ n = zeros-long s t a in
         piece-fits n (z ++ rest) (omega (arith, length-append z rest)) ∙ take-at z rest n long)
 wires-at i (suc j) (s ∷ ss) t o e h =
     let a = first-accepted i s ss t e in
     let n = ballotBytes (headerShape s) + s .gates in
-    let later = behind s t in
-    let rest = through zeroWires (λ (t : Tables). t .wires) ss (behind s t) in
+    let later = remaining s t in
+    let rest = through zeroWires (λ (t : Tables). t .wires) ss (remaining s t) in
     let cut : drop n (zeroWires s (piecesOf s t) ++ rest) ≡ rest = drop-at (zeroWires s (piecesOf s t)) rest n (zeros-long s t (a .0)) in
     let left = drop (conditionalIn s t + s .candidates) o in
     ap (λ (x : List ℕ). piecesAt j ss (tablesOf (later .lists) (later .ballots) (later .tapes) x left) .wires) cut
-    ∙ wires-at (suc i) j ss (behind s t) left (a .1) (omega arith)
+    ∙ wires-at (suc i) j ss (remaining s t) left (a .1) (omega arith)
 
 -- what follows the pieces of all juries
 wires-behind : (i : ℕ) (ss : List JuryHeader) (t : Tables) (o : List ℕ) → firstOf (juryReasons i ss t) ≡ none
     → tablesFrom (length ss) ss (tablesOf (t .lists) (t .ballots) (t .tapes)
     (through zeroWires (λ (t : Tables). t .wires) ss t) o) .wires ≡ tablesFrom (length ss) ss t .wires
-unfolding through tablesFrom behind conditionalIn listOf
+unfolding through tablesFrom remaining conditionalIn listOf
 wires-behind i [] t o e = refl
 wires-behind i (s ∷ ss) t o e =
     let a = first-accepted i s ss t e in
     let n = ballotBytes (headerShape s) + s .gates in
-    let later = behind s t in
-    let rest = through zeroWires (λ (t : Tables). t .wires) ss (behind s t) in
+    let later = remaining s t in
+    let rest = through zeroWires (λ (t : Tables). t .wires) ss (remaining s t) in
     let cut : drop n (zeroWires s (piecesOf s t) ++ rest) ≡ rest = drop-at (zeroWires s (piecesOf s t)) rest n (zeros-long s t (a .0)) in
     let left = drop (conditionalIn s t + s .candidates) o in
     ap (λ (x : List ℕ). tablesFrom (length ss) ss (tablesOf (later .lists) (later .ballots) (later .tapes) x left) .wires) cut
-    ∙ wires-behind (suc i) ss (behind s t) left (a .1)
+    ∙ wires-behind (suc i) ss (remaining s t) left (a .1)
 
 boards-behind : (i : ℕ) (ss : List JuryHeader) (t : Tables) (w : List ℕ) → firstOf (juryReasons i ss t) ≡ none
     → tablesFrom (length ss) ss (tablesOf (t .lists) (t .ballots) (t .tapes) w
     (through runBoard (λ (t : Tables). t .boards) ss t)) .boards ≡ tablesFrom (length ss) ss t .boards
-unfolding through tablesFrom behind conditionalIn listOf
+unfolding through tablesFrom remaining conditionalIn listOf
 boards-behind i [] t w e = refl
 boards-behind i (s ∷ ss) t w e =
     let a = first-accepted i s ss t e in
     let n = conditionalIn s t + s .candidates in
-    let later = behind s t in
-    let rest = through runBoard (λ (t : Tables). t .boards) ss (behind s t) in
+    let later = remaining s t in
+    let rest = through runBoard (λ (t : Tables). t .boards) ss (remaining s t) in
     let cut : drop n (runBoard s (piecesOf s t) ++ rest) ≡ rest = drop-at (runBoard s (piecesOf s t)) rest n (ran-long s t (a .0)) in
     let left = drop (ballotBytes (headerShape s) + s .gates) w in
     ap (λ (x : List ℕ). tablesFrom (length ss) ss (tablesOf (later .lists) (later .ballots) (later .tapes) left x) .boards) cut
-    ∙ boards-behind (suc i) ss (behind s t) left (a .1)
+    ∙ boards-behind (suc i) ss (remaining s t) left (a .1)
 
 module _ (c : Call) (j : ℕ) (e : dispatchResult c .reason ≡ none) (h : j < length (juriesIn c)) where
   accepts : firstOf (reasonsOf (juryAt j (juriesIn c)) (tablesFrom j (juriesIn c) (c .tables))) ≡ none
@@ -292,7 +292,7 @@ same-board l l′ b b′ m m′ k k′ e₀ e₁ e₂ e₃ = rw (e₀, e₁, e�
 -- the boards of all juries are as long as what was lent
 all-boards : (i : ℕ) (ss : List JuryHeader) (t : Tables) → firstOf (juryReasons i ss t) ≡ none
     → length (through runBoard (λ (t : Tables). t .boards) ss t) ≡ length (t .boards)
-unfolding through behind
+unfolding through remaining
 all-boards i [] t e = refl
 all-boards i (s ∷ ss) t e =
     let a = first-accepted i s ss t e in
@@ -300,9 +300,9 @@ all-boards i (s ∷ ss) t e =
     let b = runBoard s (piecesOf s t) in
     omega (
       arith,
-      length-append b (through runBoard (λ (t : Tables). t .boards) ss (behind s t)),
+      length-append b (through runBoard (λ (t : Tables). t .boards) ss (remaining s t)),
       ran-long s t (a .0),
-      all-boards (suc i) ss (behind s t) (a .1),
+      all-boards (suc i) ss (remaining s t) (a .1),
       length-drop n (t .boards),
       jury-passed s t (a .0) .inBoards,
     )
@@ -319,14 +319,14 @@ record Found (i : ℕ) (ss : List JuryHeader) (t : Tables) (r : Reason) : Type 0
 found-at : (i : ℕ) (ss : List JuryHeader) (t : Tables) (r : Reason) → firstOf (juryReasons i ss t) ≡ some r → Found i ss t r
 unfolding juryReasons
 found-at i [] t r e = unfold firstOf in (let z : _≡_ {A = ℕ} 0 1 = cc in absurd (omega arith))
-found-at i (s ∷ ss) t r e = go (firstOf (reasonsOf s t)) refl (λ h. found-at (suc i) ss (behind s t) r h) e
+found-at i (s ∷ ss) t r e = go (firstOf (reasonsOf s t)) refl (λ h. found-at (suc i) ss (remaining s t) r h) e
   where
-    good : firstOf (reasonsOf s t) ≡ none → (f : Found (suc i) ss (behind s t) r) (j : ℕ) → j < suc (f .which)
+    good : firstOf (reasonsOf s t) ≡ none → (f : Found (suc i) ss (remaining s t) r) (j : ℕ) → j < suc (f .which)
         → firstOf (reasonsOf (juryAt j (s ∷ ss)) (tablesFrom j (s ∷ ss) t)) ≡ none
     good p f zero h = unfold tablesFrom in p
     good p f (suc j) h = unfold tablesFrom in (f .before j (omega arith))
 
-    later : firstOf (reasonsOf s t) ≡ none → Found (suc i) ss (behind s t) r → Found i (s ∷ ss) t r
+    later : firstOf (reasonsOf s t) ≡ none → Found (suc i) ss (remaining s t) r → Found i (s ∷ ss) t r
     later p f =
         record {
           which = suc (f .which);
@@ -338,8 +338,8 @@ found-at i (s ∷ ss) t r e = go (firstOf (reasonsOf s t)) refl (λ h. found-at 
         }
 
     go : (o : Option Reason) → firstOf (reasonsOf s t) ≡ o
-        → (firstOf (juryReasons (suc i) ss (behind s t)) ≡ some r → Found (suc i) ss (behind s t) r)
-        → firstOf (atJury i o ∷ juryReasons (suc i) ss (behind s t)) ≡ some r → Found i (s ∷ ss) t r
+        → (firstOf (juryReasons (suc i) ss (remaining s t)) ≡ some r → Found (suc i) ss (remaining s t) r)
+        → firstOf (atJury i o ∷ juryReasons (suc i) ss (remaining s t)) ≡ some r → Found i (s ∷ ss) t r
     go none p rest f = unfold atJury firstOf in (later p (rest f))
     go (some q) p rest f =
         unfold atJury firstOf tablesFrom in

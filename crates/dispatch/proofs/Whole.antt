@@ -20,7 +20,7 @@ use Rattle.jury.specs.Reason.{Reason, reasonAt, unless, firstOf}
 use Rattle.tally.specs.Run.{RunResult, runResultAfter}
 use Rattle.tally.proofs.RunReasons.{ran-by}
 use Rattle.dispatch_rounds.specs.declared.header.JuryHeader.{JuryHeader}
-use Rattle.dispatch_rounds.specs.Tables.{Tables, headerShape, conditionalIn, piecesOf, behind, through}
+use Rattle.dispatch_rounds.specs.Tables.{Tables, headerShape, conditionalIn, piecesOf, remaining, through}
 use Rattle.dispatch_rounds.specs.Reasons.{reasonsOf, juryReasons}
 use Rattle.dispatch.specs.Call.{Call, juriesIn}
 use Rattle.dispatch.specs.Reasons.{dispatchReasons}
@@ -40,26 +40,26 @@ boardsLeft t = t .boards
 
 -- before the first round everything is as it was lent
 pub wires-start : (j : ℕ) (ss : List JuryHeader) (t : Tables) → firstOf (juryReasons j ss t) ≡ none → wiresGiven 0 ss t ≡ t .wires
-unfolding wiresGiven through behind
+unfolding wiresGiven through remaining
 wires-start j [] t e = refl
 wires-start j (s ∷ ss) t e =
     let a = first-accepted j s ss t e in
     let p = jury-passed s t (a .0) in
     let n = ballotBytes (headerShape s) + s .gates in
-    ap (λ (x : List ℕ). x ++ through (juryWires 0) wiresLeft ss (behind s t)) (wires-before s (piecesOf s t) ∙ p .wiresAre)
-    ∙ ap (λ (x : List ℕ). take n (t .wires) ++ x) (wires-start (suc j) ss (behind s t) (a .1))
+    ap (λ (x : List ℕ). x ++ through (juryWires 0) wiresLeft ss (remaining s t)) (wires-before s (piecesOf s t) ∙ p .wiresAre)
+    ∙ ap (λ (x : List ℕ). take n (t .wires) ++ x) (wires-start (suc j) ss (remaining s t) (a .1))
     ∙ take-append-drop n (t .wires)
 
 pub boards-start : (j : ℕ) (ss : List JuryHeader) (t : Tables) → firstOf (juryReasons j ss t) ≡ none → boardsGiven 0 ss t ≡ t .boards
-unfolding boardsGiven through behind
+unfolding boardsGiven through remaining
 boards-start j [] t e = refl
 boards-start j (s ∷ ss) t e =
     let a = first-accepted j s ss t e in
     let p = jury-passed s t (a .0) in
     let n = conditionalIn s t + s .candidates in
-    ap (λ (x : List ℕ). x ++ through (juryBoard 0) boardsLeft ss (behind s t))
+    ap (λ (x : List ℕ). x ++ through (juryBoard 0) boardsLeft ss (remaining s t))
     (board-before s (piecesOf s t) (p .run) (omega (arith, p .gates, p .some-gate)) ∙ p .boardIs)
-    ∙ ap (λ (x : List ℕ). take n (t .boards) ++ x) (boards-start (suc j) ss (behind s t) (a .1))
+    ∙ ap (λ (x : List ℕ). take n (t .boards) ++ x) (boards-start (suc j) ss (remaining s t) (a .1))
     ∙ take-append-drop n (t .boards)
 
 pub boards-long-start : (j : ℕ) (ss : List JuryHeader) (t : Tables) → firstOf (juryReasons j ss t) ≡ none → BoardsLong 0 ss t
@@ -68,7 +68,7 @@ boards-long-start j (s ∷ ss) t e =
     let a = first-accepted j s ss t e in
     let p = jury-passed s t (a .0) in (
       ap length (board-before s (piecesOf s t) (p .run) (omega (arith, p .gates, p .some-gate))) ∙ p .boardLong,
-      boards-long-start (suc j) ss (behind s t) (a .1),
+      boards-long-start (suc j) ss (remaining s t) (a .1),
     )
 
 pub shown-start : (ss : List JuryHeader) (t : Tables) → length ss ≤ 8 → eightOf (juryShown 0) ss t ≡ replicate 8 0
@@ -85,7 +85,7 @@ unfolding mostGates
 few-gates j [] t e = omega arith
 few-gates j (s ∷ ss) t e =
     let a = first-accepted j s ss t e in
-    omega (arith, jury-passed s t (a .0) .few-gates, few-gates (suc j) ss (behind s t) (a .1))
+    omega (arith, jury-passed s t (a .0) .few-gates, few-gates (suc j) ss (remaining s t) (a .1))
 
 -- the same bound for the juries from j on
 pub most-left : (j : ℕ) (ss : List JuryHeader) → mostGates (drop j ss) ≤ mostGates ss
@@ -120,8 +120,8 @@ unfolding boardsGiven through mostGates
 boards-end given j [] t e h = refl
 boards-end given j (s ∷ ss) t e h =
     let a = first-accepted j s ss t e in
-    ap (λ (x : List ℕ). x ++ through (juryBoard given) boardsLeft ss (behind s t)) (board-all given s t (a .0) (omega arith))
-    ∙ ap (λ (x : List ℕ). runBoard s (piecesOf s t) ++ x) (boards-end given (suc j) ss (behind s t) (a .1) (omega arith))
+    ap (λ (x : List ℕ). x ++ through (juryBoard given) boardsLeft ss (remaining s t)) (board-all given s t (a .0) (omega arith))
+    ∙ ap (λ (x : List ℕ). runBoard s (piecesOf s t) ++ x) (boards-end given (suc j) ss (remaining s t) (a .1) (omega arith))
 
 -- the wires of all juries, emptied
 pub wires-emptied : (given j : ℕ) (ss : List JuryHeader) (t : Tables) → firstOf (juryReasons j ss t) ≡ none
@@ -135,13 +135,13 @@ wires-emptied given j (s ∷ ss) t e =
     let n = ballotBytes (headerShape s) + s .gates in
     let m = wireBytes ss in
     let first = juryWires given s p in
-    let rest = through (juryWires given) wiresLeft ss (behind s t) in
+    let rest = through (juryWires given) wiresLeft ss (remaining s t) in
     let long : length first ≡ n = jury-wires-long s p given (k .gates) (omega (arith, k .wiresLong, k .ballotsLong)) ∙ k .wiresLong in
     ap (λ (x : List ℕ). replicate (n + m) 0 ++ x) (ap (λ (i : ℕ). drop (i + m) (first ++ rest)) (sym long) ∙ drop-append-add first rest m)
     ∙ ap (λ (x : List ℕ). x ++ drop m rest) (sym (replicate-append-replicate n m 0))
     ∙ append-assoc (replicate n 0) (replicate m 0) (drop m rest)
-    ∙ ap (λ (x : List ℕ). replicate n 0 ++ x) (wires-emptied given (suc j) ss (behind s t) (a .1))
-    ∙ ap (λ (i : ℕ). replicate i 0 ++ through zeroWires wiresLeft ss (behind s t)) (sym (k .wiresLong))
+    ∙ ap (λ (x : List ℕ). replicate n 0 ++ x) (wires-emptied given (suc j) ss (remaining s t) (a .1))
+    ∙ ap (λ (i : ℕ). replicate i 0 ++ through zeroWires wiresLeft ss (remaining s t)) (sym (k .wiresLong))
 
 pub wires-room : (given j : ℕ) (ss : List JuryHeader) (t : Tables) → firstOf (juryReasons j ss t) ≡ none
     → wireBytes ss ≤ length (wiresGiven given ss t)
@@ -155,8 +155,8 @@ wires-room given j (s ∷ ss) t e =
       arith,
       jury-wires-long s p given (k .gates) (omega (arith, k .wiresLong, k .ballotsLong)),
       k .wiresLong,
-      length-append (juryWires given s p) (through (juryWires given) wiresLeft ss (behind s t)),
-      wires-room given (suc j) ss (behind s t) (a .1),
+      length-append (juryWires given s p) (through (juryWires given) wiresLeft ss (remaining s t)),
+      wires-room given (suc j) ss (remaining s t) (a .1),
     )
 
 -- the first reason of a call, given its first two tests

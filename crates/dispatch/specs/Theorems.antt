@@ -16,7 +16,7 @@ use Rattle.tally.specs.SaysWhoWins.{SaysWhoWins}
 use Rattle.tally.specs.Memory.{Lent, KeepsMemory}
 use Rattle.tally.specs.Demands.{listIn}
 use Rattle.dispatch_rounds.specs.declared.header.JuryHeader.{JuryHeader}
-use Rattle.dispatch_rounds.specs.Tables.{Tables, tablesOf, headerShape, piecesOf, behind}
+use Rattle.dispatch_rounds.specs.Tables.{Tables, tablesOf, headerShape, piecesOf, remaining}
 use Rattle.dispatch_rounds.specs.Rounds.{roundsFor}
 use Rattle.dispatch.specs.Call.{Call, juriesIn}
 use Rattle.dispatch.specs.Result.{runBoard, dispatchResult}
@@ -26,7 +26,7 @@ use Rattle.dispatch.specs.NoIdleRound.{juryAt, AllDone, NoIdleRound}
 unfoldable pub tablesFrom : ℕ → List JuryHeader → Tables → Tables
 tablesFrom zero ss t = t
 tablesFrom (suc j) [] t = t
-tablesFrom (suc j) (s ∷ ss) t = tablesFrom j ss (behind s t)
+tablesFrom (suc j) (s ∷ ss) t = tablesFrom j ss (remaining s t)
 
 -- Jury j's pieces.
 abbrev pub piecesAt : ℕ → List JuryHeader → Tables → Tables

@@ -15,7 +15,7 @@ use Rattle.jury.specs.Shape.{ballotBytes}
 use Rattle.jury.specs.Reason.{firstOf}
 use Rattle.dispatch_rounds.specs.declared.header.JuryHeader.{JuryHeader}
 use Rattle.dispatch_rounds.specs.declared.header.Places.{Places}
-use Rattle.dispatch_rounds.specs.Tables.{Tables, tablesOf, headerShape, conditionalIn, piecesOf, behind, through}
+use Rattle.dispatch_rounds.specs.Tables.{Tables, tablesOf, headerShape, conditionalIn, piecesOf, remaining, through}
 use Rattle.dispatch_rounds.specs.Reasons.{juryReasons}
 use Rattle.dispatch_rounds.specs.Rounds.{juryWires, juryBoard, juryShown, wiresGiven, boardsGiven, eightOf, BoardsLong, RoundState}
 use Rattle.dispatch_rounds.specs.inner.State.{placesAfter, JuryState}
@@ -28,9 +28,9 @@ abbrev pub from : Places → Tables → Tables
 from at t = tablesOf (drop (at .lists) (t .lists)) (drop (at .ballots) (t .ballots)) (drop (at .tapes) (t .tapes))
     (drop (at .wires) (t .wires)) (drop (at .boards) (t .boards))
 
-pub from-after : (at : Places) (s : JuryHeader) (t : Tables) → behind s (from at t)
+pub from-after : (at : Places) (s : JuryHeader) (t : Tables) → remaining s (from at t)
     ≡ from (placesAfter at s (conditionalIn s (from at t))) t
-unfolding behind
+unfolding remaining
 from-after at s t =
     let i = ballotBytes (headerShape s) in
     let c = conditionalIn s (from at t) in
@@ -203,7 +203,7 @@ module _ (ss : List JuryHeader) (t : Tables) (given next : ℕ) (conditional : L
             subst (λ (x : Tables). Upto (oneOf (juryShown given)) (oneOf (juryShown next)) (padding ss) left x
             (suc j) (set shown j v) (eightOf (juryShown next) ss t)) e
             (subst (λ (i : ℕ). Upto (oneOf (juryShown given)) (oneOf (juryShown next)) (padding ss) left
-            (behind s here) i (set shown j v) (eightOf (juryShown next) ss t)) (add-one j)
+            (remaining s here) i (set shown j v) (eightOf (juryShown next) ss t)) (add-one j)
             (upto-set (juryShown given) (juryShown next) (padding ss) s left here j shown
             (eightOf (juryShown next) ss t) (m .shownUp) v (st .count)));
         marksUp =
@@ -215,7 +215,7 @@ module _ (ss : List JuryHeader) (t : Tables) (given next : ℕ) (conditional : L
             m .longDone (ap length (sym (st .boardIs)) ∙ lr, subst (λ (y : Tables). BoardsLong next left y) (sym e) x);
       }
     where
-      marks-next : Upto (oneOf marks) (oneOf marks) (padding ss) left (behind s (from at t)) (suc j) conditional conditional
+      marks-next : Upto (oneOf marks) (oneOf marks) (padding ss) left (remaining s (from at t)) (suc j) conditional conditional
       marks-next =
           let u = m .marksUp in
           let y = marks s (piecesOf s (from at t)) in
@@ -223,8 +223,8 @@ module _ (ss : List JuryHeader) (t : Tables) (given next : ℕ) (conditional : L
           (record {
             front = u .front ++ (y ∷ []);
             long = omega (arith, length-append (u .front) (y ∷ []), u .long);
-            hereIs = u .hereIs ∙ sym (append-snoc (u .front) y (through (oneOf marks) (padding ss) left (behind s (from at t))));
-            finalIs = u .finalIs ∙ sym (append-snoc (u .front) y (through (oneOf marks) (padding ss) left (behind s (from at t))));
+            hereIs = u .hereIs ∙ sym (append-snoc (u .front) y (through (oneOf marks) (padding ss) left (remaining s (from at t))));
+            finalIs = u .finalIs ∙ sym (append-snoc (u .front) y (through (oneOf marks) (padding ss) left (remaining s (from at t))));
           })
 
 -- the part of a table from one place up to another

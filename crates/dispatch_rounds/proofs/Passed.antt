@@ -20,18 +20,18 @@ use Rattle.basics.proofs.Flags.{true-T}
 use Rattle.tally.specs.Answer.{sizeOf}
 use Rattle.tally.proofs.RunReasons.{RunPassed, run-passed, run-ready}
 use Rattle.dispatch_rounds.specs.declared.header.JuryHeader.{JuryHeader}
-use Rattle.dispatch_rounds.specs.Tables.{Tables, headerShape, pieceOf, listOf, conditionalIn, piecesOf, behind}
+use Rattle.dispatch_rounds.specs.Tables.{Tables, headerShape, pieceOf, listOf, conditionalIn, piecesOf, remaining}
 use Rattle.dispatch_rounds.specs.Reasons.{reasonsOf, atJury, juryReasons}
 use Rattle.dispatch_rounds.proofs.Pieces.{piece-fits, full-fits, some-fits}
 
 -- if no jury is refused, the first is not, and none after it is
 pub first-accepted : (j : ℕ) (s : JuryHeader) (ss : List JuryHeader) (t : Tables) → firstOf (juryReasons j (s ∷ ss) t) ≡ none
-    → (firstOf (reasonsOf s t) ≡ none) × (firstOf (juryReasons (suc j) ss (behind s t)) ≡ none)
+    → (firstOf (reasonsOf s t) ≡ none) × (firstOf (juryReasons (suc j) ss (remaining s t)) ≡ none)
 unfolding juryReasons
 first-accepted j s ss t e = go (firstOf (reasonsOf s t)) refl e
   where
-    go : (o : Option Reason) → firstOf (reasonsOf s t) ≡ o → firstOf (atJury j o ∷ juryReasons (suc j) ss (behind s t)) ≡ none
-        → (firstOf (reasonsOf s t) ≡ none) × (firstOf (juryReasons (suc j) ss (behind s t)) ≡ none)
+    go : (o : Option Reason) → firstOf (reasonsOf s t) ≡ o → firstOf (atJury j o ∷ juryReasons (suc j) ss (remaining s t)) ≡ none
+        → (firstOf (reasonsOf s t) ≡ none) × (firstOf (juryReasons (suc j) ss (remaining s t)) ≡ none)
     go none p q = unfold atJury firstOf in (p, q)
     go (some r) p q = unfold atJury firstOf in (let z : _≡_ {A = ℕ} 0 1 = cc in absurd (omega arith))
 

@@ -10,7 +10,7 @@ use lib.ListN.{length, getD, set, take, drop, replicate, length-append, replicat
 use lib.Seq.{take-at, drop-at, getD-at, set-at, append-snoc}
 use borrow.Author.Tests.{leb-true, le-leb}
 use Rattle.dispatch_rounds.specs.declared.header.JuryHeader.{JuryHeader}
-use Rattle.dispatch_rounds.specs.Tables.{Tables, fitting, pieceOf, piecesOf, behind, through}
+use Rattle.dispatch_rounds.specs.Tables.{Tables, fitting, pieceOf, piecesOf, remaining, through}
 use Rattle.dispatch_rounds.specs.Rounds.{eightOf}
 
 -- a piece that fits
@@ -56,13 +56,13 @@ upto-end f g rest t at here final u = u .hereIs ∙ sym (u .finalIs)
 module _ (f g : JuryHeader → Tables → List ℕ) (rest : Tables → List ℕ) (s : JuryHeader) (ss : List JuryHeader)
     (t : Tables) (at n : ℕ) (here final : List ℕ)
     (u : Upto f g rest (s ∷ ss) t at here final) (old : length (f s (piecesOf s t)) ≡ n) where
-  rest-of : drop at here ≡ f s (piecesOf s t) ++ through f rest ss (behind s t)
+  rest-of : drop at here ≡ f s (piecesOf s t) ++ through f rest ss (remaining s t)
   unfolding through
   rest-of = ap (drop at) (u .hereIs) ∙ drop-at (u .front) (through f rest (s ∷ ss) t) at (u .long)
 
   -- the first piece that is still old
   pub upto-part : take n (drop at here) ≡ f s (piecesOf s t)
-  upto-part = ap (take n) rest-of ∙ take-at (f s (piecesOf s t)) (through f rest ss (behind s t)) n old
+  upto-part = ap (take n) rest-of ∙ take-at (f s (piecesOf s t)) (through f rest ss (remaining s t)) n old
 
   pub upto-room : at + n ≤ length here
   unfolding through
@@ -72,12 +72,12 @@ module _ (f g : JuryHeader → Tables → List ℕ) (rest : Tables → List ℕ)
         ap length (u .hereIs),
         length-append (u .front) (through f rest (s ∷ ss) t),
         u .long,
-        length-append (f s (piecesOf s t)) (through f rest ss (behind s t)),
+        length-append (f s (piecesOf s t)) (through f rest ss (remaining s t)),
       )
 
   -- the table after this piece is replaced
   pub upto-next : (q : List ℕ) → q ≡ g s (piecesOf s t) → length q ≡ n
-      → Upto f g rest ss (behind s t) (at + n) (take at here ++ (q ++ drop n (drop at here))) final
+      → Upto f g rest ss (remaining s t) (at + n) (take at here ++ (q ++ drop n (drop at here))) final
   unfolding through
   upto-next q e l =
       let p = piecesOf s t in
@@ -87,11 +87,11 @@ module _ (f g : JuryHeader → Tables → List ℕ) (rest : Tables → List ℕ)
         hereIs =
             ap (λ (x : List ℕ). x ++ (q ++ drop n (drop at here)))
             (ap (take at) (u .hereIs) ∙ take-at (u .front) (through f rest (s ∷ ss) t) at (u .long))
-            ∙ ap (λ (x : List ℕ). u .front ++ (q ++ x)) (ap (drop n) rest-of ∙ drop-at (f s p) (through f rest ss (behind s t)) n old)
-            ∙ sym (append-assoc (u .front) q (through f rest ss (behind s t)));
+            ∙ ap (λ (x : List ℕ). u .front ++ (q ++ x)) (ap (drop n) rest-of ∙ drop-at (f s p) (through f rest ss (remaining s t)) n old)
+            ∙ sym (append-assoc (u .front) q (through f rest ss (remaining s t)));
         finalIs =
-            u .finalIs ∙ ap (λ (x : List ℕ). u .front ++ (x ++ through g rest ss (behind s t))) (sym e)
-            ∙ sym (append-assoc (u .front) q (through g rest ss (behind s t)));
+            u .finalIs ∙ ap (λ (x : List ℕ). u .front ++ (x ++ through g rest ss (remaining s t))) (sym e)
+            ∙ sym (append-assoc (u .front) q (through g rest ss (remaining s t)));
       }
 
 -- A piece of one number for each jury.
@@ -104,9 +104,9 @@ module _ (f g : JuryHeader → Tables → ℕ) (rest : Tables → List ℕ) (s :
   pub upto-read : (d : ℕ) → getD here at d ≡ f s (piecesOf s t)
   unfolding through
   upto-read d = ap (λ (x : List ℕ). getD x at d) (u .hereIs)
-      ∙ getD-at (u .front) (f s (piecesOf s t)) (through (oneOf f) rest ss (behind s t)) d at (u .long)
+      ∙ getD-at (u .front) (f s (piecesOf s t)) (through (oneOf f) rest ss (remaining s t)) d at (u .long)
 
-  pub upto-set : (v : ℕ) → v ≡ g s (piecesOf s t) → Upto (oneOf f) (oneOf g) rest ss (behind s t) (at + 1) (set here at v) final
+  pub upto-set : (v : ℕ) → v ≡ g s (piecesOf s t) → Upto (oneOf f) (oneOf g) rest ss (remaining s t) (at + 1) (set here at v) final
   unfolding through
   upto-set v e =
       record {
@@ -114,11 +114,11 @@ module _ (f g : JuryHeader → Tables → ℕ) (rest : Tables → List ℕ) (s :
         long = omega (arith, length-append (u .front) (v ∷ []), u .long);
         hereIs =
             ap (λ (x : List ℕ). set x at v) (u .hereIs)
-            ∙ set-at (u .front) (f s (piecesOf s t)) (through (oneOf f) rest ss (behind s t)) v at (u .long)
-            ∙ sym (append-snoc (u .front) v (through (oneOf f) rest ss (behind s t)));
+            ∙ set-at (u .front) (f s (piecesOf s t)) (through (oneOf f) rest ss (remaining s t)) v at (u .long)
+            ∙ sym (append-snoc (u .front) v (through (oneOf f) rest ss (remaining s t)));
         finalIs =
-            u .finalIs ∙ ap (λ (x : ℕ). u .front ++ (x ∷ through (oneOf g) rest ss (behind s t))) (sym e)
-            ∙ sym (append-snoc (u .front) v (through (oneOf g) rest ss (behind s t)));
+            u .finalIs ∙ ap (λ (x : ℕ). u .front ++ (x ∷ through (oneOf g) rest ss (remaining s t))) (sym e)
+            ∙ sym (append-snoc (u .front) v (through (oneOf g) rest ss (remaining s t)));
       }
 
 -- equal pieces make equal tables
@@ -128,15 +128,15 @@ pub through-same : (f g : JuryHeader → Tables → List ℕ) (rest : Tables →
 unfolding through
 through-same f g rest e [] t = refl
 through-same f g rest e (s ∷ ss) t =
-    ap (λ (x : List ℕ). x ++ through f rest ss (behind s t)) (e s (piecesOf s t))
-    ∙ ap (λ (x : List ℕ). g s (piecesOf s t) ++ x) (through-same f g rest e ss (behind s t))
+    ap (λ (x : List ℕ). x ++ through f rest ss (remaining s t)) (e s (piecesOf s t))
+    ∙ ap (λ (x : List ℕ). g s (piecesOf s t) ++ x) (through-same f g rest e ss (remaining s t))
 
 -- zeros for all juries
 zeros-through : (pad : List ℕ) (ss : List JuryHeader) (t : Tables)
     → through (oneOf (λ (s : JuryHeader) (p : Tables). 0)) (λ (t : Tables). pad) ss t ≡ replicate (length ss) 0 ++ pad
 unfolding through
 zeros-through pad [] t = refl
-zeros-through pad (s ∷ ss) t = ap (λ (x : List ℕ). 0 ∷ x) (zeros-through pad ss (behind s t))
+zeros-through pad (s ∷ ss) t = ap (λ (x : List ℕ). 0 ∷ x) (zeros-through pad ss (remaining s t))
 
 pub eight-zeros : (number : JuryHeader → Tables → ℕ) → ((s : JuryHeader) (p : Tables) → number s p ≡ 0)
     → (ss : List JuryHeader) (t : Tables) → length ss ≤ 8

@@ -5,7 +5,7 @@ use Prim.Native.Nat.{ℕ, suc}
 use Rattle.jury.specs.Reason.{Reason, reasonAt, firstOf}
 use Rattle.tally.specs.Run.{runReasons}
 use Rattle.dispatch_rounds.specs.declared.header.JuryHeader.{JuryHeader}
-use Rattle.dispatch_rounds.specs.Tables.{Tables, headerShape, piecesOf, behind}
+use Rattle.dispatch_rounds.specs.Tables.{Tables, headerShape, piecesOf, remaining}
 
 -- The reasons of the jury whose pieces come first in the tables: those of a run on these pieces.
 unfoldable pub reasonsOf : JuryHeader → Tables → List (Option Reason)
@@ -22,4 +22,4 @@ atJury j (some r) = some (reasonAt (r .number) j)
 -- jury j.
 unfoldable pub juryReasons : ℕ → List JuryHeader → Tables → List (Option Reason)
 juryReasons j [] t = []
-juryReasons j (s ∷ ss) t = atJury j (firstOf (reasonsOf s t)) ∷ juryReasons (suc j) ss (behind s t)
+juryReasons j (s ∷ ss) t = atJury j (firstOf (reasonsOf s t)) ∷ juryReasons (suc j) ss (remaining s t)

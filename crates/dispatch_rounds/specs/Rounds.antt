@@ -12,7 +12,7 @@ use Rattle.gates.specs.Wires.{wiresOf}
 use Rattle.gates.specs.Board.{conditionalCount, shownBits, boardOf}
 use Rattle.jury.specs.Reason.{firstOf}
 use Rattle.dispatch_rounds.specs.declared.header.JuryHeader.{JuryHeader}
-use Rattle.dispatch_rounds.specs.Tables.{Tables, conditionalIn, piecesOf, behind, through}
+use Rattle.dispatch_rounds.specs.Tables.{Tables, conditionalIn, piecesOf, remaining, through}
 use Rattle.dispatch_rounds.specs.Reasons.{juryReasons}
 
 -- A jury's wire table after its first m gates: the ballots, the wires of these gates, then the old contents. The
@@ -59,7 +59,7 @@ eightOf number ss = through (λ (s : JuryHeader) (p : Tables). number s p
 abbrev pub BoardsLong : ℕ → List JuryHeader → Tables → Type 0
 BoardsLong given [] t = Unit {0}
 BoardsLong given (s ∷ ss) t = (length (juryBoard given s (piecesOf s t)) ≡ conditionalIn s t + s .candidates)
-    × BoardsLong given ss (behind s t)
+    × BoardsLong given ss (remaining s t)
 
 -- A call between two rounds: t is what was lent, no jury is refused, and each was given `given` gates, or all its
 -- gates if it has fewer. `wires` and `boards` are what the two tables hold then. `conditional` and `shown` have

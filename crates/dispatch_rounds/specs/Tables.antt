@@ -57,8 +57,8 @@ piecesOf s t =
     (pieceOf (conditionalIn s t + s .candidates) (t .boards))
 
 -- The rest of the tables after these pieces. The next jury's pieces come first in it.
-unfoldable pub behind : JuryHeader → Tables → Tables
-behind s t =
+unfoldable pub remaining : JuryHeader → Tables → Tables
+remaining s t =
     tablesOf
     (drop (4 * s .gates) (t .lists))
     (drop (ballotBytes (headerShape s)) (t .ballots))
@@ -69,4 +69,4 @@ behind s t =
 -- A table made of one piece for each jury, in order, and then `rest` of what follows the last one.
 unfoldable pub through : (JuryHeader → Tables → List ℕ) → (Tables → List ℕ) → List JuryHeader → Tables → List ℕ
 through piece rest [] t = rest t
-through piece rest (s ∷ ss) t = piece s (piecesOf s t) ++ through piece rest ss (behind s t)
+through piece rest (s ∷ ss) t = piece s (piecesOf s t) ++ through piece rest ss (remaining s t)

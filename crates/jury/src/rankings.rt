@@ -90,7 +90,7 @@ fn not_weak_order_after(ballots: &[u8], k: usize, b: usize, i: usize) -> bool
 {
     let mut j = 0;
     while j < k {
-        if is_before(ballots, k, b, i, j) && is_apart(ballots, k, b, i, j) {
+        if is_before(ballots, k, b, i, j) && neither_after_nor_before(ballots, k, b, i, j) {
             return true;
         }
         j += 1;
@@ -99,7 +99,7 @@ fn not_weak_order_after(ballots: &[u8], k: usize, b: usize, i: usize) -> bool
 }
 
 // Whether some candidate is not after i and not before j.
-fn is_apart(ballots: &[u8], k: usize, b: usize, i: usize, j: usize) -> bool
+fn neither_after_nor_before(ballots: &[u8], k: usize, b: usize, i: usize, j: usize) -> bool
     requires { ⌜ ((b + 1) * k * k ≤ length (now ballots)) × (i < k) × (j < k) ⌝ }
     ensures { λ r. ⌜ r ≡ spec.neitherAfterNorBefore k (now (ballots .entry)) b i j ⌝ }
 {

@@ -43,7 +43,13 @@ GaugeKept =
     (n : ℕ) (rows : List (List ℕ)) → 1 ≤ n → EachGets n rows → (i : ℕ) → getD (closingOf rows) i 0 ≡ 1
     → NamedAlone rows i
 
--- Two candidates have equal sequences, and so win together if one of them wins, exactly if all their counts are
--- equal.
+-- Candidates share a win only if each grade was given to them equally often.
+abbrev pub SharedWin : Type 0
+SharedWin =
+    (n : ℕ) (rows : List (List ℕ)) → EachGets n rows → (i j : ℕ) → i < length rows → j < length rows
+    → length (getD rows i []) ≡ length (getD rows j [])
+    → getD (judgmentOf rows) i 0 ≡ 1 → getD (judgmentOf rows) j 0 ≡ 1 → getD rows i [] ≡ getD rows j []
+
+-- Two candidates have equal sequences exactly if all their counts are equal.
 abbrev pub EqualSequences : Type 0
 EqualSequences = (a b : List ℕ) → length a ≡ length b → sum a ≡ sum b → (sequenceOf a ≡ sequenceOf b) ↔ (a ≡ b)

@@ -29,7 +29,7 @@ use Rattle.rule_schulze.specs.Schulze.{link, weakest, allCandidates, without, s
 use Rattle.rule_schulze.specs.Votes.{votes}
 use Rattle.tally.specs.Rule.{closingFor}
 use Rattle.tally.specs.Count.{countReason, closingAfter, plainClosing}
-use Rattle.tally.specs.Answer.{refused as turnedAway, accepted}
+use Rattle.tally.specs.Answer.{refused as refusedOutcome, accepted}
 use Rattle.tally.specs.Test.{testOutcome}
 use Rattle.tally.proofs.TestReasons.{list-refused, list-accepted}
 
@@ -114,10 +114,10 @@ most-gates s n w enough few =
 
 -- A table of more than 4,194,304 numbers is refused, whatever they are.
 pub one-gate-more : (s : Shape) (table : List ℕ) → withinLimits s ≡ true → 4194304 < length table
-    → testOutcome s table ≡ turnedAway (reasonAt 2 0)
+    → testOutcome s table ≡ refusedOutcome (reasonAt 2 0)
 one-gate-more s table w long = by (eqb (length table % 4) 0) refl
   where
-    by : (whole : Bool) → eqb (length table % 4) 0 ≡ whole → testOutcome s table ≡ turnedAway (reasonAt 2 0)
+    by : (whole : Bool) → eqb (length table % 4) 0 ≡ whole → testOutcome s table ≡ refusedOutcome (reasonAt 2 0)
     by false e = list-refused s table w PartOfAGate (reasonAt 2 0)
         (part-of-a-gate (ballotBytes s) (s .candidates) table e) (unfold listReason in refl)
     by true e = list-refused s table w TooManyGates (reasonAt 2 0)

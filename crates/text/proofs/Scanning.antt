@@ -38,22 +38,22 @@ module _ (text : List ℕ) (at : ℕ) (r : Line) (read : LineRead text (gateIn (
 
     pub next-later : at < next
     next-later =
-        let f = gate-first (drop at text) (record { value = gate kind a b c; behind = drop next text }) gate-here .shorter in
+        let f = gate-first (drop at text) (record { value = gate kind a b c; rest = drop next text }) gate-here .shorter in
         omega (arith, length-drop next text, length-drop at text, next-within)
 
     pub later-other : (i : ℕ) → firstMalformed i (linesOf (drop at text)) ≡ firstMalformed (suc i) (linesOf (drop next text))
-    later-other i = other-later i (drop at text) (record { value = gate kind a b c; behind = drop next text }) gate-here
+    later-other i = other-later i (drop at text) (record { value = gate kind a b c; rest = drop next text }) gate-here
 
     pub later-gates : gatesIn (linesOf (drop at text)) ≡ gate kind a b c ∷ gatesIn (linesOf (drop next text))
-    later-gates = gates-cons (drop at text) (record { value = gate kind a b c; behind = drop next text }) gate-here
+    later-gates = gates-cons (drop at text) (record { value = gate kind a b c; rest = drop next text }) gate-here
 
     pub later-lines : length (linesOf (drop at text)) ≡ suc (length (linesOf (drop next text)))
-    later-lines = ap length (gate-first (drop at text) (record { value = gate kind a b c; behind = drop next text }) gate-here .lines)
+    later-lines = ap length (gate-first (drop at text) (record { value = gate kind a b c; rest = drop next text }) gate-here .lines)
 
     -- a gate that was read is good exactly if all its operands are below its own wire
     pub good-here : (own : ℕ) → 0 < own → goodGate own (gate kind a b c) ≡ (ltb a own && ltb b own && ltb c own)
     good-here own pos =
-        let w = gate-first (drop at text) (record { value = gate kind a b c; behind = drop next text }) gate-here .writable in
+        let w = gate-first (drop at text) (record { value = gate kind a b c; rest = drop next text }) gate-here .writable in
         good-by own (gate kind a b c) pos (w .known)
         (record { a-zero = w .a-holds .unused; b-zero = w .b-holds .unused; c-zero = w .c-holds .unused })
 

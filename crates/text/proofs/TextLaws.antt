@@ -117,20 +117,20 @@ first-line c cs = by (eqb c 10) refl
 
 -- If a gate is read at the start of a text, its line is the first line.
 pub record GateFirst (cs : List ℕ) (t : Taken Gate) : Type 0 where
-  pub lines : linesOf cs ≡ lineOf (t .value) ∷ linesOf (t .behind)
+  pub lines : linesOf cs ≡ lineOf (t .value) ∷ linesOf (t .rest)
   pub reads : gateOf (lineOf (t .value)) ≡ some (t .value)
   pub writable : Writable (t .value)
-  pub shorter : length (t .behind) < length cs
+  pub shorter : length (t .rest) < length cs
 
 pub gate-first : (cs : List ℕ) (t : Taken Gate) → gateIn cs ≡ some t → GateFirst cs t
 gate-first cs t e =
     let w = wrote-line cs t e in
     let n = ap length (w .is) in
-    let m = length-append (lineOf (t .value)) (t .behind) in
+    let m = length-append (lineOf (t .value)) (t .rest) in
     let f = ap length (front-line (t .value)) in
     let k = length-append (front (t .value)) (10 ∷ []) in
     record {
-      lines = ap linesOf (w .is) ∙ lines-cons (t .value) (t .behind);
+      lines = ap linesOf (w .is) ∙ lines-cons (t .value) (t .rest);
       reads = line-read (t .value) (w .writable);
       writable = w .writable;
       shorter = omega arith;
@@ -155,7 +155,7 @@ other-first c cs e = by (gateOf (f .line)) refl
         let w = line-wrote (f .line) g q in
         let whole : c ∷ cs ≡ lineOf g ++ flatten (f .later) = sym (flatten-lines (c ∷ cs)) ∙ ap flatten (f .is)
         ∙ ap (λ (l : List ℕ). l ++ flatten (f .later)) (w .1) in
-        absurd (Option·none-ne-some (record { value = g; behind = flatten (f .later) })
+        absurd (Option·none-ne-some (record { value = g; rest = flatten (f .later) })
         (sym e ∙ ap gateIn whole ∙ read-line g (flatten (f .later)) (w .0)))
 
 -- The first malformed line, and the gates, line by line.
@@ -164,10 +164,10 @@ unfolding firstMalformed malformedAt
 other-here i cs o = ap (firstMalformed i) (o .lines) ∙ rw (o .reads)
 
 pub other-later : (i : ℕ) (cs : List ℕ) (t : Taken Gate) → gateIn cs ≡ some t → firstMalformed i (linesOf cs)
-    ≡ firstMalformed (suc i) (linesOf (t .behind))
+    ≡ firstMalformed (suc i) (linesOf (t .rest))
 unfolding firstMalformed malformedAt
 other-later i cs t e = let f = gate-first cs t e in ap (firstMalformed i) (f .lines) ∙ rw (f .reads)
 
-pub gates-cons : (cs : List ℕ) (t : Taken Gate) → gateIn cs ≡ some t → gatesIn (linesOf cs) ≡ t .value ∷ gatesIn (linesOf (t .behind))
+pub gates-cons : (cs : List ℕ) (t : Taken Gate) → gateIn cs ≡ some t → gatesIn (linesOf cs) ≡ t .value ∷ gatesIn (linesOf (t .rest))
 unfolding gatesIn gateBefore
 gates-cons cs t e = let f = gate-first cs t e in ap gatesIn (f .lines) ∙ rw (f .reads)

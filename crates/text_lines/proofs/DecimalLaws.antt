@@ -132,9 +132,9 @@ pub record Wrote (cs : List ℕ) (n : ℕ) (rest : List ℕ) : Type 0 where
 -- if reading stops after the digits of n, the characters are those of n and the rest
 stopped : (n : ℕ) (cs : List ℕ) (m : ℕ) (rest : List ℕ) → n ≤ 4294967295 → taken n cs ≡ taken m rest → Wrote (decimal n ++ cs) m rest
 stopped n cs m rest fits e =
-    let p = Option·some-injective (record { value = n; behind = cs }) (record { value = m; behind = rest }) e in
+    let p = Option·some-injective (record { value = n; rest = cs }) (record { value = m; rest = rest }) e in
     let q : n ≡ m = ap (λ (t : Taken ℕ). t .value) p in
-    let r : cs ≡ rest = ap (λ (t : Taken ℕ). t .behind) p in
+    let r : cs ≡ rest = ap (λ (t : Taken ℕ). t .rest) p in
     record { fits = omega arith; is = ap (λ (x : ℕ). decimal x ++ cs) q ∙ ap (λ (l : List ℕ). decimal m ++ l) r }
 
 -- a reading does not fail and succeed

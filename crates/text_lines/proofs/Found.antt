@@ -67,47 +67,47 @@ bind-none o f e = rw e
 
 module _ (k : Taken ℕ) where
   pub afterC : Taken ℕ → Taken ℕ → Taken ℕ → Option (Taken Gate)
-  afterC a b c = bind (endIn (c .behind)) λ rest. taken (record { kind = k .value; a = a .value; b = b .value; c = c .value }) rest
+  afterC a b c = bind (endIn (c .rest)) λ rest. taken (record { kind = k .value; a = a .value; b = b .value; c = c .value }) rest
 
   pub afterB : Taken ℕ → Taken ℕ → Option (Taken Gate)
-  afterB a b = bind (operandIn (ltb 2 (operandsOf (k .value))) (b .behind)) λ c. afterC a b c
+  afterB a b = bind (operandIn (ltb 2 (operandsOf (k .value))) (b .rest)) λ c. afterC a b c
 
   pub afterA : Taken ℕ → Option (Taken Gate)
-  afterA a = bind (operandIn (ltb 1 (operandsOf (k .value))) (a .behind)) λ b. afterB a b
+  afterA a = bind (operandIn (ltb 1 (operandsOf (k .value))) (a .rest)) λ b. afterB a b
 
   pub afterKind : Option (Taken Gate)
-  afterKind = bind (operandIn (ltb 0 (operandsOf (k .value))) (k .behind)) λ a. afterA a
+  afterKind = bind (operandIn (ltb 0 (operandsOf (k .value))) (k .rest)) λ a. afterA a
 
-  pub a-found : (a : Taken ℕ) → operandIn (ltb 0 (operandsOf (k .value))) (k .behind) ≡ some a → afterKind ≡ afterA a
+  pub a-found : (a : Taken ℕ) → operandIn (ltb 0 (operandsOf (k .value))) (k .rest) ≡ some a → afterKind ≡ afterA a
   unfolding afterKind
   a-found a e = bind-is _ _ a e
 
-  pub a-lost : operandIn (ltb 0 (operandsOf (k .value))) (k .behind) ≡ none → afterKind ≡ none
+  pub a-lost : operandIn (ltb 0 (operandsOf (k .value))) (k .rest) ≡ none → afterKind ≡ none
   unfolding afterKind
   a-lost e = bind-none _ _ e
 
-  pub b-found : (a b : Taken ℕ) → operandIn (ltb 1 (operandsOf (k .value))) (a .behind) ≡ some b → afterA a ≡ afterB a b
+  pub b-found : (a b : Taken ℕ) → operandIn (ltb 1 (operandsOf (k .value))) (a .rest) ≡ some b → afterA a ≡ afterB a b
   unfolding afterA
   b-found a b e = bind-is _ _ b e
 
-  pub b-lost : (a : Taken ℕ) → operandIn (ltb 1 (operandsOf (k .value))) (a .behind) ≡ none → afterA a ≡ none
+  pub b-lost : (a : Taken ℕ) → operandIn (ltb 1 (operandsOf (k .value))) (a .rest) ≡ none → afterA a ≡ none
   unfolding afterA
   b-lost a e = bind-none _ _ e
 
-  pub c-found : (a b c : Taken ℕ) → operandIn (ltb 2 (operandsOf (k .value))) (b .behind) ≡ some c → afterB a b ≡ afterC a b c
+  pub c-found : (a b c : Taken ℕ) → operandIn (ltb 2 (operandsOf (k .value))) (b .rest) ≡ some c → afterB a b ≡ afterC a b c
   unfolding afterB
   c-found a b c e = bind-is _ _ c e
 
-  pub c-lost : (a b : Taken ℕ) → operandIn (ltb 2 (operandsOf (k .value))) (b .behind) ≡ none → afterB a b ≡ none
+  pub c-lost : (a b : Taken ℕ) → operandIn (ltb 2 (operandsOf (k .value))) (b .rest) ≡ none → afterB a b ≡ none
   unfolding afterB
   c-lost a b e = bind-none _ _ e
 
-  pub end-found : (a b c : Taken ℕ) (rest : List ℕ) → endIn (c .behind) ≡ some rest → afterC a b c
+  pub end-found : (a b c : Taken ℕ) (rest : List ℕ) → endIn (c .rest) ≡ some rest → afterC a b c
       ≡ taken (record { kind = k .value; a = a .value; b = b .value; c = c .value }) rest
   unfolding afterC
   end-found a b c rest e = bind-is _ _ rest e
 
-  pub end-lost : (a b c : Taken ℕ) → endIn (c .behind) ≡ none → afterC a b c ≡ none
+  pub end-lost : (a b c : Taken ℕ) → endIn (c .rest) ≡ none → afterC a b c ≡ none
   unfolding afterC
   end-lost a b c e = bind-none _ _ e
 

@@ -46,7 +46,7 @@ apart-operand false x rest a = a
 
 record WroteOperand (used : Bool) (cs : List ℕ) (t : Taken ℕ) : Type 0 where
   holds : Holds used (t .value)
-  is : cs ≡ operandText used (t .value) ++ t .behind
+  is : cs ≡ operandText used (t .value) ++ t .rest
 
 wrote-operand : (used : Bool) (cs : List ℕ) (t : Taken ℕ) → operandIn used cs ≡ some t → WroteOperand used cs t
 unfolding operandIn operandText
@@ -58,7 +58,7 @@ wrote-operand true (c ∷ cs) t e = by (eqb c 32) refl e
 
     by : (u : Bool) → eqb c 32 ≡ u → cond u (numberIn cs) none ≡ some t → WroteOperand true (c ∷ cs) t
     by true p e =
-        let w = wrote-number cs (t .value) (t .behind) e in
+        let w = wrote-number cs (t .value) (t .rest) e in
         record {
           holds = record { fits = w .fits; unused = λ (n : true ≡ false). never n };
           is =
@@ -66,9 +66,9 @@ wrote-operand true (c ∷ cs) t e = by (eqb c 32) refl e
         }
     by false p e = absurd (Option·none-ne-some t e)
 wrote-operand false cs t e =
-    let p = Option·some-injective (record { value = 0; behind = cs }) t e in
+    let p = Option·some-injective (record { value = 0; rest = cs }) t e in
     let q : 0 ≡ t .value = ap (λ (u : Taken ℕ). u .value) p in
-    record { holds = record { fits = omega arith; unused = λ (n : false ≡ false). sym q }; is = ap (λ (u : Taken ℕ). u .behind) p }
+    record { holds = record { fits = omega arith; unused = λ (n : false ≡ false). sym q }; is = ap (λ (u : Taken ℕ). u .rest) p }
 
 wrote-end : (cs rest : List ℕ) → endIn cs ≡ some rest → cs ≡ 10 ∷ rest
 unfolding endIn
@@ -115,23 +115,23 @@ read-line g rest w =
 -- What is read was written.
 pub record WroteLine (cs : List ℕ) (t : Taken Gate) : Type 0 where
   pub writable : Writable (t .value)
-  pub is : cs ≡ lineOf (t .value) ++ t .behind
+  pub is : cs ≡ lineOf (t .value) ++ t .rest
 
 -- if all parts of a line are read, the characters are the line of that gate and the rest
 together : (cs : List ℕ) (k a b c : Taken ℕ) (rest : List ℕ) → numberIn cs ≡ some k → k .value < 8
-    → operandIn (ltb 0 (operandsOf (k .value))) (k .behind) ≡ some a
-    → operandIn (ltb 1 (operandsOf (k .value))) (a .behind) ≡ some b
-    → operandIn (ltb 2 (operandsOf (k .value))) (b .behind) ≡ some c
-    → endIn (c .behind) ≡ some rest
-    → WroteLine cs (record { value = record { kind = k .value; a = a .value; b = b .value; c = c .value }; behind = rest })
+    → operandIn (ltb 0 (operandsOf (k .value))) (k .rest) ≡ some a
+    → operandIn (ltb 1 (operandsOf (k .value))) (a .rest) ≡ some b
+    → operandIn (ltb 2 (operandsOf (k .value))) (b .rest) ≡ some c
+    → endIn (c .rest) ≡ some rest
+    → WroteLine cs (record { value = record { kind = k .value; a = a .value; b = b .value; c = c .value }; rest = rest })
 unfolding lineOf
 together cs k a b c rest ek small ea eb ec er =
     let n = operandsOf (k .value) in
-    let wk = wrote-number cs (k .value) (k .behind) ek in
-    let wa = wrote-operand (ltb 0 n) (k .behind) a ea in
-    let wb = wrote-operand (ltb 1 n) (a .behind) b eb in
-    let wc = wrote-operand (ltb 2 n) (b .behind) c ec in
-    let we = wrote-end (c .behind) rest er in
+    let wk = wrote-number cs (k .value) (k .rest) ek in
+    let wa = wrote-operand (ltb 0 n) (k .rest) a ea in
+    let wb = wrote-operand (ltb 1 n) (a .rest) b eb in
+    let wc = wrote-operand (ltb 2 n) (b .rest) c ec in
+    let we = wrote-end (c .rest) rest er in
     let ta = operandText (ltb 0 n) (a .value) in
     let tb = operandText (ltb 1 n) (b .value) in
     let tc = operandText (ltb 2 n) (c .value) in
@@ -164,15 +164,15 @@ wrote-line cs t e =
 -- The same for a whole line.
 pub line-read : (g : Gate) → Writable g → gateOf (lineOf g) ≡ some g
 unfolding gateOf bind only
-line-read g w = ap (λ (o : Option (Taken Gate)). bind o λ t. only (t .value) (t .behind))
+line-read g w = ap (λ (o : Option (Taken Gate)). bind o λ t. only (t .value) (t .rest))
     (ap gateIn (sym (append-nil (lineOf g))) ∙ read-line g [] w)
 
 pub line-wrote : (line : List ℕ) (g : Gate) → gateOf line ≡ some g → Writable g × (line ≡ lineOf g)
 unfolding gateOf only
 line-wrote line g e =
-    let t = bind-some (gateIn line) (λ t. only (t .value) (t .behind)) g e in
+    let t = bind-some (gateIn line) (λ t. only (t .value) (t .rest)) g e in
     let w = wrote-line line (t .0) (t .1) in
-    by (t .0 .value) (t .0 .behind) (w .writable) (w .is) (t .2)
+    by (t .0 .value) (t .0 .rest) (w .writable) (w .is) (t .2)
   where
     by : (h : Gate) (rest : List ℕ) → Writable h → line ≡ lineOf h ++ rest → only h rest ≡ some g → Writable g × (line ≡ lineOf g)
     by h [] w is e =

@@ -32,10 +32,10 @@ isDigit c = leb zeroCharacter c && leb c nineCharacter
 -- The value of some first characters, and the characters after them.
 pub record Taken (Values : Type 0) : Type 0 where
   pub value : Values
-  pub behind : List ℕ
+  pub rest : List ℕ
 
 abbrev pub taken : {Values : Type 0} → Values → List ℕ → Option (Taken Values)
-taken value behind = some (record { value = value; behind = behind })
+taken value rest = some (record { value = value; rest = rest })
 
 -- Reads on in a number: n is the value of the digits before. The result is none if the number is above the largest.
 unfoldable pub digitsIn : ℕ → List ℕ → Option (Taken ℕ)

@@ -47,10 +47,10 @@ endIn (c ∷ cs) = cond (eqb c lineFeed) (some cs) none
 unfoldable pub gateIn : List ℕ → Option (Taken Gate)
 gateIn cs =
     bind (bind (numberIn cs) knownKind) λ k.
-    bind (operandIn (ltb 0 (operandsOf (k .value))) (k .behind)) λ a.
-    bind (operandIn (ltb 1 (operandsOf (k .value))) (a .behind)) λ b.
-    bind (operandIn (ltb 2 (operandsOf (k .value))) (b .behind)) λ c.
-    bind (endIn (c .behind)) λ rest.
+    bind (operandIn (ltb 0 (operandsOf (k .value))) (k .rest)) λ a.
+    bind (operandIn (ltb 1 (operandsOf (k .value))) (a .rest)) λ b.
+    bind (operandIn (ltb 2 (operandsOf (k .value))) (b .rest)) λ c.
+    bind (endIn (c .rest)) λ rest.
     taken (record { kind = k .value; a = a .value; b = b .value; c = c .value }) rest
 
 -- The gate, if no characters follow its line.
@@ -60,4 +60,4 @@ only g (c ∷ cs) = none
 
 -- The gate of a whole line; none if the line is malformed.
 unfoldable pub gateOf : List ℕ → Option Gate
-gateOf line = bind (gateIn line) λ g. only (g .value) (g .behind)
+gateOf line = bind (gateIn line) λ g. only (g .value) (g .rest)

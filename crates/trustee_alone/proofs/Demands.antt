@@ -27,7 +27,7 @@ use Rattle.trustee_rounds.proofs.Together.{earlier-follows, rounds-make-the-tal
 use Rattle.trustees.specs.Call.{PartTables, Call, dealtAs, wirePartsIn, publishedIn, viewIn}
 use Rattle.trustees.specs.Reasons.{trusteesReasons}
 use Rattle.trustees.specs.Result.{TrusteesResult, trusteesResultAfter, trusteesResult, closingSums}
-use Rattle.trustees.specs.Demands.{inOneCall, WayAccuracy, OwnList, ViewsHide, Tallies}
+use Rattle.trustees.specs.Demands.{inOneCall, WayAccuracy, OwnListAccuracy, ViewsHide, Tallies}
 use Rattle.trustees.proofs.Reasons.{CallPassed, call-passed, result-by}
 use Rattle.trustees.proofs.Sums.{call-ready, opened-closing}
 use Rattle.trustees.proofs.Demands as one-call
@@ -153,7 +153,7 @@ apart-accuracy c size e =
       plain-run = λ tape wires board run f. s .same-closing ∙ a .plain-run tape wires board run f;
     }
 
-apart-own-list : (c : Call) (size : Size) → trusteesResult c .answer ≡ accepted size → OwnList inOneCall c → OwnList apart c
+apart-own-list : (c : Call) (size : Size) → trusteesResult c .answer ≡ accepted size → OwnListAccuracy inOneCall c → OwnListAccuracy apart c
 apart-own-list c size e o =
     let s = as-the-one-call c size e in
     record {

@@ -33,7 +33,7 @@ use Rattle.trustee_shares.proofs.Tables.{length-piece}
 use Rattle.trustees.specs.Call.{Call, wirePartsIn}
 use Rattle.trustees.specs.Reasons.{trusteesReasons}
 use Rattle.trustees.specs.Result.{closingSums, TrusteesResult, trusteesResultAfter, trusteesResult}
-use Rattle.trustees.specs.Demands.{inOneCall, WayAccuracy, OwnList}
+use Rattle.trustees.specs.Demands.{inOneCall, WayAccuracy, OwnListAccuracy}
 use Rattle.trustees.proofs.Reasons.{CallPassed, call-passed, call-passed-back, result-by, passed-dealing}
 use Rattle.trustees.proofs.Sums.{Ready, call-ready}
 
@@ -147,7 +147,7 @@ module _ (c : Call) (table : List ℕ) (size : Size) (w : writing.WritePassed (c
       ∙ ap eightBytes (own-list-holds (c .shape) (w .within) .closing (c .ballots) (p .ballotsPassed))
       ∙ sym (plain-accepted (c .shape) (c .ballots) (p .ballotsPassed))
 
-  pub own-list : OwnList inOneCall c
+  pub own-list : OwnListAccuracy inOneCall c
   own-list =
       record {
         plain-count = count;

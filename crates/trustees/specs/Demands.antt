@@ -67,7 +67,7 @@ pub record WayAccuracy (way : Way) (c : Call) (size : Size) : Type 0 where
       ≡ eightBytes (closingBytes (c .shape) (runResult (c .shape) (c .table) (c .ballots) tape wires board .board))
 
 -- With the own list of the shape, the closing bytes are those of the plain count, and say who wins.
-pub record OwnList (way : Way) (c : Call) : Type 0 where
+pub record OwnListAccuracy (way : Way) (c : Call) : Type 0 where
   pub plain-count : way .closing c ≡ plainClosing (c .shape) (c .ballots)
   pub says-who-wins : SaysWhoWins (c .shape) (c .ballots) (way .closing c)
 
@@ -96,7 +96,7 @@ pub record Tallies (way : Way) : Type 0 where
   pub accuracy : (c : Call) (size : Size) → trusteesResult c .answer ≡ accepted size → WayAccuracy way c size
   pub own-list : (c : Call) (table : List ℕ) (size answer : Size)
       → writeOutcome (c .shape) table ≡ accepted size → c .table ≡ listIn (c .shape) size table
-      → trusteesResult c .answer ≡ accepted answer → OwnList way c
+      → trusteesResult c .answer ≡ accepted answer → OwnListAccuracy way c
   pub hiding : ViewsTellNoMore way
 
 pub record TrusteesHold : Type 0 where

@@ -10,7 +10,7 @@ use lib.ListN.{length, getD, set, take, drop, replicate, drop-of-length-le}
 use lib.Seq.{length-take-le}
 use borrow.Author.Needs.{needs}
 use Rattle.dispatch_rounds.specs.declared.header.JuryHeader.{JuryHeader}
-use Rattle.dispatch_rounds.specs.Tables.{Tables, behind}
+use Rattle.dispatch_rounds.specs.Tables.{Tables, remaining}
 use Rattle.dispatch_rounds.specs.Rounds.{eightOf, roundsFor}
 use Rattle.dispatch.specs.inner.Rounds.{mostGates}
 use Rattle.dispatch_rounds.proofs.Pieces.{Upto, upto-start, upto-end, oneOf, upto-set, eight-zeros}
@@ -112,9 +112,9 @@ next c t =
     let first = subst (λ (left : List JuryHeader). Upto (oneOf unknown) (oneOf (rate (s .args .gates-per-round)))
     (padding ss) left (u .0) (l .j) (l .rounds) final)
     (left-cons (s .args .count) (l .j) (s .args .t2) blank (c .loop-test .taken) (enough s)) (u .1) in (
-      behind x (u .0),
+      remaining x (u .0),
       subst (λ (left : List JuryHeader). Upto (oneOf unknown) (oneOf (rate (s .args .gates-per-round))) (padding ss) left
-          (behind x (u .0)) (l .j + 1)
+          (remaining x (u .0)) (l .j + 1)
           (set (l .rounds) (l .j) ((x .gates + (s .args .gates-per-round - 1)) / s .args .gates-per-round)) final)
           (ap (λ (i : ℕ). drop i ss) (sym (add-one (l .j))))
           (upto-set unknown (rate (s .args .gates-per-round)) (padding ss) x (drop (suc (l .j)) ss) (u .0) (l .j)

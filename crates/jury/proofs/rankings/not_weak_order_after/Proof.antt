@@ -31,8 +31,8 @@ loop-holds c = (omega arith, refl)
 is-before-requires : tie.Need-is-before-requires Inv-loop μ-loop
 is-before-requires c κs = search needs
 
-is-apart-requires : tie.Need-is-apart-requires Inv-loop μ-loop
-is-apart-requires c κs = search needs
+neither-after-nor-before-requires : tie.Need-neither-after-nor-before-requires Inv-loop μ-loop
+neither-after-nor-before-requires c κs = search needs
 
 returns : tie.Need-returns Inv-loop μ-loop
 unfolding notWeakOrderAfter
@@ -49,7 +49,7 @@ returns c =
     sym
     (some-here (test k xs b i) k j (omega arith)
     (and-both (before k xs b i j) (neitherAfterNorBefore k xs b i j)
-    (sym (asked .is-before .ensures) ∙ again .before .if1 .taken) (sym (again .is-apart .ensures) ∙ c .if2 .taken)))
+    (sym (asked .is-before .ensures) ∙ again .before .if1 .taken) (sym (again .neither-after-nor-before .ensures) ∙ c .if2 .taken)))
 
 add-j : tie.Need-add-j Inv-loop μ-loop
 add-j c = omega arith
@@ -91,7 +91,7 @@ not-weak-order-after-spec =
     μ-loop
     loop-holds
     is-before-requires
-    is-apart-requires
+    neither-after-nor-before-requires
     returns
     add-j
     loop-less

@@ -127,7 +127,7 @@ start-from-then3 c = start-from-b (c .before .before .before .before .before .be
 abbrev kind-read : tie.After-known-told → Taken ℕ
 kind-read c = record {
   value = c .before .kind .given .0 .0;
-  behind =
+  rest =
       drop (c .before .kind .given .0 .1 .0) ((start-from-known-told c) .args .text .now);
 }
 
@@ -188,7 +188,7 @@ returns-3 c =
     let n = c .before .before .operand in
     record {
       found = sym (left-kind (else1-from-enum-told2 c)
-          ∙ a-lost k (a-asked (c .before .before .before) (k .behind)
+          ∙ a-lost k (a-asked (c .before .before .before) (k .rest)
           ∙ lost ((start-from-enum-told2 c) .args .text .now) (n .result) _ (n .ensures .found)
           (c .enum-told2 .given .1)));
       within = tt;
@@ -197,7 +197,7 @@ returns-3 c =
 abbrev a-read : tie.After-known-told2 → Taken ℕ
 a-read c = record {
   value = c .before .a .given .0 .0;
-  behind =
+  rest =
       drop (c .before .a .given .0 .1 .0) ((start-from-a (c .before)) .args .text .now);
 }
 
@@ -208,7 +208,7 @@ left-a c =
     let k = kind-read (known-told-from-a (c .before)) in
     let n = c .before .before .before .operand in
     left-kind (else1-from-a (c .before))
-    ∙ a-found k (a-read c) (a-asked (c .before .before .before .before) (k .behind)
+    ∙ a-found k (a-read c) (a-asked (c .before .before .before .before) (k .rest)
     ∙ found ((start-from-a (c .before)) .args .text .now) (n .result) _ (n .ensures .found) _ _
     (c .before .a .given .1))
 
@@ -231,7 +231,7 @@ returns-4 c =
     let n = c .before .before .operand2 in
     record {
       found = sym (left-a (c .before .before .before)
-          ∙ b-lost k x (b-asked (operands-from-enum-told3 c) (x .behind)
+          ∙ b-lost k x (b-asked (operands-from-enum-told3 c) (x .rest)
           ∙ lost ((start-from-enum-told3 c) .args .text .now) (n .result) _ (n .ensures .found)
           (c .enum-told3 .given .1)));
       within = tt;
@@ -240,7 +240,7 @@ returns-4 c =
 abbrev b-read : tie.After-known-told3 → Taken ℕ
 b-read c = record {
   value = c .before .b .given .0 .0;
-  behind =
+  rest =
       drop (c .before .b .given .0 .1 .0) ((start-from-b (c .before)) .args .text .now);
 }
 
@@ -252,7 +252,7 @@ left-b c =
     let x = a-read (c .before .before .before .before) in
     let n = c .before .before .before .operand2 in
     left-a (c .before .before .before .before)
-    ∙ b-found k x (b-read c) (b-asked (operands-from-b (c .before)) (x .behind)
+    ∙ b-found k x (b-read c) (b-asked (operands-from-b (c .before)) (x .rest)
     ∙ found ((start-from-b (c .before)) .args .text .now) (n .result) _ (n .ensures .found) _ _
     (c .before .b .given .1))
 
@@ -276,7 +276,7 @@ returns-5 c =
     let n = c .before .before .operand3 in
     record {
       found = sym (left-b (c .before .before .before)
-          ∙ c-lost k x y (c-asked (operands-from-enum-told4 c) (y .behind)
+          ∙ c-lost k x y (c-asked (operands-from-enum-told4 c) (y .rest)
           ∙ lost ((start-from-enum-told4 c) .args .text .now) (n .result) _ (n .ensures .found)
           (c .enum-told4 .given .1)));
       within = tt;
@@ -285,7 +285,7 @@ returns-5 c =
 abbrev c-read : tie.After-known-told4 → Taken ℕ
 c-read c = record {
   value = c .before .c .given .0 .0;
-  behind =
+  rest =
       drop (c .before .c .given .0 .1 .0) ((start-from-c (c .before)) .args .text .now);
 }
 
@@ -299,12 +299,12 @@ left-c c =
     let y = b-read (c .before .before .before .before) in
     let n = c .before .before .before .operand3 in
     left-b (c .before .before .before .before)
-    ∙ c-found k x y (c-read c) (c-asked (operands-from-c (c .before)) (y .behind)
+    ∙ c-found k x y (c-read c) (c-asked (operands-from-c (c .before)) (y .rest)
     ∙ found ((start-from-c (c .before)) .args .text .now) (n .result) _ (n .ensures .found) _ _
     (c .before .c .given .1))
 
 -- the line does not end in a line feed
-unended : (c : tie.After-known-told4) → endIn (c-read c .behind) ≡ none
+unended : (c : tie.After-known-told4) → endIn (c-read c .rest) ≡ none
     → gateIn (drop ((start-from-c (c .before)) .args .at) ((start-from-c (c .before)) .args .text .now)) ≡ none
 unended c e = left-c c ∙ end-lost (kind-read (known-told-from-c (c .before)))
     (a-read (known-told2-from-c (c .before))) (b-read (c .before .before .before .before)) (c-read c) e

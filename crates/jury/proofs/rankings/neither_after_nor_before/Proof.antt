@@ -1,4 +1,4 @@
--- `jury::rankings::is_apart` meets its contract: every candidate below l is after i or before j.
+-- `jury::rankings::neither_after_nor_before` meets its contract: every candidate below l is after i or before j.
 -- Assumes nothing.
 use mathlib.Core.Path.{_≡_, _∙_, refl, sym, ap}
 use mathlib.Core.Bool.{Bool, false, not, _&&_}
@@ -11,8 +11,8 @@ use Rattle.basics.proofs.Flags.{and-both, and-first-fails, and-second-fails}
 use Rattle.jury.specs.Rankings.{before, neitherAfterNorBefore}
 use Rattle.basics.specs.Below.{someBelow}
 use Rattle.jury.proofs.Searches.{some-later, some-here}
-use Rattle.jury.proofs.rankings.is_apart.Statement.{statement}
-use Rattle.jury.proofs.rankings.is_apart.Tie as tie
+use Rattle.jury.proofs.rankings.neither_after_nor_before.Statement.{statement}
+use Rattle.jury.proofs.rankings.neither_after_nor_before.Tie as tie
 
 -- l is not after i and not before j
 abbrev test : ℕ → List ℕ → ℕ → ℕ → ℕ → ℕ → Bool
@@ -85,8 +85,8 @@ returns-2 c =
     ∙ ap (λ (m : ℕ). someBelow m (test (start .args .k) (start .args .ballots .now) (start .args .b)
     (start .args .i) (start .args .j))) {x = at .loop .l} {y = start .args .k} (omega arith)
 
-pub is-apart-spec : {M : Type 1} → statement M
-is-apart-spec =
+pub neither-after-nor-before-spec : {M : Type 1} → statement M
+neither-after-nor-before-spec =
     tie.close
     (tie.spec
     Inv-loop
