@@ -74,7 +74,7 @@ pub fn preview(k: usize, d: usize, urn: &[u8], juror: usize, ballot: &[u8]) -> A
     if !is_graded(k, d) {
         return Answer::Refused(Refusal::Shape);
     }
-    let looked = facts::look(k, d, urn, juror);
+    let looked = facts::check(k, d, urn, juror);
     decide(k, d, looked.facts, juror, ballot)
 }
 

@@ -5,7 +5,7 @@ use urn_chains::sound;
 use urn_chains::sound::Soundness;
 ghost use lib.Dec.{T};
 ghost use Rattle.urn_chains.specs.Sound.{gradedShape};
-ghost use Rattle.urn.specs.inner.Ready.{Looked};
+ghost use Rattle.urn.specs.inner.Ready.{UrnChecked};
 
 // For a sound urn: how many ballots it has, whether this juror's is among them, and whether no slot is free. For an
 // unsound urn, only that it is unsound.
@@ -22,9 +22,9 @@ pub(crate) struct UrnCheck {
     pub(crate) position: ChainPosition,
 }
 
-pub(crate) fn look(k: usize, d: usize, urn: &[u8], juror: usize) -> UrnCheck
+pub(crate) fn check(k: usize, d: usize, urn: &[u8], juror: usize) -> UrnCheck
     requires { ⌜ T (gradedShape k d) ⌝ }
-    ensures { λ r. ⌜ Looked k d (now (urn .entry)) juror r ⌝ }
+    ensures { λ r. ⌜ UrnChecked k d (now (urn .entry)) juror r ⌝ }
 {
     let Soundness::Sound { ballots } = sound::test(k, d, urn) else {
         return UrnCheck {

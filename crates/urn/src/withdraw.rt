@@ -46,7 +46,7 @@ pub fn preview(k: usize, d: usize, urn: &[u8], juror: usize) -> Answer
     if !is_graded(k, d) {
         return Answer::Refused(Refusal::Shape);
     }
-    let looked = facts::look(k, d, urn, juror);
+    let looked = facts::check(k, d, urn, juror);
     decide(k, d, looked.facts, juror)
 }
 
@@ -76,7 +76,7 @@ pub fn withdraw(k: usize, d: usize, urn: &mut [u8], juror: usize) -> Answer
     if !is_graded(k, d) {
         return Answer::Refused(Refusal::Shape);
     }
-    let looked = facts::look(k, d, urn, juror);
+    let looked = facts::check(k, d, urn, juror);
     let position = looked.position;
     let answer = decide(k, d, looked.facts, juror);
     if let Answer::Accepted { ballots: _ } = answer {

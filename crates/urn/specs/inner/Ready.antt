@@ -14,8 +14,8 @@ use Rattle.urn.specs.declared.facts.UrnCheck.{UrnCheck}
 use Rattle.urn.specs.Facts.{isEmpty, factsOf}
 use Rattle.urn.specs.inner.Position.{positionIn}
 
--- The result of a look at an urn: its facts and, if it is sound, where the juror's ballot is.
-pub record Looked (k d : ℕ) (urn : List ℕ) (juror : ℕ) (check : UrnCheck) : Type 0 where
+-- The result of checking an urn: its facts and, if it is sound, where the juror's ballot is.
+pub record UrnChecked (k d : ℕ) (urn : List ℕ) (juror : ℕ) (check : UrnCheck) : Type 0 where
   pub told : check .facts ≡ factsOf k d urn juror
   pub few : check .facts .ballots ≤ 256
   pub placed : check .facts .sound ≡ true → check .position ≡ positionIn k d urn juror

@@ -22,22 +22,22 @@ returns c =
     outcome-refused _ _ _ (admit-first (a .k) (a .d) (factsOf (a .k) (a .d) (a .urn .now) (a .juror)) (a .juror)
     (a .ballot .now) ∙ admit-1 _ _ _ _ _ (sym (c .before .is-graded .ensures) ∙ not-true _ (c .if1 .taken)))
 
-look-requires : tie.Need-look-requires
-look-requires c κs =
+check-requires : tie.Need-check-requires
+check-requires c κs =
     let a = c .before .before .before .before .args in
     (true-T _ (sym (c .before .is-graded .ensures) ∙ not-false _ (c .if1 .left)))
 
 decide-requires : tie.Need-decide-requires
 decide-requires c κs =
     let e = c .before in
-    record { graded = true-T _ (sym (e .before .is-graded .ensures) ∙ not-false _ (e .if1 .left)); few = c .look .ensures .few }
+    record { graded = true-T _ (sym (e .before .is-graded .ensures) ∙ not-false _ (e .if1 .left)); few = c .check .ensures .few }
 
 returns-2 : tie.Need-returns-2
 returns-2 c =
     let f = c .before in
     let a = f .before .before .before .before .before .args in
-    c .decide .ensures ∙ ap (λ (x : Facts). admitAnswer (a .k) (a .d) x (a .juror) (a .ballot .now)) (f .look .ensures .told)
+    c .decide .ensures ∙ ap (λ (x : Facts). admitAnswer (a .k) (a .d) x (a .juror) (a .ballot .now)) (f .check .ensures .told)
 
 pub preview-spec : {M : Type 1} → statement M
 preview-spec =
-    tie.close (tie.spec is-graded-requires returns look-requires decide-requires returns-2)
+    tie.close (tie.spec is-graded-requires returns check-requires decide-requires returns-2)

@@ -22,8 +22,8 @@ returns c =
     outcome-refused _ _ _ (withdraw-first (a .k) (a .d) (factsOf (a .k) (a .d) (a .urn .now) (a .juror)) (a .juror)
     ∙ withdraw-1 _ _ _ (sym (c .before .is-graded .ensures) ∙ not-true _ (c .if1 .taken)))
 
-look-requires : tie.Need-look-requires
-look-requires c κs =
+check-requires : tie.Need-check-requires
+check-requires c κs =
     let a = c .before .before .before .args in
     (true-T _ (sym (c .before .is-graded .ensures) ∙ not-false _ (c .if1 .left)))
 
@@ -36,8 +36,8 @@ returns-2 : tie.Need-returns-2
 returns-2 c =
     let f = c .before in
     let a = f .before .before .before .before .args in
-    c .decide .ensures ∙ ap (λ (x : Facts). withdrawAnswer (a .k) (a .d) x (a .juror)) (f .look .ensures .told)
+    c .decide .ensures ∙ ap (λ (x : Facts). withdrawAnswer (a .k) (a .d) x (a .juror)) (f .check .ensures .told)
 
 pub preview-spec : {M : Type 1} → statement M
 preview-spec =
-    tie.close (tie.spec is-graded-requires returns look-requires decide-requires returns-2)
+    tie.close (tie.spec is-graded-requires returns check-requires decide-requires returns-2)

@@ -41,7 +41,7 @@ answered : (D : tie.After-decide) →
     countedBy (D .decide .result) ≡ withdrawAnswer (a .k) (a .d) (factsOf (a .k) (a .d) (a .urn .now) (a .juror)) (a .juror)
 answered D =
     let a = D .before .before .before .before .before .before .args in
-    D .decide .ensures ∙ ap (λ (x : Facts). withdrawAnswer (a .k) (a .d) x (a .juror)) (D .before .look .ensures .told)
+    D .decide .ensures ∙ ap (λ (x : Facts). withdrawAnswer (a .k) (a .d) x (a .juror)) (D .before .check .ensures .told)
 
 -- no reason applies to an accepted call
 no-reason : (e : tie.After-enum-told) →
@@ -67,7 +67,7 @@ its-sound e =
     let a = start e .args in
     facts-sound (a .k) (a .d) (a .urn .now) (a .juror) (passed e .isSound)
 
--- the juror's ballot is in the urn, and the look found it
+-- the juror's ballot is in the urn, and the check found it
 inside : (e : tie.After-enum-told) →
     let a = start e .args in
     member (a .juror) (jurorsOf (ballotChain (urnSlots (a .k) (a .d) (a .urn .now)))) ≡ true
@@ -78,13 +78,13 @@ inside e =
 
 found : (e : tie.After-enum-told) →
     let a = start e .args in
-    e .before .before .before .look .result .position ≡ positionIn (a .k) (a .d) (a .urn .now) (a .juror)
+    e .before .before .before .check .result .position ≡ positionIn (a .k) (a .d) (a .urn .now) (a .juror)
 found e =
-    let l = e .before .before .before .look in
+    let l = e .before .before .before .check in
     l .ensures .placed (ap (λ (f : Facts). f .sound) (l .ensures .told) ∙ passed e .isSound)
 
 -- the slot that was found holds the juror's ballot
-whose : (e : tie.After-enum-told) (p s : ℕ) → e .before .before .before .look .result .position ≡ Found p s →
+whose : (e : tie.After-enum-told) (p s : ℕ) → e .before .before .before .check .result .position ≡ Found p s →
     let a = start e .args in
     slotAt (urnSlots (a .k) (a .d) (a .urn .now)) s .juror ≡ a .juror
 unfolding positionIn
@@ -104,8 +104,8 @@ returns c =
     ∙ withdraw-1 _ _ _ (sym (c .before .is-graded .ensures) ∙ not-true _ (c .if1 .taken)) in
     both-parts (outcome-refused _ _ _ e) (some-old _ _ _ _ e)
 
-look-requires : tie.Need-look-requires
-look-requires c κs =
+check-requires : tie.Need-check-requires
+check-requires c κs =
     let g = c .before in
     let a = g .before .before .before .args in
     (graded g)
@@ -179,7 +179,7 @@ withdraw-spec =
     (tie.spec
     is-graded-requires
     returns
-    look-requires
+    check-requires
     decide-requires
     enum-told
     enum-known-position

@@ -1,4 +1,4 @@
--- `urn::facts::look` meets its contract: the facts are the definition's for what the test and the search found.
+-- `urn::facts::check` meets its contract: the facts are the definition's for what the test and the search found.
 -- Assumes nothing.
 use mathlib.Core.Path.{_≡_, _∙_, sym, ap}
 use mathlib.Core.Bool.{true}
@@ -13,8 +13,8 @@ use Rattle.urn_chains.proofs.SlotTests.{few-bytes, soundness-sound, soundness-u
 use Rattle.urn.proofs.FactLaws.{link-found, link-absent, its-table, can-find, jurors-are, full-is, few-ballots, facts-are, no-facts, same-facts}
 use native.Mathlib.Omega.{arith}
 use borrow.Author.Needs.{needs}
-use Rattle.urn.proofs.facts.look.Statement.{statement}
-use Rattle.urn.proofs.facts.look.Tie as tie
+use Rattle.urn.proofs.facts.check.Statement.{statement}
+use Rattle.urn.proofs.facts.check.Tie as tie
 
 -- the test found the urn sound
 sound-told : (c : tie.After-known-told) →
@@ -121,8 +121,8 @@ returns-3 c =
       placed = λ h. sym (c .enum-told2 .given .1) ∙ f .find .ensures;
     }
 
-pub look-spec : {M : Type 1} → statement M
-look-spec =
+pub check-spec : {M : Type 1} → statement M
+check-spec =
     tie.close
     (tie.spec
     test-requires
