@@ -28,7 +28,7 @@ def random_gates(rng, inputs, count):
     """Well-formed gates of every kind over any earlier wires."""
     gates = []
     for own in range(inputs, inputs + count):
-        kind = rng.randrange(8)
+        kind = rng.randrange(len(doc.OPERANDS))
         used = doc.OPERANDS[kind]
         gates.append((kind,) + tuple(rng.randrange(own) if i < used else 0 for i in range(3)))
     return gates
@@ -132,8 +132,7 @@ def operands():
     for k, d, n in [(1, 2, 1), (2, 3, 3)]:
         inputs = n * k * d
         rest = [(1, 0, 0, 0)] * (k + 2)
-        for kind in range(8):
-            used = doc.OPERANDS[kind]
+        for kind, used in doc.OPERANDS.items():
             for slot in range(3):
                 for g in (0, 2):
                     own = inputs + g
@@ -162,8 +161,7 @@ def kinds():
 
 def each_kind():
     """Each kind on all values of its operands, under both masks. The operands are wires 0, 2 and 4."""
-    for kind, bits in itertools.product(range(8), itertools.product((0, 1), repeat=3)):
-        used = doc.OPERANDS[kind]
+    for (kind, used), bits in itertools.product(doc.OPERANDS.items(), itertools.product((0, 1), repeat=3)):
         gate = (kind,) + tuple(2 * i if i < used else 0 for i in range(3))
         for mask in (0, 1):
             tape = [mask] if doc.CONDITIONAL[kind] else []
