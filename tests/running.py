@@ -239,47 +239,37 @@ def empty_slices():
             yield good.but(**{x: y for x, y in nothing.items() if x != name})
 
 
-# A fault's reason, and what it does to a case of the shape 2, 3, 2 whose list has four gates, three of them
+def spoils(name, *ways):
+    """A function of cases for each way: it gives `name` the way as its value, or what the way makes of the old one."""
+    def spoil(way):
+        return lambda case: case.but(**{name: way(getattr(case, name)) if callable(way) else way})
+
+    return [spoil(way) for way in ways]
+
+
+# The faults of each reason, as what they do to a case of the shape 2, 3, 2 whose list has four gates, three of them
 # conditional. A later fault does not undo an earlier one, as far as possible.
-FAULTS = [
-    (10, lambda c: c.but(board=4)),
-    (10, lambda c: c.but(board=6)),
-    (10, lambda c: c.but(board=0)),
-    (9, lambda c: c.but(wires=15)),
-    (9, lambda c: c.but(wires=17)),
-    (9, lambda c: c.but(wires=0)),
-    (8, lambda c: c.but(tape=changed(c.tape, 0, 2))),
-    (8, lambda c: c.but(tape=changed(c.tape, 2, 255))),
-    (7, lambda c: c.but(tape=c.tape[:2])),
-    (7, lambda c: c.but(tape=(c.tape * 2)[:4])),
-    (7, lambda c: c.but(tape=[])),
-    (6, lambda c: c.but(ballots=[0, 0, 0] + c.ballots[3:])),
-    (6, lambda c: c.but(ballots=c.ballots[:9] + [1, 0, 1])),
-    (5, lambda c: c.but(ballots=changed(c.ballots, 1, 2))),
-    (5, lambda c: c.but(ballots=changed(c.ballots, 11, 255))),
-    (4, lambda c: c.but(ballots=c.ballots[:11])),
-    (4, lambda c: c.but(ballots=(c.ballots * 2)[:13])),
-    (4, lambda c: c.but(ballots=[])),
-    (3, lambda c: c.but(table=changed(c.table, 0, 8))),
-    (3, lambda c: c.but(table=changed(c.table, 13, 15))),
-    (3, lambda c: c.but(table=changed(c.table, 11, 1))),
-    (2, lambda c: c.but(table=c.table + [0])),
-    (2, lambda c: c.but(table=c.table[:4])),
-    (2, lambda c: c.but(table=[])),
-    (1, lambda c: c.but(k=0)),
-    (1, lambda c: c.but(k=9)),
-    (1, lambda c: c.but(d=1)),
-    (1, lambda c: c.but(d=8)),
-    (1, lambda c: c.but(n=0)),
-    (1, lambda c: c.but(n=256)),
-]
+FAULTS = {
+    10: spoils("board", 4, 6, 0),
+    9: spoils("wires", 15, 17, 0),
+    8: spoils("tape", lambda tape: changed(tape, 0, 2), lambda tape: changed(tape, 2, 255)),
+    7: spoils("tape", lambda tape: tape[:2], lambda tape: (tape * 2)[:4], []),
+    6: spoils("ballots", lambda voters: [0, 0, 0] + voters[3:], lambda voters: voters[:9] + [1, 0, 1]),
+    5: spoils("ballots", lambda voters: changed(voters, 1, 2), lambda voters: changed(voters, 11, 255)),
+    4: spoils("ballots", lambda voters: voters[:11], lambda voters: (voters * 2)[:13], []),
+    3: spoils("table", lambda table: changed(table, 0, 8), lambda table: changed(table, 13, 15),
+              lambda table: changed(table, 11, 1)),
+    2: spoils("table", lambda table: table + [0], lambda table: table[:4], []),
+    1: [*spoils("k", 0, 9), *spoils("d", 1, 8), *spoils("n", 0, 256)],
+}
 
 
 def pairs_of_faults():
     """Every fault by itself and every two at once: the answer is the first in checking order."""
     good = Case(2, 3, 2, [(5, 0, 3, 0), (4, 12, 1, 0), (2, 13, 0, 0), (7, 12, 13, 14)])
     assert good.expected()[0] == ["accepted", 4, 3]
-    for (first, spoil), (second, spoil_too) in itertools.combinations_with_replacement(FAULTS, 2):
+    faults = [(reason, spoil) for reason, ways in FAULTS.items() for spoil in ways]
+    for (first, spoil), (second, spoil_too) in itertools.combinations_with_replacement(faults, 2):
         case = spoil(good)
         if spoil_too is not spoil:
             case = spoil_too(case)
