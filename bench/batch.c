@@ -39,7 +39,7 @@ static void set_up(const size_t *shape) {
     wires = filled(8 * (j->inputs + j->gates), 0), board = filled(8 * (j->marks + j->k), 0);
     for (int i = 0; i < JURIES; i++) {
         if (i > 0)
-            juries[i] = juries[0], draw(&juries[i], SEED + (uint32_t)i);
+            juries[i] = juries[0], draw(&juries[i], SEED + (uint64_t)i);
         pack(words, juries[i].ballots, j->inputs, i);
         pack(tape, juries[i].tape, j->marks, i);
     }

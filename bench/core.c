@@ -461,7 +461,7 @@ static struct outcome test(size_t k, size_t d, size_t n, const uint32_t *table, 
     struct outcome s = {0, 0, gates, 0};
     for (size_t g = 0; g < gates; g++, own++) {
         const uint32_t *gate = table + 4 * g;
-        if (gate[0] > 7)
+        if (gate[0] >= KINDS)
             return refused(3, g);
         uint32_t count = kind_operands[gate[0]];
         if (!good_operand(count > 0, gate[1], own) || !good_operand(count > 1, gate[2], own)

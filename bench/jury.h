@@ -3,7 +3,7 @@
 #define JURY_H
 
 #include "../c/jugyvaros.h"
-#include "../tests/library_c/lent.h"
+#include "../tests/library_c/random_jury.h"
 #include <stdio.h>
 
 enum { SEED = 12345 };
@@ -19,26 +19,12 @@ static inline void fail_at(const struct jury *j, const char *why) {
     exit(1);
 }
 
-static inline uint32_t next(uint32_t *seed) { return *seed = *seed * 1664525 + 1013904223; }
-
-/* A juror's ranking, with ties. */
-static inline void rank(uint8_t *ballot, size_t k, uint32_t *seed) {
-    uint32_t ranks[8];
-    for (size_t i = 0; i < k; i++)
-        ranks[i] = (next(seed) >> 16) % k;
-    for (size_t i = 0; i < k * k; i++)
-        ballot[i] = ranks[i / k] < ranks[i % k];
-}
-
 /* New ballots, a new tape and a new board, for the same list and the same wire table. */
-static inline void draw(struct jury *j, uint32_t seed) {
-    j->ballots = filled(j->inputs, 0), j->tape = lent(j->marks), j->board = filled(j->marks + j->k, 0);
-    for (size_t row = 0; j->d && row < j->n * j->k; row++)
-        j->ballots[row * j->d + (next(&seed) >> 16) % j->d] = 1;
-    for (size_t ballot = 0; !j->d && ballot < j->n; ballot++)
-        rank(j->ballots + ballot * j->k * j->k, j->k, &seed);
-    for (size_t i = 0; i < j->marks; i++)
-        j->tape[i] = next(&seed) >> 31;
+static inline void draw(struct jury *j, uint64_t seed) {
+    j->ballots = lent(j->inputs), j->tape = lent(j->marks), j->board = filled(j->marks + j->k, 0);
+    start_random(seed);
+    random_ballots(j->ballots, j->k, j->d, j->n);
+    random_bits(j->tape, j->marks);
 }
 
 static inline struct jury jury_of(const size_t *shape) {

@@ -24,7 +24,7 @@ static inline size_t put(uint32_t n, uint8_t *at) {
 }
 
 __attribute__((noinline)) static int gate_is_good(size_t own, const uint32_t *gate) {
-    if (gate[0] > 7)
+    if (gate[0] >= KINDS)
         return 0;
     for (uint32_t i = 0; i < 3; i++)
         if (i < kind_operands[gate[0]] ? gate[1 + i] >= own : gate[1 + i] != 0)
@@ -72,7 +72,7 @@ static inline int number(const uint8_t *text, size_t length, size_t *at, uint32_
 
 static inline int line(const uint8_t *text, size_t length, size_t *at, uint32_t *gate) {
     gate[1] = gate[2] = gate[3] = 0;
-    if (!number(text, length, at, gate) || gate[0] > 7)
+    if (!number(text, length, at, gate) || gate[0] >= KINDS)
         return 0;
     for (uint32_t i = 0; i < kind_operands[gate[0]]; i++) {
         if (*at >= length || text[*at] != ' ')

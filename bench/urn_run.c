@@ -2,40 +2,13 @@
  *     urn_run    prints K D N GATES CORE_NS C_NS RATIO RUN_RATIO, a line for each, timed as timing.h says; RUN_RATIO
  *                compares jugy_run on the same ballots with the same C
  * First it compares the wire tables and boards of all. The urn has one free slot, and its chain goes through the slots
- * backwards. It includes all of core.c, for the tests and the gates. */
+ * backwards. It includes all of core.c, for the tests and the gates; the tests' reference looks through the urn. */
 #include "core.c"
+#include "../tests/library_c/urn_reference.h"
 #include "jury.h"
 #include "timing.h"
 
 static const size_t shapes[][3] = {{2, 3, 3}, {3, 4, 10}, {5, 5, 31}, {5, 6, 100}, {8, 7, 254}};
-
-/* The number of ballots in the urn, or 256 if it is not sound. */
-static size_t ballots_in(size_t k, size_t d, const uint8_t *urn, size_t length) {
-    size_t size = 2 + k * d, slots = length / size, met = 0, ballots = 0;
-    uint8_t marks[256] = {0}, jurors[256] = {0};
-    if (length % size || slots < 2 || slots > 256)
-        return 256;
-    for (size_t i = 2; i < size; i++)
-        if (urn[i])
-            return 256;
-    for (size_t slot = urn[0]; slot; slot = urn[slot * size], met++, ballots++) {
-        if (slot >= slots || marks[slot])
-            return 256;
-        uint8_t juror = urn[slot * size + 1];
-        if (!juror || jurors[juror] || test_ballots(k, d, 1, urn + slot * size + 2, k * d).reason)
-            return 256;
-        marks[slot] = jurors[juror] = 1;
-    }
-    for (size_t slot = urn[1]; slot; slot = urn[slot * size], met++) {
-        if (slot >= slots || marks[slot])
-            return 256;
-        for (size_t i = 1; i < size; i++)
-            if (urn[slot * size + i])
-                return 256;
-        marks[slot] = 1;
-    }
-    return met == slots - 1 ? ballots : 256;
-}
 
 static size_t core_run_urn(size_t k, size_t d, size_t n, const uint32_t *table, size_t table_length, const uint8_t *urn,
                            size_t urn_length, const uint8_t *tape, size_t tape_length, uint8_t *wires,
@@ -45,8 +18,8 @@ static size_t core_run_urn(size_t k, size_t d, size_t n, const uint32_t *table, 
         return 255;
     if (!within(k, d, n))
         return put(refused(1, 0), answer);
-    size_t ballots = ballots_in(k, d, urn, urn_length), inputs = n * k * d;
-    if (ballots == 256)
+    size_t ballots = urn_ballots(k, d, urn, urn_length), inputs = n * k * d;
+    if (ballots == UNSOUND_URN)
         return put(refused(13, 0), answer);
     struct outcome s = test(k, d, n, table, table_length);
     if (s.reason)

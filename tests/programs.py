@@ -40,6 +40,22 @@ class Comparisons:
             self.wrong += 1
             print(f"{what}: {text!r}, not {wanted!r}")
 
+    def inputs(self, program, inputs, expected, reasons):
+        """What a program prints for each input. The wanted answers must be "accepted" and exactly these refusals."""
+        seen = set()
+        for data in inputs:
+            wanted = expected(data)
+            self.compare(f"{len(data)} bytes, {data[:24].hex(' ')}", program.said(data), wanted)
+            seen.add(int(wanted.split()[1]) if wanted.startswith("refused") else "accepted")
+        self.compare("every answer that there is", seen, {"accepted", *reasons})
+
+    def in_pieces(self, program, data, expected, *ways):
+        """What a program prints for an input that comes in pieces: a way has the places at which it is cut."""
+        for way in ways:
+            ends = [0, *way, len(data)]
+            pieces = [data[start:end] for start, end in zip(ends, ends[1:])]
+            self.compare("in pieces", program.said_in_pieces(pieces), expected(data))
+
     def end(self, name):
         """Prints how many there were, and ends the test."""
         print(f"{name}: {self.count} comparisons, {self.wrong} wrong")

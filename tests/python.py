@@ -25,6 +25,7 @@ import tempfile
 
 import reference as doc
 from core import ROOT
+from levels import depths
 from random_juries import random_ballots
 from running import flat, random_gates
 
@@ -135,22 +136,13 @@ def lists(rng):
         assert list(bytes(board)) == wanted and tape == kept
         assert board.winners == tuple(i for i, bit in enumerate(board.closing) if bit)
         assert GateList.from_text(shape, made.to_text()) == made == GateList.from_text(shape, made.to_text().decode())
-        assert made.levels == depth(gates, shape.inputs)
+        assert made.levels == max(depths(shape.inputs, gates))
     for shape in SHAPES:
         own, ballots = GateList.own(shape), bytes(random_ballots(rng, *shape))
         assert hash(own) == hash(GateList.own(shape)) and str(len(own)) in repr(own).replace(",", "")
         boards = {bytes(own.run(ballots)) for _ in range(4)}
         assert own.run(ballots).winners == count(shape, ballots)
         assert len(boards) == 4 or own.conditional < 24          # fresh tapes differ, except with a chance of 2^-24
-
-
-def depth(gates, inputs):
-    """The number of conditional gates in the longest chain, from the depths of each gate's operands."""
-    found = {}
-    for place, (kind, *operands) in enumerate(gates):
-        below = [found.get(wire, 0) for wire in operands[:doc.OPERANDS[kind]]]
-        found[inputs + place] = max(below, default=0) + doc.CONDITIONAL[kind]
-    return max(found.values())
 
 
 def bad_lists():

@@ -39,7 +39,7 @@ def gates_of(table):
 def is_bad(gate, own):
     """Reason 3, for a gate that makes wire `own`."""
     kind, operands = gate[0], gate[1:]
-    if kind > 7:
+    if kind not in OPERANDS:
         return True
     used = OPERANDS[kind]
     return any(x >= own for x in operands[:used]) or any(x != 0 for x in operands[used:])

@@ -167,17 +167,10 @@ def main():
     rng = random.Random(8)
     compared = Comparisons()
     compare = compared.compare
-    seen = set()
-    for data in inputs(rng):
-        wanted = expected(data)
-        compare(data[:24].hex(" "), PROGRAM.said(data), wanted)
-        seen.add(wanted.split()[1] if wanted.startswith("refused") else "accepted")
-    compare("every answer that there is", seen, {"accepted", *"1 2 4 5 6 11 12".split()})
+    compared.inputs(PROGRAM, inputs(rng), expected, {1, 2, 4, 5, 6, 11, 12})
     for data in [jury(rng, 2, 3, 3), jury(rng, 3, 5, 15), jury(rng, 8, 7, 3), jury(rng, 4, 0, 6)]:
-        cut = rng.randrange(len(data))
-        for pieces in [[data[:cut], data[cut:]], [data[:1], data[1:2], data[2:4], data[4:]],
-                       [data[i : i + 1] for i in range(min(40, len(data)))] + [data[40:]]]:
-            compare("in pieces", PROGRAM.said_in_pieces(pieces), expected(data))
+        each_byte = range(1, min(40, len(data)) + 1)
+        compared.in_pieces(PROGRAM, data, expected, [rng.randrange(len(data))], [1, 2, 4], each_byte)
     for name, wanted in EXAMPLES.items():
         data = subprocess.run([ROOT / "tools" / "jury", ROOT / "examples" / f"{name}.txt"], stdout=subprocess.PIPE,
                               check=True).stdout

@@ -28,7 +28,7 @@ def random_gates(rng, inputs, count):
     """Well-formed gates of every kind over any earlier wires."""
     gates = []
     for own in range(inputs, inputs + count):
-        kind = rng.randrange(8)
+        kind = rng.randrange(len(doc.OPERANDS))
         used = doc.OPERANDS[kind]
         gates.append((kind,) + tuple(rng.randrange(own) if i < used else 0 for i in range(3)))
     return gates
@@ -132,8 +132,7 @@ def operands():
     for k, d, n in [(1, 2, 1), (2, 3, 3)]:
         inputs = n * k * d
         rest = [(1, 0, 0, 0)] * (k + 2)
-        for kind in range(8):
-            used = doc.OPERANDS[kind]
+        for kind, used in doc.OPERANDS.items():
             for slot in range(3):
                 for g in (0, 2):
                     own = inputs + g
@@ -162,8 +161,7 @@ def kinds():
 
 def each_kind():
     """Each kind on all values of its operands, under both masks. The operands are wires 0, 2 and 4."""
-    for kind, bits in itertools.product(range(8), itertools.product((0, 1), repeat=3)):
-        used = doc.OPERANDS[kind]
+    for (kind, used), bits in itertools.product(doc.OPERANDS.items(), itertools.product((0, 1), repeat=3)):
         gate = (kind,) + tuple(2 * i if i < used else 0 for i in range(3))
         for mask in (0, 1):
             tape = [mask] if doc.CONDITIONAL[kind] else []
@@ -241,47 +239,37 @@ def empty_slices():
             yield good.but(**{x: y for x, y in nothing.items() if x != name})
 
 
-# A fault's reason, and what it does to a case of the shape 2, 3, 2 whose list has four gates, three of them
+def spoils(name, *ways):
+    """A function of cases for each way: it gives `name` the way as its value, or what the way makes of the old one."""
+    def spoil(way):
+        return lambda case: case.but(**{name: way(getattr(case, name)) if callable(way) else way})
+
+    return [spoil(way) for way in ways]
+
+
+# The faults of each reason, as what they do to a case of the shape 2, 3, 2 whose list has four gates, three of them
 # conditional. A later fault does not undo an earlier one, as far as possible.
-FAULTS = [
-    (10, lambda c: c.but(board=4)),
-    (10, lambda c: c.but(board=6)),
-    (10, lambda c: c.but(board=0)),
-    (9, lambda c: c.but(wires=15)),
-    (9, lambda c: c.but(wires=17)),
-    (9, lambda c: c.but(wires=0)),
-    (8, lambda c: c.but(tape=changed(c.tape, 0, 2))),
-    (8, lambda c: c.but(tape=changed(c.tape, 2, 255))),
-    (7, lambda c: c.but(tape=c.tape[:2])),
-    (7, lambda c: c.but(tape=(c.tape * 2)[:4])),
-    (7, lambda c: c.but(tape=[])),
-    (6, lambda c: c.but(ballots=[0, 0, 0] + c.ballots[3:])),
-    (6, lambda c: c.but(ballots=c.ballots[:9] + [1, 0, 1])),
-    (5, lambda c: c.but(ballots=changed(c.ballots, 1, 2))),
-    (5, lambda c: c.but(ballots=changed(c.ballots, 11, 255))),
-    (4, lambda c: c.but(ballots=c.ballots[:11])),
-    (4, lambda c: c.but(ballots=(c.ballots * 2)[:13])),
-    (4, lambda c: c.but(ballots=[])),
-    (3, lambda c: c.but(table=changed(c.table, 0, 8))),
-    (3, lambda c: c.but(table=changed(c.table, 13, 15))),
-    (3, lambda c: c.but(table=changed(c.table, 11, 1))),
-    (2, lambda c: c.but(table=c.table + [0])),
-    (2, lambda c: c.but(table=c.table[:4])),
-    (2, lambda c: c.but(table=[])),
-    (1, lambda c: c.but(k=0)),
-    (1, lambda c: c.but(k=9)),
-    (1, lambda c: c.but(d=1)),
-    (1, lambda c: c.but(d=8)),
-    (1, lambda c: c.but(n=0)),
-    (1, lambda c: c.but(n=256)),
-]
+FAULTS = {
+    10: spoils("board", 4, 6, 0),
+    9: spoils("wires", 15, 17, 0),
+    8: spoils("tape", lambda tape: changed(tape, 0, 2), lambda tape: changed(tape, 2, 255)),
+    7: spoils("tape", lambda tape: tape[:2], lambda tape: (tape * 2)[:4], []),
+    6: spoils("ballots", lambda voters: [0, 0, 0] + voters[3:], lambda voters: voters[:9] + [1, 0, 1]),
+    5: spoils("ballots", lambda voters: changed(voters, 1, 2), lambda voters: changed(voters, 11, 255)),
+    4: spoils("ballots", lambda voters: voters[:11], lambda voters: (voters * 2)[:13], []),
+    3: spoils("table", lambda table: changed(table, 0, 8), lambda table: changed(table, 13, 15),
+              lambda table: changed(table, 11, 1)),
+    2: spoils("table", lambda table: table + [0], lambda table: table[:4], []),
+    1: [*spoils("k", 0, 9), *spoils("d", 1, 8), *spoils("n", 0, 256)],
+}
 
 
 def pairs_of_faults():
     """Every fault by itself and every two at once: the answer is the first in checking order."""
     good = Case(2, 3, 2, [(5, 0, 3, 0), (4, 12, 1, 0), (2, 13, 0, 0), (7, 12, 13, 14)])
     assert good.expected()[0] == ["accepted", 4, 3]
-    for (first, spoil), (second, spoil_too) in itertools.combinations_with_replacement(FAULTS, 2):
+    faults = [(reason, spoil) for reason, ways in FAULTS.items() for spoil in ways]
+    for (first, spoil), (second, spoil_too) in itertools.combinations_with_replacement(faults, 2):
         case = spoil(good)
         if spoil_too is not spoil:
             case = spoil_too(case)

@@ -143,17 +143,9 @@ def main():
     rng = random.Random(29)
     compared = Comparisons()
     compare = compared.compare
-    seen = set()
-    for data in inputs(rng):
-        wanted = expected(data)
-        compare(f"{len(data)} bytes, {data[:24].hex(' ')}", PROGRAM.said(data), wanted)
-        seen.add(" ".join(wanted.split()[:2]) if wanted.startswith("refused") else "accepted")
-    compare("every answer that there is", seen, {"accepted", "refused 21", "refused 22"})
+    compared.inputs(PROGRAM, inputs(rng), expected, {21, 22})
     for data in [random_sheet(rng, 3), random_sheet(rng, 4096), random_sheet(rng, 4097)]:
-        cut = rng.randrange(len(data))
-        for pieces in [[data[:cut], data[cut:]], [data[:1], data[1:13], data[13:]],
-                       [data[i : i + 1] for i in range(36)] + [data[36:]]]:
-            compare("in pieces", PROGRAM.said_in_pieces(pieces), expected(data))
+        compared.in_pieces(PROGRAM, data, expected, [rng.randrange(len(data))], [1, 13], range(1, 37))
     compare("the largest totals", expected(run_bytes(8, 7, 255, 255, LARGEST, LARGEST) * 4096),
             "runs 4096\ngates 17592186040320\nconditional 17592186040320\nballots 1044480\nshared 4096\n")
     tools_agree(compare)

@@ -33,7 +33,7 @@ def gate_of(line):
     if not re.fullmatch(rf"{NUMBER}(?: {NUMBER})*\n", line):
         return None
     kind, *operands = map(int, line.split())
-    if kind > 7 or len(operands) != doc.OPERANDS[kind] or any(x > LARGEST for x in operands):
+    if kind not in doc.OPERANDS or len(operands) != doc.OPERANDS[kind] or any(x > LARGEST for x in operands):
         return None
     return (kind, *operands, *[0] * (3 - len(operands)))
 

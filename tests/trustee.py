@@ -14,7 +14,7 @@ import reference as doc
 from core import OLD, Core, bytes_of, numbers, output
 from levels import depths
 from running import flat, random_gates
-from trustees import CONDITIONAL, Trustee, dealings, parity, protocol
+from trustees import Trustee, dealings, parity, protocol
 
 # the lengths of answer arrays
 ANSWERS = {"start": 4, "round": 5, "finish": 4}
@@ -67,7 +67,7 @@ def one_round(call):
     gates, inputs, k = doc.gates_of(call["table"]), doc.ballot_bytes(*call["shape"]), call["shape"][0]
     own, trustee = depths(inputs, gates), Trustee(call["p"], [], call["triples"])
     wires, published = list(call["wires"]), list(call["published"])
-    place = {g: i for i, g in enumerate(g for g, gate in enumerate(gates) if gate[0] in CONDITIONAL)}
+    place = {g: i for i, g in enumerate(g for g, gate in enumerate(gates) if doc.CONDITIONAL[gate[0]])}
     for g, gate in enumerate(gates):
         if own[g] == call["r"]:
             trustee.held = wires

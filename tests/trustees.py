@@ -14,11 +14,10 @@ import random
 import reference as doc
 from core import Core, bytes_of, numbers, output
 from random_juries import random_ballots
-from running import flat, random_gates
+from running import changed, flat, random_gates
 
 ANSWER = 12
 ONE, AND, OR, XOR, CHOICE = 1, 4, 5, 6, 7
-CONDITIONAL = (AND, OR, CHOICE)
 
 
 class Trustee:
@@ -75,7 +74,7 @@ def protocol(gates, inputs, k, t, shares, triples):
                         triples[3 * count * p : 3 * count * (p + 1)]) for p in range(t)]
     i = 0
     for gate in gates:
-        if gate[0] in CONDITIONAL:
+        if doc.CONDITIONAL[gate[0]]:
             shown = [trustee.publish(gate, i) for trustee in trustees]
             e, f = parity(x for x, _ in shown), parity(y for _, y in shown)
             for trustee in trustees:
@@ -231,12 +230,6 @@ def valid_call(rng, core, shape, t, gates=None):
     ballots = random_ballots(rng, k, d, n)
     shares, triples = dealings(rng, ballots, doc.conditional_count(gates), t)
     return Call(shape, gates, ballots, t, shares, triples, old=rng.randrange(256))
-
-
-def changed(items, place, value):
-    items = list(items)
-    items[place] = value
-    return items
 
 
 def bad_ballots(call):

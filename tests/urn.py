@@ -7,7 +7,9 @@ import itertools
 import random
 import sys
 
+import reference
 from core import Core, bytes_of, output
+from random_juries import random_ballots
 
 CORE = Core()
 PREVIEWS = ("jugy_preview_admit", "jugy_preview_withdraw")
@@ -30,15 +32,7 @@ def call(name, k, d, urn, juror=None, ballot=None):
 
 
 def ballot_fault(k, d, ballot):
-    if len(ballot) != k * d:
-        return (4, 0)
-    for i, x in enumerate(ballot):
-        if x > 1:
-            return (5, i)
-    for row in range(k):
-        if sum(ballot[row * d : row * d + d]) != 1:
-            return (6, row)
-    return None
+    return reference.ballots_fault(k, d, 1, ballot)
 
 
 def take_apart(k, d, urn):
@@ -118,7 +112,7 @@ def compare(k, d, urn, juror, ballot):
 
 
 def good_ballot(k, d):
-    return b"".join(bytes(int(g == grade) for g in range(d)) for grade in (random.randrange(d) for _ in range(k)))
+    return bytes(random_ballots(random, k, d, 1))
 
 
 def empty(k, d, slots):

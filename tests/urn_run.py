@@ -10,6 +10,7 @@ import reference
 from core import Core, bytes_of, numbers, output
 from random_juries import random_ballots
 from running import flat, random_gates
+from urn import put_together, take_apart
 
 OLD = 9                                                      # what buffers hold before a call
 CORE = Core()
@@ -20,36 +21,10 @@ def run_urn(*call):
     return CORE.run(*call, name="jugy_run_urn")
 
 
-# The model. An urn is a list of slots; if it is sound, the slots of both chains, sorted, are 1, 2, and so on.
-
-
-def chain_from(slots, first):
-    """The slots of a chain, or None if it does not end."""
-    chain = []
-    while first and len(chain) < len(slots):
-        if first >= len(slots):
-            return None
-        chain.append(first)
-        first = slots[first][0]
-    return None if first else chain
-
-
 def ballots_in(k, d, urn):
     """The ballots in chain order, or None if the urn is not sound."""
-    size = 2 + k * d
-    if len(urn) % size or not 2 <= len(urn) // size <= 256:
-        return None
-    slots = [urn[at:at + size] for at in range(0, len(urn), size)]
-    held, free = chain_from(slots, slots[0][0]), chain_from(slots, slots[0][1])
-    if held is None or free is None or sorted(held + free) != list(range(1, len(slots))):
-        return None
-    if any(slots[0][2:]) or any(any(slots[i][1:]) for i in free):
-        return None
-    jurors = {slots[i][1] for i in held}
-    if 0 in jurors or len(jurors) != len(held):
-        return None
-    ballots = [slots[i][2:] for i in held]
-    return None if any(reference.ballots_fault(k, d, 1, ballot) for ballot in ballots) else ballots
+    chains = take_apart(k, d, urn)
+    return None if chains is None else [list(ballot) for _, _, ballot in chains[0]]
 
 
 def model(shape, table, urn, tape, wires, board):
@@ -80,16 +55,9 @@ def ballot(k, d):
 
 def urn_of(k, d, slots, ballots):
     """A sound urn whose chains go through the slots in a random order."""
-    size, order = 2 + k * d, random.sample(range(1, slots), slots - 1)
+    order = random.sample(range(1, slots), slots - 1)
     jurors = random.sample(range(1, 256), len(ballots))
-    held, free = order[:len(ballots)], order[len(ballots):]
-    urn = [0] * (slots * size)
-    urn[0], urn[1] = (held + [0])[0], (free + [0])[0]
-    for i, slot in enumerate(held):
-        urn[slot * size:slot * size + size] = [(held[i + 1:] + [0])[0], jurors[i]] + ballots[i]
-    for i, slot in enumerate(free):
-        urn[slot * size] = (free[i + 1:] + [0])[0]
-    return urn
+    return list(put_together(k, d, slots, list(zip(order, jurors, map(bytes, ballots))), order[len(ballots):]))
 
 
 def random_list(inputs, gates):

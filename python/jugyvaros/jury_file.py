@@ -1,11 +1,11 @@
-"""Juries written as text, one ballot a line.
+"""Juries written as text, one ballot a line. `tools/jury --help` prints what follows; there the candidates are blends.
 
 A graded jury begins with the line `grades D`, where D is the number of grades, or `grades D: NAME NAME ..` with the
-names of the candidates. Each further line is a ballot: a grade for each candidate, from 1 (best) to D (worst), with
-spaces between.
+names of the blends. Each further line is a ballot: a grade for each blend, from 1 (best) to D (worst), with spaces
+between.
 
-A ranked jury begins with the line `ranking NAME NAME ..`. Each further line is a ballot, best candidate first:
-`a > b = c` puts a before b and c, which are tied. Candidates that are not named come last, tied with each other.
+A ranked jury begins with the line `ranking NAME NAME ..`. Each further line is a ballot, best blend first: `a > b = c`
+puts a before b and c, which are tied. Blends that are not named come last, tied with each other.
 
 Empty lines, and anything after a `#`, are ignored.
 """

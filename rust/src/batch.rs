@@ -3,7 +3,7 @@
 //! [`pack`] and [`unpack`] convert between the bytes of 64 juries and such numbers. All 64 juries are tested and run:
 //! if you have fewer, fill up with copies.
 
-use crate::calls::{c, run_by};
+use crate::calls::c;
 use crate::{count, winners, Board, GateList, JuryRefusal, Reason, Refusal, Secret, Shape, Size};
 use std::io;
 
@@ -53,7 +53,8 @@ pub fn run(
     wires: &mut [u64],
     board: &mut [u64],
 ) -> Result<Size, JuryRefusal> {
-    run_by(c::jugy_run_batch, shape, table, ballots, tape, wires, board)
+    c::jugy_run_batch(shape, table, ballots, tape, wires, board)
+        .map(Size::of)
         .map_err(|refusal| located(shape, ballots, refusal))
 }
 

@@ -1,68 +1,109 @@
-//! The five entry points on the caller's slices. Rust's borrow rules guarantee all that `c/jugyvaros.h` asks of a
-//! caller.
+//! The entry points of `c/jugyvaros.h` on the caller's slices. Rust's borrow rules guarantee all that the header asks
+//! of a caller.
 
-use crate::{Reason, Refusal};
+use crate::Refusal;
 
 pub(crate) mod c {
-    /// Declares the entry points that run a list. They differ only in name and in the element type of ballots, tape,
-    /// wires and board.
-    macro_rules! runs {
-        ($($name:ident($item:ty);)*) => {
-            extern "C" {
-                $(pub fn $name(
-                    k: usize,
-                    d: usize,
-                    n: usize,
-                    table: *const u32,
-                    table_length: usize,
-                    ballots: *const $item,
-                    ballots_length: usize,
-                    tape: *const $item,
-                    tape_length: usize,
-                    wires: *mut $item,
-                    wires_length: usize,
-                    board: *mut $item,
-                    board_length: usize,
-                    answer: *mut usize,
-                    answer_length: usize,
-                ) -> usize;)*
+    use super::Shape;
+    use crate::{Reason, Refusal};
+
+    /// Declares entry points, and a function for each that calls it and returns the answer array of an accepted call.
+    /// `Shape` stands for three numbers, and a slice for a pointer and a length. The number after the arrow is the
+    /// length of the answer array, which comes last.
+    macro_rules! entry_points {
+        ($($name:ident($($parameters:tt)*) -> $answers:tt;)*) => {
+            $(entry_points! { @ [$name $answers] {} {} {} $($parameters)*, })*
+        };
+        // each parameter adds to three lists: the function's parameters, those of C, and what is passed for them
+        (@ $to:tt $own:tt $c:tt $passed:tt $x:ident: Shape, $($rest:tt)*) => {
+            entry_points! {
+                @ $to $own $c $passed
+                + { $x: Shape, } { _: usize, _: usize, _: usize, } { $x.candidates, $x.grades, $x.ballots, }
+                $($rest)*
+            }
+        };
+        (@ $to:tt $own:tt $c:tt $passed:tt $x:ident: usize, $($rest:tt)*) => {
+            entry_points! { @ $to $own $c $passed + { $x: usize, } { _: usize, } { $x, } $($rest)* }
+        };
+        (@ $to:tt $own:tt $c:tt $passed:tt $x:ident: &[$item:ty], $($rest:tt)*) => {
+            entry_points! {
+                @ $to $own $c $passed
+                + { $x: &[$item], } { _: *const $item, _: usize, } { $x.as_ptr(), $x.len(), }
+                $($rest)*
+            }
+        };
+        (@ $to:tt $own:tt $c:tt $passed:tt $x:ident: &mut [$item:ty], $($rest:tt)*) => {
+            entry_points! {
+                @ $to $own $c $passed
+                + { $x: &mut [$item], } { _: *mut $item, _: usize, } { $x.as_mut_ptr(), $x.len(), }
+                $($rest)*
+            }
+        };
+        (
+            @ $to:tt { $($own:tt)* } { $($c:tt)* } { $($passed:tt)* }
+            + { $($own_too:tt)* } { $($c_too:tt)* } { $($passed_too:tt)* }
+            $($rest:tt)*
+        ) => {
+            entry_points! {
+                @ $to { $($own)* $($own_too)* } { $($c)* $($c_too)* } { $($passed)* $($passed_too)* } $($rest)*
+            }
+        };
+        (@ [$name:ident $answers:tt] { $($own:tt)* } { $($c:tt)* } { $($passed:tt)* }) => {
+            #[allow(clippy::too_many_arguments)]
+            pub fn $name($($own)*) -> Result<[usize; $answers], Refusal> {
+                extern "C" {
+                    fn $name($($c)* _: *mut usize, _: usize) -> usize;
+                }
+                let mut answer = [0; $answers];
+                // SAFETY: a slice's pointer is aligned, not null and valid for its length; whatever is written is
+                // borrowed mutably, so it overlaps nothing else that is lent.
+                match unsafe { $name($($passed)* answer.as_mut_ptr(), answer.len()) } {
+                    0 => Ok(answer),
+                    status => {
+                        // the array is long enough, so the status is one of the reasons
+                        let reason = Reason::of(status).expect("a reason of the list");
+                        Err(Refusal { reason, place: answer[1] })
+                    }
+                }
             }
         };
     }
-    runs! {
-        jugy_run(u8);
-        jugy_run_urn(u8);
-        jugy_run_batch(u64);
-    }
-    extern "C" {
-        pub fn jugy_measure(k: usize, d: usize, n: usize, answer: *mut usize, answer_length: usize) -> usize;
-        pub fn jugy_write(
-            k: usize,
-            d: usize,
-            n: usize,
-            table: *mut u32,
-            table_length: usize,
-            answer: *mut usize,
-            answer_length: usize,
-        ) -> usize;
-        pub fn jugy_test(
-            k: usize,
-            d: usize,
-            n: usize,
-            table: *const u32,
-            table_length: usize,
-            answer: *mut usize,
-            answer_length: usize,
-        ) -> usize;
-        pub fn jugy_count(
-            k: usize,
-            d: usize,
-            n: usize,
-            ballots: *const u8,
-            ballots_length: usize,
-            answer: *mut usize,
-            answer_length: usize,
-        ) -> usize;
+
+    entry_points! {
+        jugy_measure(shape: Shape) -> 5;
+        jugy_write(shape: Shape, table: &mut [u32]) -> 4;
+        jugy_test(shape: Shape, table: &[u32]) -> 4;
+        jugy_run(shape: Shape, table: &[u32], ballots: &[u8], tape: &[u8], wires: &mut [u8], board: &mut [u8]) -> 4;
+        jugy_run_urn(shape: Shape, table: &[u32], urn: &[u8], tape: &[u8], wires: &mut [u8], board: &mut [u8]) -> 4;
+        jugy_run_batch(
+            shape: Shape, table: &[u32], ballots: &[u64], tape: &[u64], wires: &mut [u64], board: &mut [u64]
+        ) -> 4;
+        jugy_count(shape: Shape, ballots: &[u8]) -> 10;
+        jugy_write_text(shape: Shape, table: &[u32], output: &mut [u8]) -> 3;
+        jugy_read_text(shape: Shape, text: &[u8], output: &mut [u32]) -> 3;
+        jugy_empty_urn(k: usize, d: usize, urn: &mut [u8]) -> 3;
+        jugy_admit(k: usize, d: usize, urn: &mut [u8], juror: usize, ballot: &[u8]) -> 3;
+        jugy_withdraw(k: usize, d: usize, urn: &mut [u8], juror: usize) -> 3;
+        jugy_preview_admit(k: usize, d: usize, urn: &[u8], juror: usize, ballot: &[u8]) -> 3;
+        jugy_preview_withdraw(k: usize, d: usize, urn: &[u8], juror: usize) -> 3;
+        jugy_trustees(
+            shape: Shape, table: &[u32], ballots: &[u8], trustees: usize, ballot_shares: &[u8], triples: &[u8],
+            wires: &mut [u8], published: &mut [u8]
+        ) -> 12;
+        jugy_dispatch(
+            juries: usize, gates_per_round: usize, headers: &[usize], lists: &[u32], ballots: &[u8], tapes: &[u8],
+            wires: &mut [u8], boards: &mut [u8]
+        ) -> 10;
+        jugy_levels(shape: Shape, table: &[u32], levels: &mut [u32]) -> 5;
+        jugy_trustee_start(
+            shape: Shape, table: &[u32], trustees: usize, trustee: usize, ballot_shares: &[u8], triples: &[u8],
+            wires: &mut [u8], published: &mut [u8]
+        ) -> 4;
+        jugy_trustee_round(
+            shape: Shape, table: &[u32], trustees: usize, trustee: usize, round: usize, levels: &[u32],
+            triples: &[u8], heard: &[u8], wires: &mut [u8], published: &mut [u8]
+        ) -> 5;
+        jugy_trustee_finish(shape: Shape, table: &[u32], wires: &mut [u8]) -> 4;
     }
 }
 
@@ -93,11 +134,6 @@ impl Shape {
         self.grades == 0
     }
 
-    /// k, d and n.
-    pub(crate) fn numbers(self) -> [usize; 3] {
-        [self.candidates, self.grades, self.ballots]
-    }
-
     /// I, the ballot bytes of a jury. The shape must be within its limits, so that the product cannot overflow.
     pub(crate) fn inputs(self) -> usize {
         let columns = if self.is_ranked() { self.candidates } else { self.grades };
@@ -120,6 +156,13 @@ pub struct Size {
     pub conditional: usize,
 }
 
+impl Size {
+    /// From an answer array.
+    pub(crate) fn of([_, _, gates, conditional]: [usize; 4]) -> Size {
+        Size { gates, conditional }
+    }
+}
+
 /// G, C and I of a shape's own list.
 #[derive(Clone, Copy, Debug, PartialEq, Eq)]
 pub struct Measures {
@@ -131,97 +174,19 @@ pub struct Measures {
     pub inputs: usize,
 }
 
-/// Calls an entry point with an answer array of the length that it needs, and returns that array if the call is
-/// accepted.
-pub(crate) fn answered<const N: usize>(call: impl FnOnce(*mut usize, usize) -> usize) -> Result<[usize; N], Refusal> {
-    let mut answer = [0; N];
-    match call(answer.as_mut_ptr(), N) {
-        0 => Ok(answer),
-        status => Err(Refusal {
-            // the array is long enough, so the status is one of the reasons
-            reason: Reason::of(status).expect("a reason of the list"),
-            place: answer[1],
-        }),
-    }
-}
-
-/// The same, for an entry point that answers G and C.
-pub(crate) fn sized(call: impl FnOnce(*mut usize, usize) -> usize) -> Result<Size, Refusal> {
-    answered(call).map(|[_, _, gates, conditional]| Size { gates, conditional })
-}
-
 /// Measures a shape's own list.
 pub fn measure(shape: Shape) -> Result<Measures, Refusal> {
-    let [k, d, n] = shape.numbers();
-    // SAFETY: the answer array is a live local of `answered`, borrowed only by this call.
-    answered(|answer, length| unsafe { c::jugy_measure(k, d, n, answer, length) })
-        .map(|[_, _, gates, conditional, inputs]| Measures { gates, conditional, inputs })
+    c::jugy_measure(shape).map(|[_, _, gates, conditional, inputs]| Measures { gates, conditional, inputs })
 }
 
 /// Writes a shape's own list at the start of the table, four numbers a gate.
 pub fn write(shape: Shape, table: &mut [u32]) -> Result<Size, Refusal> {
-    let [k, d, n] = shape.numbers();
-    // SAFETY: a slice's pointer is aligned, not null and valid for its length; `&mut` overlaps nothing else.
-    sized(|answer, length| unsafe { c::jugy_write(k, d, n, table.as_mut_ptr(), table.len(), answer, length) })
+    c::jugy_write(shape, table).map(Size::of)
 }
 
 /// Tests a list for a shape, whoever wrote it.
 pub fn test(shape: Shape, table: &[u32]) -> Result<Size, Refusal> {
-    let [k, d, n] = shape.numbers();
-    // SAFETY: as in `write`; the table is only read.
-    sized(|answer, length| unsafe { c::jugy_test(k, d, n, table.as_ptr(), table.len(), answer, length) })
-}
-
-/// An entry point that runs a list.
-pub(crate) type Run<T> = unsafe extern "C" fn(
-    usize,
-    usize,
-    usize,
-    *const u32,
-    usize,
-    *const T,
-    usize,
-    *const T,
-    usize,
-    *mut T,
-    usize,
-    *mut T,
-    usize,
-    *mut usize,
-    usize,
-) -> usize;
-
-/// Runs a list by one of these entry points.
-pub(crate) fn run_by<T>(
-    call: Run<T>,
-    shape: Shape,
-    table: &[u32],
-    ballots: &[T],
-    tape: &[T],
-    wires: &mut [T],
-    board: &mut [T],
-) -> Result<Size, Refusal> {
-    let [k, d, n] = shape.numbers();
-    // SAFETY: as in `write`; wires and board are borrowed mutably, so they overlap nothing else that is lent.
-    sized(|answer, length| unsafe {
-        call(
-            k,
-            d,
-            n,
-            table.as_ptr(),
-            table.len(),
-            ballots.as_ptr(),
-            ballots.len(),
-            tape.as_ptr(),
-            tape.len(),
-            wires.as_mut_ptr(),
-            wires.len(),
-            board.as_mut_ptr(),
-            board.len(),
-            answer,
-            length,
-        )
-    })
+    c::jugy_test(shape, table).map(Size::of)
 }
 
 /// Runs a list on the ballots, with one tape byte for each conditional gate. The tape has to be random, secret, and
@@ -235,14 +200,11 @@ pub fn run(
     wires: &mut [u8],
     board: &mut [u8],
 ) -> Result<Size, Refusal> {
-    run_by(c::jugy_run, shape, table, ballots, tape, wires, board)
+    c::jugy_run(shape, table, ballots, tape, wires, board).map(Size::of)
 }
 
 /// Counts plainly, without a list: a closing byte for each candidate, then zeros up to eight.
 pub fn count(shape: Shape, ballots: &[u8]) -> Result<[u8; 8], Refusal> {
-    let [k, d, n] = shape.numbers();
-    // SAFETY: as in `write`; the ballots are only read.
-    let [_, _, closing @ ..]: [usize; 10] =
-        answered(|answer, length| unsafe { c::jugy_count(k, d, n, ballots.as_ptr(), ballots.len(), answer, length) })?;
+    let [_, _, closing @ ..] = c::jugy_count(shape, ballots)?;
     Ok(closing.map(|byte| byte as u8))
 }

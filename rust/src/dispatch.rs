@@ -1,30 +1,7 @@
 //! Up to eight juries in rounds. This module makes the call's tables from a list of juries; `c/jugyvaros.h` draws them.
 
-use crate::calls::answered;
+use crate::calls::c;
 use crate::{run, Board, GateList, JuryRefusal, Reason, Refusal, Secret, Shape};
-
-mod c {
-    extern "C" {
-        pub fn jugy_dispatch(
-            juries: usize,
-            gates_per_round: usize,
-            headers: *const usize,
-            headers_length: usize,
-            lists: *const u32,
-            lists_length: usize,
-            ballots: *const u8,
-            ballots_length: usize,
-            tapes: *const u8,
-            tapes_length: usize,
-            wires: *mut u8,
-            wires_length: usize,
-            boards: *mut u8,
-            boards_length: usize,
-            answer: *mut usize,
-            answer_length: usize,
-        ) -> usize;
-    }
-}
 
 /// One jury of a call: its shape, its list of gates, its ballots and a fresh, secret tape.
 #[derive(Clone, Copy)]
@@ -82,10 +59,8 @@ impl Tables {
     fn of(juries: &[Jury]) -> Tables {
         let wires = juries.iter().map(|jury| jury.ballots.len() + jury.table.len() / 4).sum();
         let boards = juries.iter().map(|jury| jury.tape.len() + jury.shape.candidates).sum();
-        let header = |jury: &Jury| {
-            let [k, d, n] = jury.shape.numbers();
-            [k, d, n, jury.table.len() / 4]
-        };
+        let header =
+            |Jury { shape, table, .. }: &Jury| [shape.candidates, shape.grades, shape.ballots, table.len() / 4];
         Tables {
             headers: juries.iter().flat_map(header).collect(),
             lists: juries.iter().flat_map(|jury| jury.table).copied().collect(),
@@ -98,28 +73,9 @@ impl Tables {
 
     /// Calls the core, and returns each jury's number of rounds. The place of a refusal is the jury.
     fn run(&mut self, juries: usize, gates_per_round: usize) -> Result<[usize; 8], Refusal> {
-        // SAFETY: every pointer comes from a vector and is passed with its length; whatever is written is borrowed
-        // mutably.
-        let [_, _, rounds @ ..]: [usize; 10] = answered(|answer, length| unsafe {
-            c::jugy_dispatch(
-                juries,
-                gates_per_round,
-                self.headers.as_ptr(),
-                self.headers.len(),
-                self.lists.as_ptr(),
-                self.lists.len(),
-                self.ballots.as_ptr(),
-                self.ballots.len(),
-                self.tapes.as_ptr(),
-                self.tapes.len(),
-                self.wires.as_mut_ptr(),
-                self.wires.len(),
-                self.boards.as_mut_ptr(),
-                self.boards.len(),
-                answer,
-                length,
-            )
-        })?;
+        let Tables { headers, lists, ballots, tapes, wires, boards } = self;
+        let [_, _, rounds @ ..] =
+            c::jugy_dispatch(juries, gates_per_round, headers, lists, ballots, tapes, wires, boards)?;
         Ok(rounds)
     }
 }

@@ -1,9 +1,12 @@
 //! A gate list that is known to fit its shape, and the board that a run of it leaves.
 
-use crate::calls::{c, run_by};
+use crate::calls::c;
 use crate::trustees::{self, Dealing, Tally};
 use crate::{list_of_text, measure, test, text, winners, write, Refusal, Secret, Shape, Size, Urn};
 use std::io;
+
+/// An entry point that runs a list on one jury.
+type Run = fn(Shape, &[u32], &[u8], &[u8], &mut [u8], &mut [u8]) -> Result<[usize; 4], Refusal>;
 
 /// A circuit for one shape of jury. It is tested when it is made, so no run is refused because of the list.
 ///
@@ -107,18 +110,18 @@ impl GateList {
 
     /// Runs the list on I ballot bytes with C fresh, secret tape bits.
     pub fn run(&self, ballots: &[u8], tape: &[u8]) -> Result<Board, Refusal> {
-        self.run_with(c::jugy_run, ballots, tape)
+        self.run_by(c::jugy_run, ballots, tape)
     }
 
     /// Runs the list on the ballots in an urn, in chain order.
     pub fn run_urn(&self, urn: &Urn, tape: &[u8]) -> Result<Board, Refusal> {
-        self.run_with(c::jugy_run_urn, urn.bytes(), tape)
+        self.run_by(c::jugy_run_urn, urn.bytes(), tape)
     }
 
-    fn run_with(&self, call: crate::calls::Run<u8>, ballots: &[u8], tape: &[u8]) -> Result<Board, Refusal> {
+    fn run_by(&self, call: Run, ballots: &[u8], tape: &[u8]) -> Result<Board, Refusal> {
         let mut wires = Secret::zeros(self.wires());
         let mut board = vec![0; self.board_length()];
-        run_by(call, self.shape, &self.table, ballots, tape, &mut wires, &mut board)?;
+        call(self.shape, &self.table, ballots, tape, &mut wires, &mut board)?;
         Ok(Board::new(board, self.conditional()))
     }
 

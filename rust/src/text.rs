@@ -1,55 +1,16 @@
 //! Gate lists as text: a line a gate.
 
-use crate::calls::answered;
+use crate::calls::c;
 use crate::{Refusal, Shape};
-
-mod c {
-    extern "C" {
-        pub fn jugy_write_text(
-            k: usize,
-            d: usize,
-            n: usize,
-            table: *const u32,
-            table_length: usize,
-            output: *mut u8,
-            output_length: usize,
-            answer: *mut usize,
-            answer_length: usize,
-        ) -> usize;
-        pub fn jugy_read_text(
-            k: usize,
-            d: usize,
-            n: usize,
-            text: *const u8,
-            text_length: usize,
-            output: *mut u32,
-            output_length: usize,
-            answer: *mut usize,
-            answer_length: usize,
-        ) -> usize;
-    }
-}
 
 /// Writes the text of a list, one line a gate, and returns the number of characters written.
 pub fn write_text(shape: Shape, table: &[u32], output: &mut [u8]) -> Result<usize, Refusal> {
-    let [k, d, n] = shape.numbers();
-    let (to, room) = (output.as_mut_ptr(), output.len());
-    // SAFETY: as in `write`.
-    answered(|answer, length| unsafe {
-        c::jugy_write_text(k, d, n, table.as_ptr(), table.len(), to, room, answer, length)
-    })
-    .map(|[_, _, characters]| characters)
+    c::jugy_write_text(shape, table, output).map(|[_, _, characters]| characters)
 }
 
 /// Reads a text as a list for a shape, and returns how many numbers were written, four a line.
 pub fn read_text(shape: Shape, text: &[u8], output: &mut [u32]) -> Result<usize, Refusal> {
-    let [k, d, n] = shape.numbers();
-    let (to, room) = (output.as_mut_ptr(), output.len());
-    // SAFETY: as in `write`.
-    answered(|answer, length| unsafe {
-        c::jugy_read_text(k, d, n, text.as_ptr(), text.len(), to, room, answer, length)
-    })
-    .map(|[_, _, numbers]| numbers)
+    c::jugy_read_text(shape, text, output).map(|[_, _, numbers]| numbers)
 }
 
 /// Enough for any line: four numbers of up to ten digits, three spaces and a line feed.

@@ -3,66 +3,9 @@
 //! All trustees start, then do the rounds 0 to R together. `c/jugyvaros.h` says what the tables hold and what may be
 //! sent. The program `houses` runs each trustee as a process.
 
-use crate::calls::{answered, sized};
+use crate::calls::c;
 use crate::levels::Depths;
 use crate::{Refusal, Shape, Size};
-
-mod c {
-    extern "C" {
-        pub fn jugy_trustee_start(
-            k: usize,
-            d: usize,
-            n: usize,
-            table: *const u32,
-            table_length: usize,
-            trustees: usize,
-            trustee: usize,
-            ballot_shares: *const u8,
-            ballot_shares_length: usize,
-            triples: *const u8,
-            triples_length: usize,
-            wires: *mut u8,
-            wires_length: usize,
-            published: *mut u8,
-            published_length: usize,
-            answer: *mut usize,
-            answer_length: usize,
-        ) -> usize;
-        pub fn jugy_trustee_round(
-            k: usize,
-            d: usize,
-            n: usize,
-            table: *const u32,
-            table_length: usize,
-            trustees: usize,
-            trustee: usize,
-            round: usize,
-            levels: *const u32,
-            levels_length: usize,
-            triples: *const u8,
-            triples_length: usize,
-            heard: *const u8,
-            heard_length: usize,
-            wires: *mut u8,
-            wires_length: usize,
-            published: *mut u8,
-            published_length: usize,
-            answer: *mut usize,
-            answer_length: usize,
-        ) -> usize;
-        pub fn jugy_trustee_finish(
-            k: usize,
-            d: usize,
-            n: usize,
-            table: *const u32,
-            table_length: usize,
-            wires: *mut u8,
-            wires_length: usize,
-            answer: *mut usize,
-            answer_length: usize,
-        ) -> usize;
-    }
-}
 
 /// One trustee's seat: trustee `number`, counted from 0, of `trustees`, who run a list together.
 #[derive(Clone, Copy, Debug)]
@@ -86,29 +29,8 @@ impl Seat<'_> {
         wires: &mut [u8],
         published: &mut [u8],
     ) -> Result<Size, Refusal> {
-        let [k, d, n] = self.shape.numbers();
-        // SAFETY: every pointer comes from a slice and is passed with its length; whatever is written is a `&mut`.
-        sized(|answer, length| unsafe {
-            c::jugy_trustee_start(
-                k,
-                d,
-                n,
-                self.table.as_ptr(),
-                self.table.len(),
-                self.trustees,
-                self.number,
-                ballot_shares.as_ptr(),
-                ballot_shares.len(),
-                triples.as_ptr(),
-                triples.len(),
-                wires.as_mut_ptr(),
-                wires.len(),
-                published.as_mut_ptr(),
-                published.len(),
-                answer,
-                length,
-            )
-        })
+        let Seat { shape, table, trustees, number } = *self;
+        c::jugy_trustee_start(shape, table, trustees, number, ballot_shares, triples, wires, published).map(Size::of)
     }
 
     /// Does a round. `heard` has the sums, modulo 2, of what all trustees have published so far; `published` is then
@@ -122,51 +44,13 @@ impl Seat<'_> {
         wires: &mut [u8],
         published: &mut [u8],
     ) -> Result<Depths, Refusal> {
-        let [k, d, n] = self.shape.numbers();
-        // SAFETY: every pointer comes from a slice and is passed with its length; whatever is written is a `&mut`.
-        answered(|answer, length| unsafe {
-            c::jugy_trustee_round(
-                k,
-                d,
-                n,
-                self.table.as_ptr(),
-                self.table.len(),
-                self.trustees,
-                self.number,
-                round,
-                levels.as_ptr(),
-                levels.len(),
-                triples.as_ptr(),
-                triples.len(),
-                heard.as_ptr(),
-                heard.len(),
-                wires.as_mut_ptr(),
-                wires.len(),
-                published.as_mut_ptr(),
-                published.len(),
-                answer,
-                length,
-            )
-        })
-        .map(Depths::of)
+        let Seat { shape, table, trustees, number } = *self;
+        c::jugy_trustee_round(shape, table, trustees, number, round, levels, triples, heard, wires, published)
+            .map(Depths::of)
     }
 
     /// Empties its shares of the wires. Call it after the closing bits have been sent.
     pub fn finish(&self, wires: &mut [u8]) -> Result<Size, Refusal> {
-        let [k, d, n] = self.shape.numbers();
-        // SAFETY: every pointer comes from a slice and is passed with its length; whatever is written is a `&mut`.
-        sized(|answer, length| unsafe {
-            c::jugy_trustee_finish(
-                k,
-                d,
-                n,
-                self.table.as_ptr(),
-                self.table.len(),
-                wires.as_mut_ptr(),
-                wires.len(),
-                answer,
-                length,
-            )
-        })
+        c::jugy_trustee_finish(self.shape, self.table, wires).map(Size::of)
     }
 }

@@ -17,34 +17,9 @@
 //! # Ok::<(), Box<dyn std::error::Error>>(())
 //! ```
 
-use crate::calls::answered;
+use crate::calls::c;
 use crate::{winners, GateList, Refusal, Secret, Shape};
 use std::io;
-
-mod c {
-    extern "C" {
-        pub fn jugy_trustees(
-            k: usize,
-            d: usize,
-            n: usize,
-            table: *const u32,
-            table_length: usize,
-            ballots: *const u8,
-            ballots_length: usize,
-            trustees: usize,
-            ballot_shares: *const u8,
-            ballot_shares_length: usize,
-            triples: *const u8,
-            triples_length: usize,
-            wires: *mut u8,
-            wires_length: usize,
-            published: *mut u8,
-            published_length: usize,
-            answer: *mut usize,
-            answer_length: usize,
-        ) -> usize;
-    }
-}
 
 /// The trustees' shares of the ballots, and of a Beaver triple u, v, u v for each conditional gate, trustee after
 /// trustee.
@@ -126,30 +101,9 @@ pub fn tally(
     wires: &mut [u8],
     published: &mut [u8],
 ) -> Result<Tallied, Refusal> {
-    let [k, d, n] = shape.numbers();
-    // SAFETY: every pointer comes from a slice and is passed with its length; whatever is written is borrowed mutably.
-    let [_, _, gates, conditional, closing @ ..]: [usize; 12] = answered(|answer, length| unsafe {
-        c::jugy_trustees(
-            k,
-            d,
-            n,
-            table.as_ptr(),
-            table.len(),
-            ballots.as_ptr(),
-            ballots.len(),
-            dealing.trustees,
-            dealing.ballot_shares.as_ptr(),
-            dealing.ballot_shares.len(),
-            dealing.triples.as_ptr(),
-            dealing.triples.len(),
-            wires.as_mut_ptr(),
-            wires.len(),
-            published.as_mut_ptr(),
-            published.len(),
-            answer,
-            length,
-        )
-    })?;
+    let Dealing { trustees, ballot_shares, triples } = dealing;
+    let [_, _, gates, conditional, closing @ ..] =
+        c::jugy_trustees(shape, table, ballots, *trustees, ballot_shares, triples, wires, published)?;
     let closing = closing.map(|byte| byte as u8);
     Ok(Tallied { gates, conditional, closing })
 }

@@ -3,101 +3,37 @@
 //!
 //! Each call returns the number of ballots in the urn afterwards. If it returns a refusal, the urn is unchanged.
 
-use crate::calls::{answered, c::jugy_run_urn, run_by};
+use crate::calls::c;
 use crate::{Reason, Refusal, Secret, Shape, Size};
 
-mod c {
-    extern "C" {
-        pub fn jugy_empty_urn(
-            k: usize,
-            d: usize,
-            urn: *mut u8,
-            urn_length: usize,
-            answer: *mut usize,
-            answer_length: usize,
-        ) -> usize;
-        pub fn jugy_admit(
-            k: usize,
-            d: usize,
-            urn: *mut u8,
-            urn_length: usize,
-            juror: usize,
-            ballot: *const u8,
-            ballot_length: usize,
-            answer: *mut usize,
-            answer_length: usize,
-        ) -> usize;
-        pub fn jugy_withdraw(
-            k: usize,
-            d: usize,
-            urn: *mut u8,
-            urn_length: usize,
-            juror: usize,
-            answer: *mut usize,
-            answer_length: usize,
-        ) -> usize;
-        pub fn jugy_preview_admit(
-            k: usize,
-            d: usize,
-            urn: *const u8,
-            urn_length: usize,
-            juror: usize,
-            ballot: *const u8,
-            ballot_length: usize,
-            answer: *mut usize,
-            answer_length: usize,
-        ) -> usize;
-        pub fn jugy_preview_withdraw(
-            k: usize,
-            d: usize,
-            urn: *const u8,
-            urn_length: usize,
-            juror: usize,
-            answer: *mut usize,
-            answer_length: usize,
-        ) -> usize;
-    }
-}
-
-/// The number of ballots that an entry point answers.
-fn ballots(call: impl FnOnce(*mut usize, usize) -> usize) -> Result<usize, Refusal> {
-    answered(call).map(|[_, _, ballots]| ballots)
+/// The number of ballots in an answer array.
+fn ballots([_, _, ballots]: [usize; 3]) -> usize {
+    ballots
 }
 
 /// Makes a table into an empty urn, whatever its bytes are. All its slots are free, in order.
 pub fn empty(k: usize, d: usize, urn: &mut [u8]) -> Result<usize, Refusal> {
-    // SAFETY: every pointer comes from a slice and is passed with its length; whatever is written is borrowed mutably.
-    ballots(|answer, length| unsafe { c::jugy_empty_urn(k, d, urn.as_mut_ptr(), urn.len(), answer, length) })
+    c::jugy_empty_urn(k, d, urn).map(ballots)
 }
 
 /// Admits a juror's ballot.
 pub fn admit(k: usize, d: usize, urn: &mut [u8], juror: usize, ballot: &[u8]) -> Result<usize, Refusal> {
-    let (bytes, size) = (ballot.as_ptr(), ballot.len());
-    // SAFETY: as in `empty`.
-    ballots(|answer, length| unsafe {
-        c::jugy_admit(k, d, urn.as_mut_ptr(), urn.len(), juror, bytes, size, answer, length)
-    })
+    c::jugy_admit(k, d, urn, juror, ballot).map(ballots)
 }
 
 /// Withdraws a juror's ballot.
 pub fn withdraw(k: usize, d: usize, urn: &mut [u8], juror: usize) -> Result<usize, Refusal> {
-    // SAFETY: as in `empty`.
-    ballots(|answer, length| unsafe { c::jugy_withdraw(k, d, urn.as_mut_ptr(), urn.len(), juror, answer, length) })
+    c::jugy_withdraw(k, d, urn, juror).map(ballots)
 }
 
 /// What `admit` would return. The urn is not changed.
 pub fn preview_admit(k: usize, d: usize, urn: &[u8], juror: usize, ballot: &[u8]) -> Result<usize, Refusal> {
-    let (bytes, size) = (ballot.as_ptr(), ballot.len());
-    // SAFETY: as in `empty`; the urn is only read.
-    ballots(|answer, length| unsafe {
-        c::jugy_preview_admit(k, d, urn.as_ptr(), urn.len(), juror, bytes, size, answer, length)
-    })
+    c::jugy_preview_admit(k, d, urn, juror, ballot).map(ballots)
 }
 
 /// What `withdraw` would return. The urn is not changed.
 pub fn preview_withdraw(k: usize, d: usize, urn: &[u8], juror: usize) -> Result<usize, Refusal> {
-    // SAFETY: as in `empty`; the urn is only read.
-    ballots(|answer, length| unsafe { c::jugy_preview_withdraw(k, d, urn.as_ptr(), urn.len(), juror, answer, length) })
+    c::jugy_preview_withdraw(k, d, urn, juror).map(ballots)
 }
 
 /// Runs a list on the ballots in an urn, in chain order, as [`crate::run`] would on these ballots. The tape has to be
@@ -110,7 +46,7 @@ pub fn run(
     wires: &mut [u8],
     board: &mut [u8],
 ) -> Result<Size, Refusal> {
-    run_by(jugy_run_urn, shape, table, urn, tape, wires, board)
+    c::jugy_run_urn(shape, table, urn, tape, wires, board).map(Size::of)
 }
 
 /// An urn that owns its bytes.

@@ -3,6 +3,7 @@
  * reason and place of a refusal are compared with the reference's tests of each jury, and the buffers with copies. */
 #include "../../c/jugyvaros.h"
 #include "random_jury.h"
+#include "reference.h"
 #include "seen.h"
 
 enum { JURIES = 64 };
@@ -20,14 +21,6 @@ struct call {
     uint64_t *tables[TABLES];
 };
 
-static uint64_t *any_words(size_t count) {
-    uint64_t *words = lent(8 * count);
-    for (size_t i = 0; i < count; i++)
-        for (int j = 0; j < 4; j++)
-            words[i] = words[i] << 16 | below(65536);
-    return words;
-}
-
 static struct call good_call(void) {
     struct call c = {
         .k = 1 + below(3), .d = below(3) ? 2 + below(3) : 0, .n = 1 + below(3), .answer_length = JUGY_RUN_ANSWER};
@@ -44,7 +37,7 @@ static struct call good_call(void) {
             c.tables[BALLOTS][i] |= (uint64_t)jury[i] << j;
     }
     for (int i = TAPE; i < TABLES; i++)
-        c.tables[i] = any_words(c.lengths[i]);
+        c.tables[i] = noise(8 * c.lengths[i]);
     free(jury);
     return c;
 }
@@ -61,17 +54,17 @@ static void damage(struct call *c) {
     switch (below(6)) {
     case 0: c->n = below(2) ? 0 : 256; break;
     case 1: c->table_length -= 1 + below(3); break;
-    case 2: c->table[4 * below((uint32_t)(c->table_length / 4))] = 8; break;
+    case 2: c->table[4 * below(c->table_length / 4)] = KINDS; break;
     case 3:
         free(c->tables[i]);
         c->lengths[i] += c->lengths[i] && below(2) ? (size_t)-1 : 1;
-        c->tables[i] = any_words(c->lengths[i]);
+        c->tables[i] = noise(8 * c->lengths[i]);
         break;
     case 4:
         if (can_have_gap(c->k, c->d, c->lengths[BALLOTS]) && below(2))
             put_gap(c->tables[BALLOTS], c->k, (uint64_t)1 << below(JURIES));
         else if (c->lengths[BALLOTS])
-            c->tables[BALLOTS][below((uint32_t)c->lengths[BALLOTS])] ^= (uint64_t)1 << below(JURIES);
+            c->tables[BALLOTS][below(c->lengths[BALLOTS])] ^= (uint64_t)1 << below(JURIES);
         break;
     default: c->answer_length = below(JUGY_RUN_ANSWER); break;
     }

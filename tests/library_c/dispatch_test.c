@@ -3,6 +3,7 @@
  * runs of each jury on the pieces that the headers name. A refused call must change nothing. */
 #include "../../c/jugyvaros.h"
 #include "random_jury.h"
+#include "reference.h"
 #include "seen.h"
 
 enum { MOST = 8, STATED = 4 };
@@ -92,17 +93,17 @@ static void damage(struct call *c) {
     case 2: shorten(&c->tables[table], &c->lengths[table], item(table), 1 + below(4)); break;
     case 3:
         if (c->lengths[LISTS])
-            ((uint32_t *)c->tables[LISTS])[below((uint32_t)c->lengths[LISTS])] = below(2) ? 8 : below(200);
+            ((uint32_t *)c->tables[LISTS])[below(c->lengths[LISTS])] = below(2) ? KINDS : below(200);
         break;
     case 4:
     case 5:
         if (length)
-            bytes[below((uint32_t)length)] ^= (uint8_t)(1 + below(3));
+            bytes[below(length)] ^= (uint8_t)(1 + below(3));
         break;
     case 6: shorten((void **)&c->statements, &c->statements_length, sizeof *statement, 1 + below(5)); break;
     case 7:
         if (c->statements_length)
-            statement[below((uint32_t)c->statements_length)] = below(12);
+            statement[below(c->statements_length)] = below(12);
         break;
     default: c->answer_length = below(JUGY_DISPATCH_ANSWER); break;
     }

@@ -5,10 +5,9 @@
  *                               lengths
  * It prints how many calls it compared, and ends with 1 at the first difference, or if a reason never occurred. */
 #include "../../c/jugyvaros.h"
-#include "kinds.h"
+#include "random_jury.h"
 #include "reference.h"
 #include "seen.h"
-#include <string.h>
 
 static const char *what = "";
 
@@ -19,32 +18,6 @@ static const char *what = "";
             exit(1);                                                                                                 \
         }                                                                                                            \
     } while (0)
-
-/* ---- random numbers, the same for the same seed */
-static uint64_t state = 1;
-
-static uint64_t draw(uint64_t below) {
-    state ^= state << 13;
-    state ^= state >> 7;
-    state ^= state << 17;
-    return (state >> 11) % below;
-}
-
-/* ---- heap buffers of exactly the length that is lent, filled with noise */
-static void *take(size_t bytes) {
-    void *p = malloc(bytes);
-    CHECK(p != NULL);
-    for (size_t i = 0; i < bytes; i++)
-        ((uint8_t *)p)[i] = (uint8_t)draw(256);
-    return p;
-}
-
-static void *copy(const void *from, size_t bytes) {
-    void *p = malloc(bytes);
-    CHECK(p != NULL);
-    memcpy(p, from, bytes);
-    return p;
-}
 
 static int same(const void *a, const void *b, size_t bytes) { return bytes == 0 || memcmp(a, b, bytes) == 0; }
 
@@ -69,14 +42,14 @@ static void compare(struct said s, const size_t *rest, size_t needed, size_t sta
 
 /* The length of an answer array: mostly what is needed, sometimes shorter or longer. */
 static size_t answer_length(size_t needed) {
-    uint64_t way = draw(8);
-    return way == 0 ? draw(needed) : way == 1 ? needed + draw(5) : needed;
+    uint32_t way = below(8);
+    return way == 0 ? below(needed) : way == 1 ? needed + below(5) : needed;
 }
 
 static struct said call_test(size_t k, size_t d, size_t n, const uint32_t *list, size_t length, size_t al) {
     what = "test";
-    uint32_t *table = copy(list, length * 4);
-    size_t *answer = take(al * sizeof *answer), *before = copy(answer, al * sizeof *answer);
+    uint32_t *table = copy_of(list, length * 4);
+    size_t *answer = noise(al * sizeof *answer), *before = copy_of(answer, al * sizeof *answer);
     size_t status = jugy_test(k, d, n, table, length, answer, al);
     struct said s = reference_test(k, d, n, list, length);
     size_t rest[2] = {s.gates, s.conditional};
@@ -88,16 +61,16 @@ static struct said call_test(size_t k, size_t d, size_t n, const uint32_t *list,
 
 static struct said call_count(size_t k, size_t d, size_t n, const uint8_t *ballots, size_t length, size_t al) {
     what = "count";
-    uint8_t *lent = copy(ballots, length);
-    size_t *answer = take(al * sizeof *answer), *before = copy(answer, al * sizeof *answer);
-    size_t status = jugy_count(k, d, n, lent, length, answer, al);
+    uint8_t *given = copy_of(ballots, length);
+    size_t *answer = noise(al * sizeof *answer), *before = copy_of(answer, al * sizeof *answer);
+    size_t status = jugy_count(k, d, n, given, length, answer, al);
     struct said s = reference_count(k, d, n, ballots, length);
     size_t rest[8];
     for (int i = 0; i < 8; i++)
         rest[i] = s.closing[i];
     compare(s, rest, 10, status, answer, before, al);
-    CHECK(same(lent, ballots, length));
-    free(lent), free(answer), free(before);
+    CHECK(same(given, ballots, length));
+    free(given), free(answer), free(before);
     return s;
 }
 
@@ -105,12 +78,12 @@ static struct said call_run(size_t k, size_t d, size_t n, const uint32_t *list, 
                             size_t ballots_length, const uint8_t *masks, size_t tape_length, size_t wires_length,
                             size_t board_length, size_t al, uint8_t *closing) {
     what = "run";
-    uint32_t *table = copy(list, length * 4);
-    uint8_t *lent = copy(ballots, ballots_length), *tape = copy(masks, tape_length);
-    uint8_t *wires = take(wires_length), *board = take(board_length);
-    uint8_t *expected_wires = copy(wires, wires_length), *expected_board = copy(board, board_length);
-    size_t *answer = take(al * sizeof *answer), *before = copy(answer, al * sizeof *answer);
-    size_t status = jugy_run(k, d, n, table, length, lent, ballots_length, tape, tape_length, wires, wires_length,
+    uint32_t *table = copy_of(list, length * 4);
+    uint8_t *given = copy_of(ballots, ballots_length), *tape = copy_of(masks, tape_length);
+    uint8_t *wires = noise(wires_length), *board = noise(board_length);
+    uint8_t *expected_wires = copy_of(wires, wires_length), *expected_board = copy_of(board, board_length);
+    size_t *answer = noise(al * sizeof *answer), *before = copy_of(answer, al * sizeof *answer);
+    size_t status = jugy_run(k, d, n, table, length, given, ballots_length, tape, tape_length, wires, wires_length,
                              board, board_length, answer, al);
     struct said s;
     if (al < 4)
@@ -122,10 +95,10 @@ static struct said call_run(size_t k, size_t d, size_t n, const uint32_t *list, 
     compare(s, rest, 4, status, answer, before, al);
     CHECK(same(wires, expected_wires, wires_length));
     CHECK(same(board, expected_board, board_length));
-    CHECK(same(table, list, length * 4) && same(lent, ballots, ballots_length) && same(tape, masks, tape_length));
+    CHECK(same(table, list, length * 4) && same(given, ballots, ballots_length) && same(tape, masks, tape_length));
     if (closing && s.reason == 0)
         memcpy(closing, board + board_length - k, k);
-    free(table), free(lent), free(tape), free(wires), free(board), free(expected_wires), free(expected_board);
+    free(table), free(given), free(tape), free(wires), free(board), free(expected_wires), free(expected_board);
     free(answer), free(before);
     return s;
 }
@@ -133,7 +106,7 @@ static struct said call_run(size_t k, size_t d, size_t n, const uint32_t *list, 
 /* Measures a shape; call_write compares G, C and I with what writing answers. */
 static struct said call_measure(size_t k, size_t d, size_t n, size_t al) {
     what = "measure";
-    size_t *answer = take(al * sizeof *answer), *before = copy(answer, al * sizeof *answer);
+    size_t *answer = noise(al * sizeof *answer), *before = copy_of(answer, al * sizeof *answer);
     size_t status = jugy_measure(k, d, n, answer, al);
     struct said s = {shape_within(k, d, n) ? 0 : 1, 0, 0, 0, {0}};
     size_t rest[3] = {0, 0, ballot_bytes(k, d, n)};
@@ -151,8 +124,8 @@ static struct said call_measure(size_t k, size_t d, size_t n, size_t al) {
  * is accepted. */
 static uint32_t *call_write(size_t k, size_t d, size_t n, size_t length, struct said measured, size_t al) {
     what = "write";
-    uint32_t *table = take(length * 4), *before_table = copy(table, length * 4);
-    size_t *answer = take(al * sizeof *answer), *before = copy(answer, al * sizeof *answer);
+    uint32_t *table = noise(length * 4), *before_table = copy_of(table, length * 4);
+    size_t *answer = noise(al * sizeof *answer), *before = copy_of(answer, al * sizeof *answer);
     size_t status = jugy_write(k, d, n, table, length, answer, al);
     struct said s = measured;
     if (s.reason == 0 && length < 4 * measured.gates)
@@ -174,94 +147,70 @@ static uint32_t *call_write(size_t k, size_t d, size_t n, size_t length, struct 
     return NULL;
 }
 
-/* ---- lists and ballots */
+/* ---- ballots that nearly tie, more often than those of random_jury.h */
 
 /* Rankings with ties: each juror's ranks differ a little from ranks that all jurors share. */
-static void fill_rankings(uint8_t *b, size_t k, size_t n) {
-    size_t shared[8], ranks[8], spread = 1 + draw(2 * k);
+static void close_rankings(uint8_t *b, size_t k, size_t n) {
+    uint32_t shared[8], ranks[8], spread = 1 + below(2 * k);
     for (size_t i = 0; i < k; i++)
-        shared[i] = draw(k);
+        shared[i] = below(k);
     for (size_t ballot = 0; ballot < n; ballot++) {
         for (size_t i = 0; i < k; i++)
-            ranks[i] = shared[i] + draw(spread);
-        for (size_t i = 0; i < k * k; i++)
-            b[ballot * k * k + i] = ranks[i / k] < ranks[i % k];
+            ranks[i] = shared[i] + below(spread);
+        put_ranking(b + ballot * k * k, ranks, k);
     }
 }
 
-static void fill_ballots(uint8_t *b, size_t k, size_t d, size_t n) {
+static void close_ballots(uint8_t *b, size_t k, size_t d, size_t n) {
     if (d == 0) {
-        fill_rankings(b, k, n);
+        close_rankings(b, k, n);
         return;
     }
     /* a few grades only, so that medians are often equal */
-    size_t favourite = draw(d), spread = 1 + draw(d);
-    for (size_t row = 0; row < n * k; row++) {
-        memset(b + row * d, 0, d);
-        b[row * d + (favourite + draw(spread)) % d] = 1;
-    }
+    size_t favourite = below(d), spread = 1 + below(d);
+    memset(b, 0, n * k * d);
+    for (size_t row = 0; row < n * k; row++)
+        b[row * d + (favourite + below(spread)) % d] = 1;
 }
 
-static void fill_tape(uint8_t *t, size_t length) {
-    for (size_t i = 0; i < length; i++)
-        t[i] = (uint8_t)draw(2);
-}
-
-/* A random list of `gates` gates that the test accepts. */
-static uint32_t *random_list(size_t inputs, size_t gates) {
-    uint32_t *t = malloc(gates * 16);
-    CHECK(t != NULL);
-    for (size_t g = 0; g < gates; g++) {
-        uint32_t kind = (uint32_t)draw(KINDS);
-        t[4 * g] = kind;
-        for (uint32_t i = 0; i < 3; i++)
-            t[4 * g + 1 + i] = i < kind_operands[kind] ? (uint32_t)(draw(4) ? draw(inputs + g) : inputs + g - 1) : 0;
-    }
-    return t;
-}
-
-static size_t count_marks(const uint32_t *t, size_t gates) {
-    size_t c = 0;
-    for (size_t g = 0; g < gates; g++)
-        c += t[4 * g] < KINDS && kind_conditional[t[4 * g]];
-    return c;
-}
+/* ---- runs, good and damaged */
 
 /* A length near the right one. */
 static size_t near(size_t length) {
-    uint64_t way = draw(4);
-    return way == 0 ? length + 1 + draw(9) : way == 1 ? draw(length + 1) : way == 2 && length ? length - 1 : length + 1;
+    switch (below(4)) {
+    case 0: return length + 1 + below(9);
+    case 1: return below(length + 1);
+    case 2: return length ? length - 1 : 1;
+    default: return length + 1;
+    }
 }
 
 /* One run of a list on ballots, with up to two things damaged. */
 static void damaged_run(size_t k, size_t d, size_t n, const uint32_t *list, size_t gates) {
-    size_t inputs = ballot_bytes(k, d, n), conditional = count_marks(list, gates), length = 4 * gates;
+    size_t inputs = ballot_bytes(k, d, n), conditional = marks_in(list, gates), length = 4 * gates;
     size_t ballots_length = inputs, tape_length = conditional, wires_length = inputs + gates;
     size_t board_length = conditional + k;
     size_t al = answer_length(4);
-    uint32_t *t = malloc((length + 16) * 4);
-    uint8_t *b = malloc(inputs + 16), *m = malloc(conditional + 16);
-    CHECK(t && b && m);
+    uint32_t *t = filled((length + 16) * 4, 0);
+    uint8_t *b = filled(inputs + 16, 0), *m = lent(conditional + 16);
     memcpy(t, list, length * 4);
-    memset(t + length, 0, 64);
-    fill_ballots(b, k, d, n);
-    memset(b + inputs, 0, 16);
-    fill_tape(m, conditional + 16);
-    for (uint64_t faults = draw(3); faults > 0; faults--) {
-        size_t g = draw(gates);
-        switch (draw(14)) {
-        case 0: t[4 * g] = draw(2) ? 8 : (uint32_t)(8 + draw(1u << 31)); break;
-        case 1: t[4 * g + 1 + draw(3)] = (uint32_t)(inputs + g); break;
-        case 2: t[4 * g + 1 + draw(3)] = (uint32_t)(inputs + g + draw(1u << 31)); break;
-        case 3: t[4 * g] = (uint32_t)draw(4), t[4 * g + 3] = 1; break;
+    close_ballots(b, k, d, n);
+    random_bits(m, conditional + 16);
+    for (uint32_t faults = below(3); faults > 0; faults--) {
+        size_t g = below(gates);
+        switch (below(14)) {
+        case 0: t[4 * g] = KINDS + (below(2) ? 0 : below(1u << 31)); break;
+        case 1: t[4 * g + 1 + below(3)] = (uint32_t)(inputs + g); break;
+        case 2: t[4 * g + 1 + below(3)] = (uint32_t)(inputs + g + below(1u << 31)); break;
+        case 3: t[4 * g] = below(4), t[4 * g + 3] = 1; break;
         case 4: length = near(4 * gates) > 4 * gates + 16 ? 4 * gates : near(4 * gates); break;
-        case 5: length = 4 * draw(k + 1) > 4 * gates ? 4 * gates : 4 * (k - 1 < gates ? k - 1 : gates); break;
+        case 5: length = 4 * below(k + 1) > 4 * gates ? 4 * gates : 4 * (k - 1 < gates ? k - 1 : gates); break;
         case 6: ballots_length = near(inputs); break;
-        case 7: b[draw(inputs)] = (uint8_t)(2 + draw(254)); break;
-        case 8: memset(b + draw(inputs), 0, 1 + draw(8)); break;
-        case 9: b[draw(inputs)] ^= 1; break;
+        case 7: b[below(inputs)] = (uint8_t)(2 + below(254)); break;
+        case 8: memset(b + below(inputs), 0, 1 + below(8)); break;
+        case 9: b[below(inputs)] ^= 1; break;
         case 10: tape_length = near(conditional); break;
-        case 11: m[draw(conditional + 1)] = (uint8_t)(2 + draw(254)); break;
+        case 11: m[below(conditional + 1)] = (uint8_t)(2 + below(254)); break;
         case 12: wires_length = near(wires_length); break;
         default: board_length = near(board_length); break;
         }
@@ -273,7 +222,7 @@ static void damaged_run(size_t k, size_t d, size_t n, const uint32_t *list, size
             tape_length = conditional;
     }
     /* now and then a shape that is not this list's */
-    size_t k2 = draw(12) ? k : draw(10), d2 = draw(12) ? d : draw(9), n2 = draw(12) ? n : draw(258);
+    size_t k2 = below(12) ? k : below(10), d2 = below(12) ? d : below(9), n2 = below(12) ? n : below(258);
     call_test(k2, d2, n2, t, length, answer_length(4));
     call_count(k2, d2, n2, b, ballots_length, answer_length(10));
     call_run(k2, d2, n2, t, length, b, ballots_length, m, tape_length, wires_length, board_length, al, NULL);
@@ -289,11 +238,10 @@ static uint32_t *own_list(size_t k, size_t d, size_t n, struct said *measured) {
 }
 
 static void good_run(size_t k, size_t d, size_t n, const uint32_t *list, size_t gates, int own) {
-    size_t inputs = ballot_bytes(k, d, n), conditional = count_marks(list, gates);
-    uint8_t *b = malloc(inputs), *m = malloc(conditional), closing[8] = {0};
-    CHECK(b && m);
-    fill_ballots(b, k, d, n);
-    fill_tape(m, conditional);
+    size_t inputs = ballot_bytes(k, d, n), conditional = marks_in(list, gates);
+    uint8_t *b = lent(inputs), *m = lent(conditional), closing[8] = {0};
+    close_ballots(b, k, d, n);
+    random_bits(m, conditional);
     struct said s =
         call_run(k, d, n, list, 4 * gates, b, inputs, m, conditional, inputs + gates, conditional + k, 4, closing);
     CHECK(s.reason == 0 && s.gates == gates && s.conditional == conditional);
@@ -306,6 +254,8 @@ static void good_run(size_t k, size_t d, size_t n, const uint32_t *list, size_t 
 }
 
 /* ---- the edges */
+
+static int refuses(struct said s, size_t reason, size_t place) { return s.reason == reason && s.place == place; }
 
 static void edges(void) {
     struct said m;
@@ -338,7 +288,7 @@ static void edges(void) {
         free(call_write(2, 3, 3, length, m, 4));
     for (size_t more = 0; more <= 8; more++)
         free(call_write(2, 3, 3, 4 * m.gates - 4 + more, m, 4));
-    const size_t g = m.gates, c = m.conditional;
+    size_t g = m.gates, c = m.conditional;
     uint8_t tape[8192] = {0}, ballots[18] = {1, 0, 0, 0, 1, 0, 0, 1, 0, 0, 1, 0, 0, 1, 0, 0, 0, 1}, closing[8] = {9, 9};
     CHECK(c < sizeof tape);
     CHECK(call_run(2, 3, 3, list, 4 * g, ballots, 18, tape, c, 18 + g, c + 2, 4, closing).reason == 0);
@@ -351,16 +301,13 @@ static void edges(void) {
     CHECK(call_run(2, 3, 3, list, 4, ballots, 18, tape, c, 18 + g, c + 2, 4, NULL).reason == 2);
     /* reason 3: gate 0 uses wire I, which is its own (I - 1 is allowed); kind 8; an unused operand that is not 0 */
     uint32_t two[8] = {2, 18, 0, 0, 3, 18, 0, 0};
-    struct said s = call_test(2, 3, 3, two, 8, 4);
-    CHECK(s.reason == 3 && s.place == 0);
+    CHECK(refuses(call_test(2, 3, 3, two, 8, 4), 3, 0));
     two[1] = 17;
     CHECK(call_test(2, 3, 3, two, 8, 4).reason == 0);
-    two[4] = 8;
-    s = call_test(2, 3, 3, two, 8, 4);
-    CHECK(s.reason == 3 && s.place == 1);
+    two[4] = KINDS;
+    CHECK(refuses(call_test(2, 3, 3, two, 8, 4), 3, 1));
     two[4] = 3, two[6] = 1;
-    s = call_run(2, 3, 3, two, 8, ballots, 18, tape, 0, 20, 2, 4, NULL);
-    CHECK(s.reason == 3 && s.place == 1);
+    CHECK(refuses(call_run(2, 3, 3, two, 8, ballots, 18, tape, 0, 20, 2, 4, NULL), 3, 1));
     two[6] = 0;
     CHECK(call_run(2, 3, 3, two, 8, ballots, 18, tape, 0, 20, 2, 4, NULL).reason == 0);
     /* reasons 4 to 6, for a count and for a run */
@@ -371,20 +318,16 @@ static void edges(void) {
     uint8_t bad[18];
     memcpy(bad, ballots, 18);
     bad[17] = 2, bad[0] = 0; /* 5 before 6: the last ballot has a byte 2, row 0 no 1 */
-    s = call_count(2, 3, 3, bad, 18, 10);
-    CHECK(s.reason == 5 && s.place == 17);
+    CHECK(refuses(call_count(2, 3, 3, bad, 18, 10), 5, 17));
     bad[17] = 1;
-    s = call_count(2, 3, 3, bad, 18, 10);
-    CHECK(s.reason == 6 && s.place == 0);
+    CHECK(refuses(call_count(2, 3, 3, bad, 18, 10), 6, 0));
     bad[0] = 1, bad[16] = 1;
-    s = call_run(2, 3, 3, two, 8, bad, 18, tape, 0, 20, 2, 4, NULL);
-    CHECK(s.reason == 6 && s.place == 5);
+    CHECK(refuses(call_run(2, 3, 3, two, 8, bad, 18, tape, 0, 20, 2, 4, NULL), 6, 5));
     /* reasons 7 to 10 */
     CHECK(call_run(2, 3, 3, list, 4 * g, ballots, 18, tape, c - 1, 18 + g, c + 2, 4, NULL).reason == 7);
     CHECK(call_run(2, 3, 3, list, 4 * g, ballots, 18, tape, c + 1, 18 + g, c + 2, 4, NULL).reason == 7);
     tape[c - 1] = 2;
-    s = call_run(2, 3, 3, list, 4 * g, ballots, 18, tape, c, 18 + g, c + 2, 4, NULL);
-    CHECK(s.reason == 8 && s.place == c - 1);
+    CHECK(refuses(call_run(2, 3, 3, list, 4 * g, ballots, 18, tape, c, 18 + g, c + 2, 4, NULL), 8, c - 1));
     tape[c - 1] = 0;
     CHECK(call_run(2, 3, 3, list, 4 * g, ballots, 18, tape, c, 18 + g - 1, c + 2, 4, NULL).reason == 9);
     CHECK(call_run(2, 3, 3, list, 4 * g, ballots, 18, tape, c, 18 + g + 1, c + 2, 4, NULL).reason == 9);
@@ -394,31 +337,27 @@ static void edges(void) {
     /* rankings: 11 comes before 12; its place is the earlier of two opposite bytes, and that of 12 is the ballot */
     list = own_list(3, 0, 2, &m);
     CHECK(list != NULL);
+    g = m.gates, c = m.conditional;
     uint8_t ranked[18] = {0, 1, 1, 0, 0, 0, 0, 0, 0, 0, 0, 1, 0, 0, 1, 0, 0, 0}, none_before[9] = {0};
     CHECK(call_count(3, 0, 2, ranked, 18, 10).reason == 0);
     CHECK(call_count(3, 0, 2, ranked, 17, 10).reason == 4);
     ranked[9 + 6] = 1;
-    s = call_count(3, 0, 2, ranked, 18, 10);
-    CHECK(s.reason == 11 && s.place == 9 + 2);
+    CHECK(refuses(call_count(3, 0, 2, ranked, 18, 10), 11, 9 + 2));
     ranked[2] = 0; /* now the first ballot has fault 12 */
     CHECK(call_count(3, 0, 2, ranked, 18, 10).reason == 11);
     ranked[9 + 6] = 0;
-    s = call_count(3, 0, 2, ranked, 18, 10);
-    CHECK(s.reason == 12 && s.place == 0);
+    CHECK(refuses(call_count(3, 0, 2, ranked, 18, 10), 12, 0));
     memcpy(ranked + 9, none_before, 9);
-    s = call_run(3, 0, 2, list, 4 * m.gates, ranked, 18, tape, m.conditional, 18 + m.gates, m.conditional + 3, 4, NULL);
-    CHECK(s.reason == 12 && s.place == 0);
+    CHECK(refuses(call_run(3, 0, 2, list, 4 * g, ranked, 18, tape, c, 18 + g, c + 3, 4, NULL), 12, 0));
     ranked[2] = 1;
-    s = call_run(3, 0, 2, list, 4 * m.gates, ranked, 18, tape, m.conditional, 18 + m.gates, m.conditional + 3, 4, NULL);
-    CHECK(s.reason == 0);
+    CHECK(call_run(3, 0, 2, list, 4 * g, ranked, 18, tape, c, 18 + g, c + 3, 4, NULL).reason == 0);
     free(list);
     /* the smallest shape, and the largest number of gates and one more */
     list = own_list(1, 2, 1, &m);
     good_run(1, 2, 1, list, m.gates, 1);
     free(list);
     const size_t most = 1048576;
-    list = calloc(most + 1, 16);
-    CHECK(list != NULL);
+    list = filled(16 * (most + 1), 0);
     CHECK(call_test(1, 2, 1, list, 4 * most, 4).reason == 0);
     CHECK(call_test(1, 2, 1, list, 4 * most + 4, 4).reason == 2);
     free(list);
@@ -443,23 +382,24 @@ static void every_shape(void) {
 static void random_juries(size_t juries) {
     for (size_t i = 0; i < juries; i++) {
         /* mostly small, now and then of any size */
-        uint64_t way = draw(40);
-        size_t k = 1 + draw(way < 30 ? 4 : 8), d = 1 + draw(way < 30 ? 4 : 7);
-        size_t n = 1 + draw(way < 30 ? 9 : way < 39 ? 40 : 255);
+        uint32_t way = below(40);
+        size_t k = 1 + below(way < 30 ? 4 : 8), d = 1 + below(way < 30 ? 4 : 7);
+        size_t n = 1 + below(way < 30 ? 9 : way < 39 ? 40 : 255);
         if (d == 1)
             d = 0; /* a ranking */
         struct said m;
         uint32_t *list = own_list(k, d, n, &m);
         CHECK(list != NULL);
-        call_measure(draw(10), draw(9), draw(258), answer_length(5));
+        call_measure(below(10), below(9), below(258), answer_length(5));
         free(call_write(k, d, n, near(4 * m.gates), m, answer_length(4)));
         good_run(k, d, n, list, m.gates, 1);
         good_run(k, d, n, list, m.gates, 1);
         damaged_run(k, d, n, list, m.gates);
         free(list);
         for (int j = 0; j < 4; j++) {
-            size_t gates = k + draw(draw(10) ? 60 : 2000);
-            uint32_t *other = random_list(ballot_bytes(k, d, n), gates);
+            size_t gates = k + below(below(10) ? 60 : 2000);
+            uint32_t *other = lent(16 * gates);
+            random_list(other, ballot_bytes(k, d, n), gates);
             good_run(k, d, n, other, gates, 0);
             damaged_run(k, d, n, other, gates);
             damaged_run(k, d, n, other, gates);
@@ -474,9 +414,7 @@ int main(int argc, char **argv) {
     else if (argc == 2 && strcmp(argv[1], "shapes") == 0)
         every_shape();
     else if (argc == 4 && strcmp(argv[1], "random") == 0) {
-        state = strtoull(argv[3], NULL, 10) * 2 + 1;
-        for (int i = 0; i < 20; i++)
-            draw(2);
+        start_random(strtoull(argv[3], NULL, 10));
         random_juries(strtoull(argv[2], NULL, 10));
     } else {
         printf("usage: library_test edges | shapes | random N SEED\n");

@@ -90,6 +90,15 @@ static struct said test_ballots(size_t k, size_t d, size_t n, const uint8_t *bal
     return refused(0, 0);
 }
 
+struct said reference_jury(size_t k, size_t d, size_t n, const uint32_t *table, size_t length, const uint8_t *ballots,
+                           size_t ballots_length) {
+    struct said s = reference_test(k, d, n, table, length);
+    if (s.reason)
+        return s;
+    struct said t = test_ballots(k, d, n, ballots, ballots_length);
+    return t.reason ? t : s;
+}
+
 static uint8_t value(uint32_t kind, uint8_t a, uint8_t b, uint8_t c) {
     switch (kind) {
     case 0:
@@ -114,12 +123,9 @@ static uint8_t value(uint32_t kind, uint8_t a, uint8_t b, uint8_t c) {
 struct said reference_run(size_t k, size_t d, size_t n, const uint32_t *table, size_t length, const uint8_t *ballots,
                           size_t ballots_length, const uint8_t *tape, size_t tape_length, uint8_t *wires,
                           size_t wires_length, uint8_t *board, size_t board_length) {
-    struct said s = reference_test(k, d, n, table, length);
+    struct said s = reference_jury(k, d, n, table, length, ballots, ballots_length);
     if (s.reason)
         return s;
-    struct said t = test_ballots(k, d, n, ballots, ballots_length);
-    if (t.reason)
-        return t;
     if (tape_length != s.conditional)
         return refused(7, 0);
     for (size_t i = 0; i < tape_length; i++)

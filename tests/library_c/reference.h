@@ -21,6 +21,10 @@ size_t gate_bound(size_t k, size_t d, size_t n);
 
 struct said reference_test(size_t k, size_t d, size_t n, const uint32_t *table, size_t length);
 
+/* The tests of a list and then of the ballots, with which every call that runs a list on ballots begins. */
+struct said reference_jury(size_t k, size_t d, size_t n, const uint32_t *table, size_t length, const uint8_t *ballots,
+                           size_t ballots_length);
+
 struct said reference_run(size_t k, size_t d, size_t n, const uint32_t *table, size_t length, const uint8_t *ballots,
                           size_t ballots_length, const uint8_t *tape, size_t tape_length, uint8_t *wires,
                           size_t wires_length, uint8_t *board, size_t board_length);

@@ -1,10 +1,9 @@
 #include "text_reference.h"
+#include "kinds.h"
 #include "reference.h"
 #include <stdio.h>
 #include <stdlib.h>
 #include <string.h>
-
-static int uses(uint32_t kind) { return kind < 2 ? 0 : kind < 4 ? 1 : kind < 7 ? 2 : 3; }
 
 static struct text_said refused(size_t reason, size_t place) {
     struct text_said s = {reason, place, 0};
@@ -13,7 +12,7 @@ static struct text_said refused(size_t reason, size_t place) {
 
 static size_t print_line(const uint32_t *gate, char *line) {
     size_t at = (size_t)sprintf(line, "%u", (unsigned)gate[0]);
-    for (int i = 0; i < uses(gate[0]); i++)
+    for (uint32_t i = 0; i < kind_operands[gate[0]]; i++)
         at += (size_t)sprintf(line + at, " %u", (unsigned)gate[1 + i]);
     line[at++] = '\n';
     return at;
@@ -51,16 +50,16 @@ static int line_is_gate(const uint8_t *line, size_t length, uint32_t *gate) {
         return 0;
     memset(gate, 0, 4 * sizeof *gate);
     char *rest = copy;
-    for (int i = 0; i < 4; i++) {
+    for (uint32_t i = 0; i < 4; i++) {
         char *end;
         if (*rest < '0' || *rest > '9')
             return 0;
         unsigned long long value = strtoull(rest, &end, 10);
-        if (value > 4294967295ull || (i == 0 && value > 7))
+        if (value > 4294967295ull || (i == 0 && value >= KINDS))
             return 0;
         gate[i] = (uint32_t)value;
         rest = end;
-        if (i == uses(gate[0]))
+        if (i == kind_operands[gate[0]])
             break;
         if (*rest++ != ' ')
             return 0;

@@ -4,11 +4,12 @@
  *     text_test faults             every pair of faults, and malformed lines
  *     text_test long               as many lines as a list may have, and one more */
 #include "../../c/jugyvaros.h"
-#include "kinds.h"
+#include "random_jury.h"
 #include "reference.h"
 #include "seen.h"
 #include "text_reference.h"
-#include <string.h>
+
+enum { OLD = 0xa5 }; /* what outputs hold before a call */
 
 struct shape {
     size_t k, d, n;
@@ -22,18 +23,15 @@ static void fail(const char *what, const uint8_t *text, size_t length) {
 
 /* Reads a text with both; returns the library's answer. */
 static struct text_said read_both(struct shape s, const uint8_t *text, size_t length, size_t room) {
-    uint8_t *lent = malloc(length + !length);
-    uint32_t *output = malloc(4 * room + !room), *expected = malloc(4 * room + !room);
-    memcpy(lent, text, length);
-    memset(output, 0xa5, 4 * room);
-    memset(expected, 0xa5, 4 * room);
+    uint8_t *given = copy_of(text, length);
+    uint32_t *output = filled(4 * room, OLD), *expected = filled(4 * room, OLD);
     size_t answer[3] = {7, 7, 7};
-    size_t status = seen(jugy_read_text(s.k, s.d, s.n, lent, length, output, room, answer, 3));
+    size_t status = seen(jugy_read_text(s.k, s.d, s.n, given, length, output, room, answer, 3));
     struct text_said is = {answer[0], answer[1], answer[2]};
     struct text_said to_be = reference_read_text(s.k, s.d, s.n, text, length, expected, room);
     if (status != is.reason || memcmp(&is, &to_be, sizeof is) || memcmp(output, expected, 4 * room))
         fail("reading", text, length);
-    free(lent);
+    free(given);
     free(output);
     free(expected);
     return is;
@@ -41,20 +39,17 @@ static struct text_said read_both(struct shape s, const uint8_t *text, size_t le
 
 /* Writes a list with both; the text is in `text` if the call is accepted. */
 static struct text_said write_both(struct shape s, const uint32_t *table, size_t length, size_t room, uint8_t *text) {
-    uint32_t *lent = malloc(4 * length + !length);
-    uint8_t *output = malloc(room + !room), *expected = malloc(room + !room);
-    memcpy(lent, table, 4 * length);
-    memset(output, 0xa5, room);
-    memset(expected, 0xa5, room);
+    uint32_t *given = copy_of(table, 4 * length);
+    uint8_t *output = filled(room, OLD), *expected = filled(room, OLD);
     size_t answer[3] = {7, 7, 7};
-    size_t status = seen(jugy_write_text(s.k, s.d, s.n, lent, length, output, room, answer, 3));
+    size_t status = seen(jugy_write_text(s.k, s.d, s.n, given, length, output, room, answer, 3));
     struct text_said is = {answer[0], answer[1], answer[2]};
     struct text_said to_be = reference_write_text(s.k, s.d, s.n, table, length, expected, room);
     if (status != is.reason || memcmp(&is, &to_be, sizeof is) || memcmp(output, expected, room))
         fail("writing", output, room < 200 ? room : 200);
     if (!is.reason && text)
         memcpy(text, output, is.length);
-    free(lent);
+    free(given);
     free(output);
     free(expected);
     return is;
@@ -80,29 +75,15 @@ static void short_texts(size_t most) {
     }
 }
 
-static uint64_t state;
-
-static size_t below(size_t n) {
-    state ^= state << 13;
-    state ^= state >> 7;
-    state ^= state << 17;
-    return (size_t)(state % n);
-}
-
 static void edits(size_t rounds, uint64_t seed) {
     static const char characters[] = "0123456789 \n\t\r+-x";
     static uint32_t table[4 * 40];
     static uint8_t text[4096];
-    state = seed * 2654435761u + 88172645463325252u;
+    start_random(seed);
     for (size_t round = 0; round < rounds; round++) {
         struct shape s = {1 + below(8), below(4) ? 2 + below(6) : 0, 1 + below(255)};
         size_t gates = s.k + below(30), inputs = ballot_bytes(s.k, s.d, s.n);
-        for (size_t g = 0; g < gates; g++) {
-            uint32_t *gate = table + 4 * g;
-            gate[0] = (uint32_t)below(8);
-            for (size_t i = 0; i < 3; i++)
-                gate[1 + i] = i < kind_operands[gate[0]] ? (uint32_t)below(inputs + g) : 0;
-        }
+        random_list(table, inputs, gates);
         struct text_said wrote = write_both(s, table, 4 * gates, 4096, text);
         if (wrote.reason)
             fail("a good list", text, 0);
@@ -127,7 +108,7 @@ static void edits(size_t rounds, uint64_t seed) {
             }
             read_both(s, edited, kept, 4 * gates + 8);
         }
-        table[below(4 * gates)] = (uint32_t)below(3) ? (uint32_t)below(inputs + 40) : 4294967295u;
+        table[below(4 * gates)] = below(3) ? below(inputs + 40) : 4294967295u;
         write_both(s, table, 4 * gates - below(2), 4096, NULL);
     }
 }
@@ -154,7 +135,7 @@ static void read_faults(size_t grades) {
 
 /* The same for writing: shape, length of the table, gate and output. */
 static void write_faults(size_t grades) {
-    static const uint32_t second[][4] = {{3, 4, 0, 0}, {8, 0, 0, 0}, {2, 5, 0, 0},
+    static const uint32_t second[][4] = {{3, 4, 0, 0}, {KINDS, 0, 0, 0}, {2, 5, 0, 0},
                                          {3, 4, 1, 0}, {7, 1, 2, 4}, {2, 4294967295u, 0, 0}};
     for (size_t g = 0; g < sizeof second / sizeof *second; g++)
         for (size_t k = 2; k <= 9; k += 7)
@@ -205,14 +186,14 @@ static void faults(void) {
 static void longest(void) {
     size_t most = 1048576;
     struct shape s = {8, 7, 255};
-    uint8_t *text = malloc(4 * (most + 1));
+    uint8_t *text = lent(4 * (most + 1));
     for (size_t lines = most; lines <= most + 1; lines++) {
         for (size_t i = 0; i < lines; i++)
             memcpy(text + 4 * i, i % 2 ? "3 7\n" : "2 5\n", 4);
         struct text_said said = read_both(s, text, 4 * lines, 4 * lines);
         if (said.reason != (lines > most ? 2 : 0))
             fail("the longest text", text, 0);
-        uint32_t *table = calloc(4 * lines, 4);
+        uint32_t *table = filled(16 * lines, 0);
         for (size_t i = 0; i < lines; i++)
             table[4 * i] = 2 + i % 2, table[4 * i + 1] = i % 2 ? 7 : 5;
         if (write_both(s, table, 4 * lines, 4 * lines, NULL).reason != (lines > most ? 2 : 0))

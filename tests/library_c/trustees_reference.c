@@ -103,12 +103,9 @@ struct said reference_trustees(size_t k, size_t d, size_t n, const uint32_t *tab
                                const uint8_t *ballots, size_t ballots_length, size_t trustees, const uint8_t *shares,
                                size_t shares_length, const uint8_t *triples, size_t triples_length, uint8_t *wires,
                                size_t wires_length, uint8_t *published, size_t published_length) {
-    struct said s = reference_test(k, d, n, table, table_length);
+    struct said s = reference_jury(k, d, n, table, table_length, ballots, ballots_length);
     if (s.reason)
         return s;
-    struct said counted = reference_count(k, d, n, ballots, ballots_length);
-    if (counted.reason)
-        return counted;
     if (trustees < 2 || trustees > MOST_TRUSTEES)
         return refused(16);
     size_t inputs = ballots_length, all = inputs + s.gates, each = 2 * s.conditional + k;

@@ -56,29 +56,32 @@ static void *another_length(void *buffer, size_t *length, size_t item) {
 }
 
 static void damage(struct call *c) {
-    size_t gates = c->table_length / 4, i = below(TABLES), byte = below((uint32_t)c->ballots_length);
+    size_t gates = c->table_length / 4, i = below(TABLES), byte = below(c->ballots_length);
     switch (below(12)) {
     case 0: c->k = below(2) ? 0 : 9; break;
     case 1: c->table = another_length(c->table, &c->table_length, 4); break;
-    case 2: c->table[4 * below((uint32_t)gates)] = 8 + below(3); break;
+    case 2: c->table[4 * below(gates)] = KINDS + below(3); break;
     case 3: c->ballots = another_length(c->ballots, &c->ballots_length, 1); break;
-    case 4: c->ballots[byte] = (uint8_t)(2 + below(254)); break;
+    case 4:
+        if (c->ballots_length)
+            c->ballots[byte] = (uint8_t)(2 + below(254));
+        break;
     case 5:
         if (can_have_gap(c->k, c->d, c->ballots_length))
             memset(c->ballots, 0, c->k * c->k), c->ballots[1] = 1;
-        else
+        else if (c->ballots_length)
             c->ballots[byte] ^= 1;
         break;
     case 6: c->trustees = below(2) ? 1 - below(2) : 6 + below(200); break;
     case 7: c->tables[i] = another_length(c->tables[i], &c->lengths[i], 1); break;
     case 8:
         if (c->lengths[SHARES])
-            c->tables[SHARES][below((uint32_t)c->lengths[SHARES])] ^= (uint8_t)(1 + below(3));
+            c->tables[SHARES][below(c->lengths[SHARES])] ^= (uint8_t)(1 + below(3));
         break;
     case 9:
     case 10:
         if (c->lengths[TRIPLES])
-            c->tables[TRIPLES][below((uint32_t)c->lengths[TRIPLES])] ^= (uint8_t)(1 + below(3));
+            c->tables[TRIPLES][below(c->lengths[TRIPLES])] ^= (uint8_t)(1 + below(3));
         break;
     default: c->answer_length = below(JUGY_TRUSTEES_ANSWER); break;
     }

@@ -72,6 +72,11 @@ static Found look(size_t k, size_t d, const uint8_t *urn, size_t length, size_t 
     return found;
 }
 
+size_t urn_ballots(size_t k, size_t d, const uint8_t *urn, size_t length) {
+    Found found = look(k, d, urn, length, 0);
+    return found.sound ? found.ballots : UNSOUND_URN;
+}
+
 size_t urn_empty(size_t k, size_t d, uint8_t *urn, size_t length, size_t *answer, size_t answer_length) {
     if (answer_length < 3)
         return SHORT_ANSWER;

@@ -6,6 +6,11 @@
 #include <stddef.h>
 #include <stdint.h>
 
+enum { UNSOUND_URN = 256 };
+
+/* The number of ballots in an urn for a graded shape, or UNSOUND_URN. */
+size_t urn_ballots(size_t k, size_t d, const uint8_t *urn, size_t length);
+
 size_t urn_empty(size_t k, size_t d, uint8_t *urn, size_t length, size_t *answer, size_t answer_length);
 size_t urn_admit(size_t k, size_t d, uint8_t *urn, size_t length, size_t juror, const uint8_t *ballot,
                  size_t ballot_length, size_t *answer, size_t answer_length);

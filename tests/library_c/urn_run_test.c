@@ -4,6 +4,7 @@
  * has changed. */
 #include "../../c/jugyvaros.h"
 #include "random_jury.h"
+#include "reference.h"
 #include "seen.h"
 
 static void expect(int holds, const char *what) {
@@ -45,10 +46,10 @@ static void one_call(size_t k, size_t d, size_t n, const uint8_t *urn, size_t le
     uint32_t *table = filled(4 * numbers, 0);
     for (size_t g = 0; g < gates && 4 * g + 3 < numbers; g++) {
         uint32_t own = (uint32_t)(n * k * d + g);
-        table[4 * g] = 4 + (uint32_t)below(3);
+        table[4 * g] = 4 + below(3);
         table[4 * g + 1] = below(40) ? below(own) : own;
         table[4 * g + 2] = below(own);
-        c += table[4 * g] != 6;
+        c += kind_conditional[table[4 * g]];
     }
     size_t tape_length = about(c), wires_length = about(n * k * d + gates), board_length = about(c + k);
     uint8_t *tape = filled(tape_length, (uint8_t)(below(30) ? below(2) : 2));
@@ -98,7 +99,7 @@ int main(int count, char **words) {
             urn[i * size] = (uint8_t)(i + 1);
         fill(k, d, urn, length, below(12));
         if (!below(4))
-            urn[below((uint32_t)length)] = (uint8_t)below(256);
+            urn[below(length)] = (uint8_t)below(256);
         many = 1;
         if (is_sound(k, d, urn, length)) {
             chain = chain_of(k, d, urn, &many);

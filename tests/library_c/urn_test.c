@@ -58,9 +58,7 @@ int main(int count, char **words) {
     for (int r = 0; r < rounds; r++) {
         size_t k = below(10), d = below(9), size = 2 + k * d, slots = below(5) ? 2 + below(6) : 1 + below(257);
         size_t length = slots * size + (below(8) ? 0 : below(3));
-        uint8_t *urn = lent(length);
-        for (size_t i = 0; i < length; i++)
-            urn[i] = (uint8_t)below(256);
+        uint8_t *urn = noise(length);
         size_t said[JUGY_URN_ANSWER], right[JUGY_URN_ANSWER];
         uint8_t *copy = copy_of(urn, length);
         seen(jugy_empty_urn(k, d, urn, length, said, JUGY_URN_ANSWER));
@@ -71,7 +69,7 @@ int main(int count, char **words) {
         for (int i = 0; i < 30; i++) {
             one_call(k, d, urn, length);
             if (!below(25))
-                urn[below((uint32_t)length)] = (uint8_t)below(256);
+                urn[below(length)] = (uint8_t)below(256);
         }
         free(urn);
     }

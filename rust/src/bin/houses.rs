@@ -40,11 +40,17 @@ impl Plan {
         Ok(Plan { houses, levels: list.levels(), rounds: list.rounds(), list, wait })
     }
 
+    /// Whether a gate is conditional: only then is its level above those of its operands. An unused operand is 0,
+    /// a ballot byte, whose level is 0.
+    fn is_conditional(&self, g: usize) -> bool {
+        let level = |&wire: &u32| (wire as usize).checked_sub(self.list.inputs()).map_or(0, |gate| self.levels[gate]);
+        self.list.table()[4 * g + 1..4 * g + 4].iter().all(|wire| level(wire) < self.levels[g])
+    }
+
     /// Which of a trustee's published bits are new after a round, by their places.
     fn places(&self, round: usize) -> Vec<usize> {
-        let conditional = |&g: &usize| matches!(self.list.table()[4 * g], 4 | 5 | 7);
         let mut places: Vec<usize> = (0..self.list.gates())
-            .filter(conditional)
+            .filter(|&g| self.is_conditional(g))
             .enumerate()
             .filter(|&(_, g)| self.levels[g] as usize == round + 1)
             .flat_map(|(i, _)| [2 * i, 2 * i + 1])
