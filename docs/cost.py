@@ -56,10 +56,10 @@ def lent(shape, costs):
 HEAD = """# What a jury costs
 
 `python3 docs/cost.py` makes this page from the lists that the core writes, and `tests/library` fails if it is out of
-date. Whoever evaluates a list under encryption pays one opening for each conditional gate, so C is the price of a jury.
-Rounds are the multiplicative depth, the longest chain of conditional gates: gates of one depth can be opened together.
-The last three columns compare with the protocol of Cortier, Gaudry and Yang (CGY). Below the table are the formulas; the
-[glossary](../README.md#words) has the other letters.
+date. Whoever evaluates a list under encryption pays one opening for each conditional gate, so C is the price of a
+jury. Rounds are the multiplicative depth, the longest chain of conditional gates: gates of one depth can be opened
+together. The last three columns compare with the protocol of Cortier, Gaudry and Yang (CGY). The formulas are below
+the table; the [glossary](../README.md#words) has the other letters.
 """
 NOTES = """
 - **Bound on G**: 2kdnw + kd(30w + 20) + k²(20w + 6d + 20) + 2 + kd(400w + 400).
