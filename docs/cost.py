@@ -56,15 +56,16 @@ def lent(shape, costs):
 HEAD = """# What a jury costs
 
 `python3 docs/cost.py` makes this page from the lists that the core writes, and `tests/library` fails if it is out of
-date. Each conditional gate costs the sealing layer one opening, so C is the price of a jury. Rounds are the
-multiplicative depth, the longest chain of conditional gates: gates of one depth can be opened together. The
-[glossary](../README.md#words) has the other letters.
+date. Whoever evaluates a list under encryption pays one opening for each conditional gate, so C is the price of a
+jury. Rounds are the multiplicative depth, the longest chain of conditional gates: gates of one depth can be opened
+together. The last three columns compare with the protocol of Cortier, Gaudry and Yang (CGY). The formulas are below
+the table; the [glossary](../README.md#words) has the other letters.
 """
 NOTES = """
 - **Bound on G**: 2kdnw + kd(30w + 20) + k²(20w + 6d + 20) + 2 + kd(400w + 400).
 - **CGY's gates**: Cortier, Gaudry and Yang (A toolbox for verifiable tally-hiding e-voting systems, 2021) evaluate
-  majority judgment under ElGamal encryption. With a authorities it costs them 60nkda + 40kmda(10 + d) exponentiations
-  (figure 3), where m is our width w, and a conditional gate costs 20a (figure 9). So it costs as much as
+  majority judgment under ElGamal encryption. For A authorities it costs them 60nkdA + 40kmdA(10 + d) exponentiations
+  (their figure 3); m is our width w. A conditional gate costs 20A (their figure 9). So it costs as much as
   3nkd + 2kmd(10 + d) conditional gates. They give leading terms only.
 - **CGY's rounds**: the communications in the same row, read as the sum m(m + 1) + d(6m + 2 log k log m). The first
   term is for the aggregation.
@@ -77,8 +78,8 @@ END = """
 
 ![C against n](cost.svg)
 """
-COLUMNS = ["k d n", "G", "C", "rounds", "I", "list, bytes", "a run is lent, bytes", "bound on G", "G of the bound"]
-SOURCE_COLUMNS = ["CGY's gates", "C of CGY's", "CGY's rounds"]
+COLUMNS = ["k d n", "G", "C", "rounds", "I", "list, bytes", "a run is lent, bytes", "bound on G", "G / bound"]
+SOURCE_COLUMNS = ["CGY's gates", "C / CGY's gates", "CGY's rounds"]
 
 
 def row(cells):
