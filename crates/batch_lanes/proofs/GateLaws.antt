@@ -8,11 +8,10 @@ use lib.Bits.{bitXor}
 use lib.Dec.{T}
 use lib.ListN.{getD, set}
 use Rattle.gates.specs.Kind.{conditionalOf, valueOf}
-use Rattle.gates.specs.Gate.{Gate}
+use Rattle.gates.specs.Gate.{Gate, gateAt}
 use Rattle.gates.specs.Wires.{value}
 use Rattle.gates.specs.Board.{conditionalCount, shownBit}
 use Rattle.gates.specs.Test.{goodGate}
-use Rattle.gates.specs.inner.Step.{gateAt}
 use Rattle.gates.proofs.Counting.{count-one}
 use Rattle.gates.proofs.Goodness.{GoodGate, good-gate}
 use Rattle.gates.proofs.Reading.{gate-numbers}

@@ -9,10 +9,11 @@ use lib.ListN.{length, getD, set}
 use Rattle.gates.specs.Kind.{conditionalOf}
 use Rattle.gates.specs.Wires.{value}
 use Rattle.gates.specs.Board.{conditionalCount, shownBit}
-use Rattle.gates.specs.inner.Step.{StepReady, GateReady, rangeOf, stepWires, stepBoard, gateAt}
+use Rattle.gates.specs.inner.Step.{StepReady, GateReady, rangeOf, stepWires, stepBoard}
 use Rattle.gates.proofs.Stepping.{Left, next-ready, left-turn, left-as, left-end}
 use Rattle.gates.proofs.Whole.{left-start}
 use Rattle.batch_lanes.specs.Lane.{laneCount, laneOf}
+use Rattle.gates.specs.Gate.{gateAt}
 use Rattle.batch_lanes.proofs.ListLaws.{lanes-length}
 
 -- The invariant in lane j.

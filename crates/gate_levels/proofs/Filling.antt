@@ -12,8 +12,7 @@ use lib.ListN.{length, getD, take, drop, length-append, drop-of-length-le}
 use lib.Seq.{getD-take, take-all, length-take-le, getD-append-seam}
 use borrow.Author.Tests.{ltb-false}
 use Rattle.gates.specs.Kind.{conditionalOf}
-use Rattle.gates.specs.Gate.{Gate, gatesOf}
-use Rattle.gates.specs.inner.Step.{gateAt}
+use Rattle.gates.specs.Gate.{Gate, gatesOf, gateAt}
 use Rattle.gates.specs.Test.{firstBad}
 use Rattle.gates.specs.declared.place.Place.the-variants.{Nowhere}
 use Rattle.gates.proofs.Table.{length-gates, gates-from}

@@ -7,10 +7,9 @@ use Prim.Native.Nat.{ℕ, suc, _+_, _≤_, _<_}
 use native.Mathlib.Omega.{arith}
 use lib.ListN.{length, drop, drop-of-length-le}
 use Rattle.gates.specs.Open.Kind.{conditionalOf}
-use Rattle.gates.specs.Open.Gate.{Gate, gatesOf}
+use Rattle.gates.specs.Open.Gate.{Gate, gatesOf, gateAt}
 use Rattle.gates.specs.Open.Board.{conditionalCount}
 use Rattle.gates.specs.Open.Test.{goodGate, firstBad, judged}
-use Rattle.gates.specs.Open.Step.{gateAt}
 use Rattle.gates.specs.declared.place.Place.{Place}
 use Rattle.gates.specs.declared.place.Place.the-variants.{At}
 use Rattle.gates.specs.declared.list.ListCheck.{ListCheck}

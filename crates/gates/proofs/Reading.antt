@@ -9,8 +9,7 @@ use lib.Dec.{T, ltb, eqb→eq}
 use lib.ListN.{length, getD}
 use borrow.Author.Tests.{ltb-true, lt-ltb, eq-eqb}
 use Rattle.gates.specs.Open.Kind.{operandsOf}
-use Rattle.gates.specs.Open.Gate.{Gate, gatesOf, numbersOf}
-use Rattle.gates.specs.Open.Step.{gateAt}
+use Rattle.gates.specs.Open.Gate.{Gate, gatesOf, numbersOf, gateAt}
 use Rattle.gates.specs.Open.Test.{goodOperand, goodGate, firstBad}
 use Rattle.gates.specs.declared.place.Place.the-variants.{At, Nowhere}
 use Rattle.gates.proofs.Goodness.{and-left, and-right, good-gate}

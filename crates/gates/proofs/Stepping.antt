@@ -11,11 +11,11 @@ use lib.Dec.{T}
 use lib.ListN.{length, getD, take, drop, set, length-set, take-append-drop, List·getD-append}
 use lib.Seq.{take-suc-set, drop-set-lt, drop-cons, getD-take, sets, length-take-le}
 use Rattle.gates.specs.Open.Kind.{conditionalOf, operandsOf}
-use Rattle.gates.specs.Open.Gate.{Gate, gatesOf}
+use Rattle.gates.specs.Open.Gate.{Gate, gatesOf, gateAt}
 use Rattle.gates.specs.Open.Wires.{wire, value, wiresOf}
 use Rattle.gates.specs.Open.Board.{conditionals, conditionalCount, shownBit, shownBits}
 use Rattle.gates.specs.Open.Test.{goodGate, firstBad}
-use Rattle.gates.specs.Open.Step.{gateAt, rangeOf, stepWires, GateReady}
+use Rattle.gates.specs.Open.Step.{rangeOf, stepWires, GateReady}
 use Rattle.gates.specs.declared.place.Place.the-variants.{At, Nowhere}
 use Rattle.gates.proofs.KindLaws.{each-kind}
 use Rattle.gates.proofs.Table.{gates-from, length-gates}

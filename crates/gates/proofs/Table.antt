@@ -8,8 +8,7 @@ use native.Mathlib.Numerals.{add-four}
 use native.Mathlib.Omega.{arith}
 use lib.ListN.{length, getD, drop}
 use lib.Seq.{drop-cons}
-use Rattle.gates.specs.Open.Gate.{Gate, gatesOf}
-use Rattle.gates.specs.Open.Step.{gateAt}
+use Rattle.gates.specs.Open.Gate.{Gate, gatesOf, gateAt}
 
 pub length-gates : (t : List ℕ) → length (gatesOf t) ≡ length t / 4
 unfolding gatesOf

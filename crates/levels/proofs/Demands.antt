@@ -10,8 +10,7 @@ use native.Mathlib.Omega.{arith}
 use lib.Dec.{T}
 use lib.ListN.{length, getD, drop}
 use Rattle.gates.specs.Kind.{conditionalOf}
-use Rattle.gates.specs.Gate.{Gate, gatesOf}
-use Rattle.gates.specs.inner.Step.{gateAt}
+use Rattle.gates.specs.Gate.{Gate, gatesOf, gateAt}
 use Rattle.gates.proofs.Table.{gates-from}
 use Rattle.gates.proofs.Laws.{AllGood, all-good}
 use Rattle.gate_levels.specs.Levels.{wireLevel, gateLevel, levelsOf, roundsOf}

@@ -6,8 +6,7 @@ use mathlib.Core.List.{List, [], _∷_}
 use Prim.Native.Nat.{ℕ, _≤_, _<_}
 use lib.ListN.{getD}
 use Rattle.gates.specs.Kind.{conditionalOf}
-use Rattle.gates.specs.Gate.{gatesOf}
-use Rattle.gates.specs.inner.Step.{gateAt}
+use Rattle.gates.specs.Gate.{gatesOf, gateAt}
 use Rattle.gate_levels.specs.Levels.{wireLevel}
 use Rattle.jury.specs.declared.shape.Shape.{Shape}
 use Rattle.jury.specs.Shape.{ballotBytes}

@@ -11,9 +11,8 @@ use lib.Dec.{T}
 use lib.ListN.{length, take, drop, set, length-append, drop-of-length-le}
 use lib.Seq.{getD-take, take-all, length-take-le, take-suc-set, sets}
 use Rattle.gates.specs.Kind.{conditionalOf}
-use Rattle.gates.specs.Gate.{Gate, gatesOf}
+use Rattle.gates.specs.Gate.{Gate, gatesOf, gateAt}
 use Rattle.gates.specs.Board.{conditionalCount}
-use Rattle.gates.specs.inner.Step.{gateAt}
 use Rattle.gates.specs.Test.{goodGate, firstBad}
 use Rattle.gates.specs.declared.place.Place.the-variants.{Nowhere}
 use Rattle.gates.proofs.Table.{gates-from}

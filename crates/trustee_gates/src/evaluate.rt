@@ -8,8 +8,8 @@ use gates::kind;
 ghost use mathlib.Core.Path.{_≡_};
 ghost use Prim.Native.Nat.{_+_, _*_, _<_};
 ghost use lib.ListN.{length};
-ghost use Rattle.gates.specs.inner.Step.{gateAt};
 ghost use Rattle.trustee_gates.specs.inner.Gate.{gateOfNumbers};
+ghost use Rattle.gates.specs.Gate.{gateAt};
 ghost use Rattle.trustee_gates.specs.inner.Evaluate.{RunReady, EvaluateReady, GatesRan, Evaluated};
 
 // Gate g of a table.

@@ -11,9 +11,8 @@ use lib.Dec.{eqb}
 use lib.ListN.{length, getD, drop, take, set, length-set, drop-of-length-le}
 use lib.Seq.{sets, length-sets, take-all}
 use Rattle.gates.specs.Kind.{conditionalOf}
-use Rattle.gates.specs.Gate.{Gate, gatesOf}
+use Rattle.gates.specs.Gate.{Gate, gatesOf, gateAt}
 use Rattle.gates.specs.Board.{conditionalCount}
-use Rattle.gates.specs.inner.Step.{gateAt}
 use Rattle.gates.specs.Test.{firstBad}
 use Rattle.gates.specs.declared.place.Place.the-variants.{Nowhere}
 use Rattle.gates.proofs.Table.{gates-from}

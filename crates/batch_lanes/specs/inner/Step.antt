@@ -7,7 +7,8 @@ use lib.ListN.{length, getD, set}
 use Rattle.gates.specs.Kind.{conditionalMarks, conditionalOf}
 use Rattle.gates.specs.Wires.{value}
 use Rattle.gates.specs.Board.{conditionalCount, shownBit}
-use Rattle.gates.specs.inner.Step.{GateReady, rangeOf, stepWires, stepBoard, gateAt}
+use Rattle.gates.specs.inner.Step.{GateReady, rangeOf, stepWires, stepBoard}
+use Rattle.gates.specs.Gate.{gateAt}
 use Rattle.batch_lanes.specs.Lane.{laneCount, laneOf}
 
 -- What running one gate requires: `marks` are the conditional marks of all kinds, and the gate is ready.

@@ -3,8 +3,7 @@ use mathlib.Core.Path.{_≡_}
 use mathlib.Core.List.{List}
 use Prim.Native.Nat.{ℕ, _+_, _*_, _≤_, _<_}
 use lib.ListN.{length, getD}
-use Rattle.gates.specs.Gate.{gatesOf}
-use Rattle.gates.specs.inner.Step.{gateAt}
+use Rattle.gates.specs.Gate.{gatesOf, gateAt}
 use Rattle.gates.specs.Test.{firstBad}
 use Rattle.gates.specs.declared.place.Place.the-variants.{Nowhere}
 use Rattle.gate_levels.specs.Levels.{levelsOf, roundsOf}

@@ -1,6 +1,7 @@
 -- Gates, and the table of numbers that holds a list of them.
 use mathlib.Core.List.{List, [], _∷_}
-use Prim.Native.Nat.{ℕ}
+use Prim.Native.Nat.{ℕ, _+_, _*_}
+use lib.ListN.{getD}
 
 -- A gate: its kind and its three operands.
 pub record Gate : Type 0 where
@@ -21,3 +22,14 @@ gatesOf (k ∷ a ∷ b ∷ c ∷ t) = record { kind = k; a = a; b = b; c = c } �
 unfoldable pub numbersOf : List Gate → List ℕ
 numbersOf [] = []
 numbersOf (g ∷ gs) = g .kind ∷ g .a ∷ g .b ∷ g .c ∷ numbersOf gs
+
+-- Gate g of a table: the four numbers from place 4 g on.
+unfoldable pub gateAt : List ℕ → ℕ → Gate
+gateAt table g =
+    record {
+      kind =
+          getD table (4 * g) 0;
+      a = getD table (4 * g + 1) 0;
+      b = getD table (4 * g + 2) 0;
+      c = getD table (4 * g + 3) 0;
+    }

@@ -7,7 +7,7 @@ use lib.Dec.{T}
 use lib.ListN.{length, getD, take, drop, set}
 use lib.Seq.{sets}
 use Rattle.gates.specs.Open.Kind.{conditionalOf}
-use Rattle.gates.specs.Open.Gate.{Gate, gatesOf}
+use Rattle.gates.specs.Open.Gate.{Gate, gatesOf, gateAt}
 use Rattle.gates.specs.Open.Wires.{wiresOf, value}
 use Rattle.gates.specs.Open.Board.{conditionalCount, shownBit, shownBits, boardOf}
 use Rattle.gates.specs.Open.Test.{goodGate, firstBad}
@@ -49,17 +49,6 @@ pub record FinishReady (inputs : ℕ) (table : List ℕ) (k : ℕ) (tape ws boar
 -- What running a whole list on these inputs asks: the same.
 abbrev pub RunReady : List ℕ → List ℕ → ℕ → List ℕ → List ℕ → List ℕ → Type 0
 RunReady inputs table k tape ws board = FinishReady (length inputs) table k tape ws board
-
--- Gate g of a table: the four numbers from place 4 g on.
-unfoldable pub gateAt : List ℕ → ℕ → Gate
-gateAt table g =
-    record {
-      kind =
-          getD table (4 * g) 0;
-      a = getD table (4 * g + 1) 0;
-      b = getD table (4 * g + 2) 0;
-      c = getD table (4 * g + 3) 0;
-    }
 
 -- What evaluating gate g asks: it is in the table and good for its wire `own`, and its wire, tape byte and board
 -- byte exist. `shown` is the number of bits shown before it.

@@ -9,10 +9,10 @@ use native.Mathlib.Omega.{arith}
 use lib.ListN.{getD}
 use borrow.Author.Needs.{needs}
 use Rattle.gates.specs.Board.{conditionalCount}
-use Rattle.gates.specs.inner.Step.{gateAt}
 use Rattle.gates.proofs.Goodness.{GoodGate}
 use Rattle.batch_lanes.proofs.GateLaws.{gate, good-numbers, count-is, gate-wires, with-word, without-word}
 use Rattle.batch_lanes.proofs.step.run_gate.Statement.{statement}
+use Rattle.gates.specs.Gate.{gateAt}
 use Rattle.batch_lanes.proofs.step.run_gate.Tie as tie
 
 good : (c : tie.Start) → let a = c .args in

@@ -8,10 +8,9 @@ use native.Mathlib.Nat.{zero-add}
 use native.Mathlib.Numerals.{add-one}
 use lib.ListN.{length, getD, drop}
 use borrow.Author.Tests.{not-true, not-false}
-use Rattle.gates.specs.Open.Gate.{gatesOf}
+use Rattle.gates.specs.Open.Gate.{gatesOf, gateAt}
 use Rattle.gates.specs.Open.Board.{conditionalCount}
 use Rattle.gates.specs.Open.Test.{judged, firstBad}
-use Rattle.gates.specs.Open.Step.{gateAt}
 use Rattle.gates.specs.declared.list.ListCheck.{ListCheck}
 use Rattle.gates.proofs.Table.{length-gates}
 use Rattle.gates.proofs.Counting.{mark-at-most-one}

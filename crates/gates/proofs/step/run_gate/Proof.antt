@@ -9,10 +9,9 @@ use native.Mathlib.Omega.{arith}
 use lib.ListN.{getD, set}
 use borrow.Author.Needs.{needs}
 use Rattle.gates.specs.Open.Kind.{conditionalOf}
-use Rattle.gates.specs.Open.Gate.{Gate}
+use Rattle.gates.specs.Open.Gate.{Gate, gateAt}
 use Rattle.gates.specs.Open.Wires.{wire, value}
 use Rattle.gates.specs.Open.Board.{conditionalCount, shownBit}
-use Rattle.gates.specs.Open.Step.{gateAt}
 use Rattle.gates.proofs.Counting.{count-one}
 use Rattle.gates.proofs.Goodness.{GoodGate, good-gate}
 use Rattle.gates.proofs.step.run_gate.Statement.{statement}
