@@ -3,7 +3,7 @@ ghost use mathlib.Core.Path.{_≡_};
 ghost use Prim.Native.Nat.{ℕ, _+_, _<_};
 ghost use lib.Dec.{eqb};
 ghost use lib.ListN.{length};
-ghost use Rattle.gates.specs.Kind.{valueOf};
+ghost use Rattle.gates.specs.Kind.{valueOf, kindCount};
 ghost use Rattle.batch_lanes.specs.Lane.{laneCount, lane};
 
 // A word whose 64 bits are all 1.
@@ -11,7 +11,7 @@ pub const ALL: u64 = 18446744073709551615;
 
 // The value of a kind in all lanes at once. A choice is b in the lanes where a is 1, and c in the others.
 pub fn value(kind: u32, a: u64, b: u64, c: u64) -> u64
-    requires { ⌜ kind < 8 ⌝ }
+    requires { ⌜ kind < kindCount ⌝ }
     ensures { λ r. ⌜ ((j : ℕ) → j < laneCount → lane j r ≡ valueOf kind (lane j a) (lane j b) (lane j c)) ⌝ }
 {
     match kind {

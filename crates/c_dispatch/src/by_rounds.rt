@@ -12,6 +12,7 @@ ghost use Rattle.dispatch_rounds.specs.Tables.{tablesOf};
 ghost use Rattle.dispatch.specs.Reasons.{verdictReason};
 ghost use Rattle.c_answers.specs.Numbers.{answerNumbers};
 ghost use Rattle.c_answers.specs.inner.Puts.{Puts};
+ghost use Rattle.dispatch_rounds.specs.Rounds.{mostJuries};
 ghost use Rattle.c_dispatch.specs.Numbers.{headerAt, headersIn, dispatchAnswer, dispatchCall};
 
 // The length of the answer: reason, place and eight numbers of rounds.
@@ -26,7 +27,7 @@ fn number_at(numbers: &[usize], i: usize) -> usize
 
 // Jury j's header.
 fn header_at(numbers: &[usize], j: usize) -> JuryHeader
-    requires { ⌜ j < 8 ⌝ }
+    requires { ⌜ j < mostJuries ⌝ }
     ensures { λ r. ⌜ r ≡ headerAt (now (numbers .entry)) j ⌝ }
 {
     let at = 4 * j;

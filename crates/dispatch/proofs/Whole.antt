@@ -27,7 +27,7 @@ use Rattle.dispatch.specs.Reasons.{dispatchReasons}
 use Rattle.dispatch.specs.NoIdleRound.{juryAt, GetsGate}
 use Rattle.dispatch_rounds.specs.Rounds.{boardAfter, juryWires, juryBoard, juryShown, wiresGiven, boardsGiven, eightOf, BoardsLong, RoundState}
 use Rattle.dispatch.specs.Result.{runBoard, zeroWires, DispatchResult, dispatchResultAfter, dispatchResult}
-use Rattle.dispatch.specs.inner.Rounds.{wireBytes, mostGates, pieceConditional}
+use Rattle.dispatch.specs.inner.Rounds.{wireBytes, longestList, pieceConditional}
 use Rattle.dispatch_rounds.proofs.Pieces.{eight-zeros}
 use Rattle.dispatch_rounds.proofs.Passed.{jury-passed, first-accepted}
 use Rattle.dispatch_rounds.proofs.JuryStates.{after-all, jury-wires-long, wires-before, board-before}
@@ -80,26 +80,26 @@ shown-start ss t few = eight-zeros (juryShown 0) none-shown ss t few
         ∙ count-nil)
 
 -- a bound for the gates of all juries
-pub few-gates : (j : ℕ) (ss : List JuryHeader) (t : Tables) → firstOf (juryReasons j ss t) ≡ none → mostGates ss ≤ 1048576
-unfolding mostGates
+pub few-gates : (j : ℕ) (ss : List JuryHeader) (t : Tables) → firstOf (juryReasons j ss t) ≡ none → longestList ss ≤ 1048576
+unfolding longestList
 few-gates j [] t e = omega arith
 few-gates j (s ∷ ss) t e =
     let a = first-accepted j s ss t e in
     omega (arith, jury-passed s t (a .0) .few-gates, few-gates (suc j) ss (remaining s t) (a .1))
 
 -- the same bound for the juries from j on
-pub most-left : (j : ℕ) (ss : List JuryHeader) → mostGates (drop j ss) ≤ mostGates ss
-unfolding mostGates
+pub most-left : (j : ℕ) (ss : List JuryHeader) → longestList (drop j ss) ≤ longestList ss
+unfolding longestList
 most-left zero ss = omega arith
 most-left (suc j) [] = omega arith
 most-left (suc j) (s ∷ ss) = omega (arith, most-left j ss)
 
-pub most-first : (s : JuryHeader) (ss : List JuryHeader) → mostGates (s ∷ ss) ≡ max (s .gates) (mostGates ss)
-unfolding mostGates
+pub most-first : (s : JuryHeader) (ss : List JuryHeader) → longestList (s ∷ ss) ≡ max (s .gates) (longestList ss)
+unfolding longestList
 most-first s ss = refl
 
-pub most-none : mostGates [] ≡ 0
-unfolding mostGates
+pub most-none : longestList [] ≡ 0
+unfolding longestList
 most-none = refl
 
 -- a jury that has done all its gates has the board of an undivided run
@@ -114,9 +114,9 @@ board-all given s t e h =
     ∙ after-all (p .ballots) gs (s .candidates) (p .tapes) (s .gates) (p .boards) (omega (arith, k .gates))
     ∙ sym (ap (λ (r : RunResult). r .board) (ran-by (headerShape s) (p .lists) (p .ballots) (p .tapes) (p .wires) (p .boards) none e))
 
-pub boards-end : (given j : ℕ) (ss : List JuryHeader) (t : Tables) → firstOf (juryReasons j ss t) ≡ none → mostGates ss ≤ given
+pub boards-end : (given j : ℕ) (ss : List JuryHeader) (t : Tables) → firstOf (juryReasons j ss t) ≡ none → longestList ss ≤ given
     → boardsGiven given ss t ≡ through runBoard (λ (t : Tables). t .boards) ss t
-unfolding boardsGiven through mostGates
+unfolding boardsGiven through longestList
 boards-end given j [] t e h = refl
 boards-end given j (s ∷ ss) t e h =
     let a = first-accepted j s ss t e in
@@ -185,14 +185,14 @@ pub same-result : (x y : DispatchResult) → x .reason ≡ y .reason → x .roun
 same-result x y a b c d = rw (a, b, c, d) refl
 
 -- while a jury has gates left, a round gives some jury a gate
-some-jury : (n : ℕ) (ss : List JuryHeader) → n < mostGates ss → (j : ℕ) × (j < length ss) × (n < juryAt j ss .gates)
-unfolding mostGates
+some-jury : (n : ℕ) (ss : List JuryHeader) → n < longestList ss → (j : ℕ) × (j < length ss) × (n < juryAt j ss .gates)
+unfolding longestList
 some-jury n [] h = absurd (omega arith)
 some-jury n (s ∷ ss) h =
     ⊎-elim (λ l. (0, omega arith, l))
     (λ l. let r = some-jury n ss (omega (arith, l)) in (suc (r .0), omega (arith, r .1), r .2)) (below-or-not n (s .gates))
 
-pub gets-gate : (gatesPerRound r : ℕ) (ss : List JuryHeader) → 1 ≤ gatesPerRound → r * gatesPerRound < mostGates ss
+pub gets-gate : (gatesPerRound r : ℕ) (ss : List JuryHeader) → 1 ≤ gatesPerRound → r * gatesPerRound < longestList ss
     → (j : ℕ) × (j < length ss) × GetsGate gatesPerRound r ss j
 gets-gate gatesPerRound r ss h l =
     let f = some-jury (r * gatesPerRound) ss l in (f .0, f .1, more (juryAt (f .0) ss .gates) (f .2))

@@ -5,6 +5,7 @@ use mathlib.Core.List.{List, _∷_}
 use lib.Dec.{leb}
 use Rattle.jury.specs.Reason.{Reason, reasonAt, reasonOf, unless}
 use Rattle.dispatch_rounds.specs.Reasons.{juryReasons}
+use Rattle.dispatch_rounds.specs.Rounds.{mostJuries, mostGatesPerRound}
 use Rattle.dispatch.specs.Call.{Call, juriesIn}
 use Rattle.dispatch.specs.declared.verdict.JuriesVerdict.{JuriesVerdict}
 use Rattle.dispatch.specs.declared.verdict.JuriesVerdict.the-variants.{Accepted, Refused}
@@ -12,8 +13,8 @@ use Rattle.dispatch.specs.declared.verdict.JuriesVerdict.the-variants.{A
 -- All reasons: 19 for the number of juries, 20 for the gates per round, then those of the juries.
 unfoldable pub dispatchReasons : Call → List (Option Reason)
 dispatchReasons c =
-    unless (leb 1 (c .count) && leb (c .count) 8) 19
-    ∷ unless (leb 1 (c .gatesPerRound) && leb (c .gatesPerRound) 65536) 20
+    unless (leb 1 (c .count) && leb (c .count) mostJuries) 19
+    ∷ unless (leb 1 (c .gatesPerRound) && leb (c .gatesPerRound) mostGatesPerRound) 20
     ∷ juryReasons 0 (juriesIn c) (c .tables)
 
 -- The number and place of each case of the program's enum.

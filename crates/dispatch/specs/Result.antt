@@ -9,7 +9,7 @@ use Rattle.dispatch_rounds.specs.declared.header.JuryHeader.{JuryHeader}
 use Rattle.dispatch_rounds.specs.Tables.{Tables, headerShape, through}
 use Rattle.dispatch.specs.Call.{Call, juriesIn}
 use Rattle.dispatch.specs.Reasons.{dispatchReasons}
-use Rattle.dispatch_rounds.specs.Rounds.{eightOf, roundsFor}
+use Rattle.dispatch_rounds.specs.Rounds.{eightOf, roundsFor, mostJuries}
 
 -- The board that an undivided run leaves on a jury's pieces.
 unfoldable pub runBoard : JuryHeader → Tables → List ℕ
@@ -30,7 +30,7 @@ pub record DispatchResult : Type 0 where
 -- wires (request 2.13) and leaves the boards of undivided runs. What follows the last jury's piece stays.
 unfoldable pub dispatchResultAfter : Option Reason → Call → DispatchResult
 dispatchResultAfter (some r) c =
-    record { reason = some r; rounds = replicate 8 0; wires = c .tables .wires; boards = c .tables .boards }
+    record { reason = some r; rounds = replicate mostJuries 0; wires = c .tables .wires; boards = c .tables .boards }
 dispatchResultAfter none c =
     record {
       reason = none;

@@ -17,7 +17,7 @@ use Rattle.tally.specs.Memory.{Lent, KeepsMemory}
 use Rattle.tally.specs.Demands.{listIn}
 use Rattle.dispatch_rounds.specs.declared.header.JuryHeader.{JuryHeader}
 use Rattle.dispatch_rounds.specs.Tables.{Tables, tablesOf, headerShape, piecesOf, remaining}
-use Rattle.dispatch_rounds.specs.Rounds.{roundsFor}
+use Rattle.dispatch_rounds.specs.Rounds.{roundsFor, mostJuries, mostGatesPerRound}
 use Rattle.dispatch.specs.Call.{Call, juriesIn}
 use Rattle.dispatch.specs.Result.{runBoard, dispatchResult}
 use Rattle.dispatch.specs.NoIdleRound.{juryAt, AllDone, NoIdleRound}
@@ -121,11 +121,11 @@ pub record FirstRefused (ss : List JuryHeader) (t : Tables) (r : Reason) : Type 
 
 -- There are one to eight juries.
 abbrev pub JuriesFit : Call → Type 0
-JuriesFit c = (1 ≤ c .count) × (c .count ≤ 8)
+JuriesFit c = (1 ≤ c .count) × (c .count ≤ mostJuries)
 
 -- S is 1 to 65,536.
 abbrev pub GatesPerRoundFit : Call → Type 0
-GatesPerRoundFit c = (1 ≤ c .gatesPerRound) × (c .gatesPerRound ≤ 65536)
+GatesPerRoundFit c = (1 ≤ c .gatesPerRound) × (c .gatesPerRound ≤ mostGatesPerRound)
 
 -- A call is accepted iff both numbers fit and an undivided run on each jury's pieces is accepted.
 abbrev pub AcceptedAsAll : Type 0
@@ -140,7 +140,8 @@ pub record Refusals : Type 0 where
       → ((¬ JuriesFit c) × (r ≡ reasonAt 19 0))
       ⊎ (JuriesFit c × (¬ GatesPerRoundFit c) × (r ≡ reasonAt 20 0))
       ⊎ (JuriesFit c × GatesPerRoundFit c × FirstRefused (juriesIn c) (c .tables) r)
-  pub no-rounds : (c : Call) (r : Reason) → dispatchResult c .reason ≡ some r → dispatchResult c .rounds ≡ replicate 8 0
+  pub no-rounds : (c : Call) (r : Reason) → dispatchResult c .reason ≡ some r
+      → dispatchResult c .rounds ≡ replicate mostJuries 0
 
 -- Demand 1. The call may write to two tables. It empties each jury's piece of the wires (`EachJury`), not the whole
 -- table.

@@ -11,9 +11,9 @@ ghost use lib.Dec.{leb};
 ghost use lib.ListN.{take};
 ghost use Rattle.dispatch_rounds.specs.Tables.{Tables, tablesOf};
 ghost use Rattle.dispatch.specs.Reasons.{verdictReason};
-ghost use Rattle.dispatch_rounds.specs.Rounds.{eightOf, roundsFor};
+ghost use Rattle.dispatch_rounds.specs.Rounds.{eightOf, roundsFor, mostJuries};
 ghost use Rattle.dispatch.specs.Result.{DispatchResult, dispatchResult};
-ghost use Rattle.dispatch.specs.inner.Rounds.{Ready, RoundsSmall, RoundsFinished, mostGates};
+ghost use Rattle.dispatch.specs.inner.Rounds.{Ready, RoundsSmall, RoundsFinished, longestList};
 
 pub const LEAST_JURIES: usize = 1;
 
@@ -43,10 +43,10 @@ fn larger(a: usize, b: usize) -> usize
     if a <= b { b } else { a }
 }
 
-// The number of gates of the longest jury.
-fn most_gates(count: usize, headers: [JuryHeader; 8]) -> usize
-    requires { ⌜ count ≤ 8 ⌝ }
-    ensures { λ r. ⌜ r ≡ mostGates (take count headers) ⌝ }
+// The number of gates of the longest list.
+fn longest_list(count: usize, headers: [JuryHeader; 8]) -> usize
+    requires { ⌜ count ≤ mostJuries ⌝ }
+    ensures { λ r. ⌜ r ≡ longestList (take count headers) ⌝ }
 {
     let mut most = 0;
     let mut j = 0;
@@ -103,7 +103,7 @@ fn run_rounds(
               (now (boards .entry));
         }) conditional (now (wires .exit)) (now (boards .exit)) ⌝ }
 {
-    let most = most_gates(count, headers);
+    let most = longest_list(count, headers);
     let mut shown = [0usize; 8];
     let mut done = 0;
     while done * gates_per_round < most {

@@ -12,6 +12,7 @@ ghost use lib.ListN.{take};
 ghost use Rattle.tally.specs.Answer.{outcomeOf};
 ghost use Rattle.dispatch_rounds.specs.Tables.{tablesOf, fitting};
 ghost use Rattle.dispatch_rounds.specs.Reasons.{atJury};
+ghost use Rattle.dispatch_rounds.specs.Rounds.{mostJuries};
 ghost use Rattle.dispatch.specs.Reasons.{verdictReason};
 ghost use Rattle.dispatch.specs.inner.Rounds.{refusalIn, JuryTested, TestsFound};
 
@@ -106,7 +107,7 @@ pub(crate) fn test_juries(
     wires: &[u8],
     boards: &[u8],
 ) -> Tests
-    requires { ⌜ count ≤ 8 ⌝ }
+    requires { ⌜ count ≤ mostJuries ⌝ }
     ensures { λ r.
         ⌜ TestsFound (take count headers) (tablesOf (now (lists .entry)) (now (ballots .entry)) (now (tapes .entry))
         (now (wires .entry)) (now (boards .entry))) r ⌝ }

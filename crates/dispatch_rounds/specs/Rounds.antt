@@ -15,6 +15,13 @@ use Rattle.dispatch_rounds.specs.declared.header.JuryHeader.{JuryHeader}
 use Rattle.dispatch_rounds.specs.Tables.{Tables, conditionalIn, piecesOf, remaining, through}
 use Rattle.dispatch_rounds.specs.Reasons.{juryReasons}
 
+-- The most juries that a call may have, and the most gates that it may give a jury in a round.
+abbrev pub mostJuries : ℕ
+mostJuries = 8
+
+abbrev pub mostGatesPerRound : ℕ
+mostGatesPerRound = 65536
+
 -- A jury's wire table after its first m gates: the ballots, the wires of these gates, then the old contents. The
 -- ballots are put in with the first gate, so before it nothing has changed.
 unfoldable pub wiresAfter : List ℕ → List Gate → ℕ → List ℕ → List ℕ
@@ -53,7 +60,7 @@ boardsGiven given = through (juryBoard given) (λ (t : Tables). t .boards)
 -- Eight numbers, one for each jury, 0 past the last.
 unfoldable pub eightOf : (JuryHeader → Tables → ℕ) → List JuryHeader → Tables → List ℕ
 eightOf number ss = through (λ (s : JuryHeader) (p : Tables). number s p
-    ∷ []) (λ (t : Tables). replicate (8 - length ss) 0) ss
+    ∷ []) (λ (t : Tables). replicate (mostJuries - length ss) 0) ss
 
 -- Each board has the length C + k.
 abbrev pub BoardsLong : ℕ → List JuryHeader → Tables → Type 0

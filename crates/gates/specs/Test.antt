@@ -5,7 +5,7 @@ use Prim.Native.Nat.{ℕ, suc}
 use lib.Dec.{ltb}
 use Rattle.gates.specs.declared.place.Place.{Place}
 use Rattle.gates.specs.declared.place.Place.the-variants.{At, Nowhere}
-pub use Rattle.gates.specs.Open.Test.{goodOperand, goodGate, firstBad, judged, tested}
+pub use Rattle.gates.specs.Open.Test.{mostGates, goodOperand, goodGate, firstBad, judged, tested}
 
 -- The place of the first byte above 1. The first byte of the list has place i. This is about bytes and not about
 -- gates, so every layer may unfold it.

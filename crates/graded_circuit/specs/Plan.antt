@@ -2,7 +2,7 @@
 use mathlib.Core.Path.{_≡_}
 use Prim.Native.Nat.{ℕ, suc, _+_, _-_, _*_, _/_, _^_, _≤_, _<_}
 use Rattle.jury.specs.declared.shape.Shape.{Shape}
-use Rattle.jury.specs.Shape.{ballotBytes}
+use Rattle.jury.specs.Shape.{ballotBytes, mostCandidates, mostGrades, mostBallots}
 use Rattle.jury.specs.Width.{widthOf}
 use Rattle.graded_circuit.specs.declared.plan.Plan.{Plan}
 
@@ -25,11 +25,11 @@ planOf s =
 -- What holds for the plan of a shape within its limits.
 pub record Planned (p : Plan) : Type 0 where
   pub k-least : 1 ≤ p .candidates
-  pub k-most : p .candidates ≤ 8
+  pub k-most : p .candidates ≤ mostCandidates
   pub d-least : 2 ≤ p .grades
-  pub d-most : p .grades ≤ 7
+  pub d-most : p .grades ≤ mostGrades
   pub n-least : 1 ≤ p .ballots
-  pub n-most : p .ballots ≤ 255
+  pub n-most : p .ballots ≤ mostBallots
   pub low : 2 ^ p .digits ≤ p .ballots
   pub high : p .ballots < 2 ^ suc (p .digits)
   pub offset-is : p .offset + (p .ballots + 1) / 2 ≡ 2 ^ p .digits

@@ -2,7 +2,8 @@
 use mathlib.Core.List.{List, _++_}
 use Prim.Native.Nat.{ℕ}
 use lib.ListN.{take, replicate}
+use Rattle.jury.specs.Shape.{mostCandidates}
 
--- Up to eight closing bytes, padded with 0 to an array of eight.
+-- The closing bytes of up to eight candidates, padded with 0 to eight.
 unfoldable pub eightBytes : List ℕ → List ℕ
-eightBytes bytes = take 8 (bytes ++ replicate 8 0)
+eightBytes bytes = take mostCandidates (bytes ++ replicate mostCandidates 0)

@@ -8,6 +8,7 @@ use lib.ListN.{getD}
 use Rattle.jury.specs.declared.shape.Shape.{Shape}
 use Rattle.basics.specs.Lists.{sum}
 use Rattle.basics.specs.Lists.{tabulate}
+use Rattle.jury.specs.Shape.{mostCandidates, mostGrades}
 
 -- The byte of ballot b, candidate c and grade g. A ballot has a row for each candidate, and a row has a byte for
 -- each grade, best first.
@@ -30,7 +31,8 @@ countsOf s xs = tabulate (s .candidates) (λ c. tabulate (s .grades) (countOf s 
 -- The same matrix in the program's array of eight rows of seven counts, which has 0 outside the shape.
 unfoldable pub countArray : Shape → List ℕ → List (List ℕ)
 countArray s xs =
-    tabulate 8 (λ c. tabulate 7 (λ g. cond (ltb c (s .candidates) && ltb g (s .grades)) (countOf s xs c g) 0))
+    tabulate mostCandidates
+    (λ c. tabulate mostGrades (λ g. cond (ltb c (s .candidates) && ltb g (s .grades)) (countOf s xs c g) 0))
 
 -- [sum]: the counts of each candidate add up to n.
 abbrev pub AddUp : Shape → List (List ℕ) → Type 0

@@ -4,6 +4,16 @@ use Prim.Native.Nat.{ℕ, _*_}
 use lib.Dec.{leb, eqb}
 use Rattle.jury.specs.declared.shape.Shape.{Shape}
 
+-- The most candidates, grades and ballots that a jury may have.
+abbrev pub mostCandidates : ℕ
+mostCandidates = 8
+
+abbrev pub mostGrades : ℕ
+mostGrades = 7
+
+abbrev pub mostBallots : ℕ
+mostBallots = 255
+
 -- With 0 grades, the jurors rank the candidates (request 2.2).
 unfoldable pub isRanking : Shape → Bool
 isRanking s = eqb (s .grades) 0
@@ -11,16 +21,16 @@ isRanking s = eqb (s .grades) 0
 -- The limits of a graded jury: 1 to 8 candidates, 2 to 7 grades, 1 to 255 ballots.
 unfoldable pub gradedLimits : Shape → Bool
 gradedLimits s =
-    leb 1 (s .candidates) && leb (s .candidates) 8
-    && leb 2 (s .grades) && leb (s .grades) 7
-    && leb 1 (s .ballots) && leb (s .ballots) 255
+    leb 1 (s .candidates) && leb (s .candidates) mostCandidates
+    && leb 2 (s .grades) && leb (s .grades) mostGrades
+    && leb 1 (s .ballots) && leb (s .ballots) mostBallots
 
 -- The limits of a ranked jury: 1 to 8 candidates, no grades, 1 to 255 ballots.
 unfoldable pub rankedLimits : Shape → Bool
 rankedLimits s =
-    leb 1 (s .candidates) && leb (s .candidates) 8
+    leb 1 (s .candidates) && leb (s .candidates) mostCandidates
     && isRanking s
-    && leb 1 (s .ballots) && leb (s .ballots) 255
+    && leb 1 (s .ballots) && leb (s .ballots) mostBallots
 
 -- Within the limits of either kind.
 unfoldable pub withinLimits : Shape → Bool

@@ -6,14 +6,15 @@ use Prim.Native.Nat.{ℕ, suc, _+_, _-_, _*_, _≤_, _<_}
 use lib.Dec.{ltb}
 use lib.ListN.{getD, set}
 use Rattle.gate_words.specs.Counter.{Countable}
+use Rattle.jury.specs.Shape.{mostCandidates, mostBallots}
 use Rattle.ranked_blocks.specs.declared.entries.Ranks.{Ranks}
 
 -- Two to eight candidates, 1 to 255 ballots, and words just wide enough to count them.
 pub record Ranked (p : Ranks) : Type 0 where
   pub k-least : 2 ≤ p .candidates
-  pub k-most : p .candidates ≤ 8
+  pub k-most : p .candidates ≤ mostCandidates
   pub n-least : 1 ≤ p .ballots
-  pub n-most : p .ballots ≤ 255
+  pub n-most : p .ballots ≤ mostBallots
   pub w-most : p .digits ≤ 7
   pub countable : Countable (p .ballots) 0 (p .digits)
 

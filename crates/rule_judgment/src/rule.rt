@@ -7,6 +7,7 @@ ghost use mathlib.Core.List.{[]};
 ghost use lib.ListN.{take, getD};
 ghost use Rattle.jury.specs.ClosingBytes.{eightBytes};
 ghost use Rattle.jury.specs.inner.Counts.{rowsIn};
+ghost use Rattle.jury.specs.Shape.{mostBallots};
 ghost use Rattle.rule_judgment.specs.Judgment.{sequenceOf, precedes, judgmentOf};
 ghost use Rattle.rule_judgment.specs.inner.Decision.{byteBeside, halfReached, decidedBy};
 ghost use Rattle.rule_judgment.specs.inner.Ready.{WinnersReady, FirstReady, WinningCandidate, RowsReady, Compared, SumsReady};
@@ -116,7 +117,7 @@ fn comes_before(counts: &[[u16; 7]; 8], a: usize, b: usize, d: usize, n: usize) 
 
 // Whether the sum of one of the two is at least half of n.
 fn half_reached(n: usize, sums: Sums) -> bool
-    requires { ⌜ (sums .a ≤ 255) × (sums .b ≤ 255) ⌝ }
+    requires { ⌜ (sums .a ≤ mostBallots) × (sums .b ≤ mostBallots) ⌝ }
     ensures { λ r. ⌜ r ≡ halfReached n sums ⌝ }
 {
     n <= 2 * sums.a || n <= 2 * sums.b
@@ -125,7 +126,8 @@ fn half_reached(n: usize, sums: Sums) -> bool
 // Whether a comes before b. `lower` has their sums at the last difference below half (0 and 0 if there is none),
 // `upper` their sums at the first difference from half on.
 fn decided(n: usize, lower: Sums, upper: Sums) -> bool
-    requires { ⌜ (lower .a ≤ 255) × (lower .b ≤ 255) × (upper .a ≤ 255) × (upper .b ≤ 255) ⌝ }
+    requires { ⌜ (lower .a ≤ mostBallots) × (lower .b ≤ mostBallots)
+        × (upper .a ≤ mostBallots) × (upper .b ≤ mostBallots) ⌝ }
     ensures { λ r. ⌜ r ≡ decidedBy n lower upper ⌝ }
 {
     if lower.b < lower.a {

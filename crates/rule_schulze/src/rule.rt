@@ -5,13 +5,14 @@ ghost use mathlib.Core.Bool.{cond};
 ghost use lib.Dec.{ltb};
 ghost use lib.ListN.{getD};
 ghost use Rattle.jury.specs.ClosingBytes.{eightBytes};
+ghost use Rattle.jury.specs.Shape.{mostCandidates};
 ghost use Rattle.rule_schulze.specs.Schulze as spec;
 ghost use Rattle.rule_schulze.specs.Closure as closure;
 ghost use Rattle.rule_schulze.specs.inner.Tables.{entry, Holds, HoldsPairs, unbeatenIn};
 
 // The closing bytes: 1 for a winner, 0 for the others and from place k on.
 pub fn winners(votes: [[u16; 8]; 8], k: usize) -> [u8; 8]
-    requires { ⌜ k ≤ 8 ⌝ }
+    requires { ⌜ k ≤ mostCandidates ⌝ }
     ensures { λ r. ⌜ r ≡ eightBytes (spec.schulzeOf (entry votes) k) ⌝ }
 {
     let paths = strongest_paths(links(votes, k), k);
@@ -28,7 +29,7 @@ pub fn winners(votes: [[u16; 8]; 8], k: usize) -> [u8; 8]
 
 // Whether no candidate j has a stronger path to i than i has to j.
 fn wins(paths: [[u16; 8]; 8], k: usize, i: usize) -> bool
-    requires { ⌜ (k ≤ 8) × (i < k) ⌝ }
+    requires { ⌜ (k ≤ mostCandidates) × (i < k) ⌝ }
     ensures { λ r. ⌜ r ≡ unbeatenIn paths k i ⌝ }
 {
     let mut j = 0;
@@ -43,7 +44,7 @@ fn wins(paths: [[u16; 8]; 8], k: usize, i: usize) -> bool
 
 // The strengths of the links.
 fn links(votes: [[u16; 8]; 8], k: usize) -> [[u16; 8]; 8]
-    requires { ⌜ k ≤ 8 ⌝ }
+    requires { ⌜ k ≤ mostCandidates ⌝ }
     ensures { λ r. ⌜ Holds k r (spec.link (entry votes)) ⌝ }
 {
     let mut links = [[0u16; 8]; 8];
@@ -58,7 +59,7 @@ fn links(votes: [[u16; 8]; 8], k: usize) -> [[u16; 8]; 8]
 
 // The strengths of the links from i.
 fn links_of(votes: [[u16; 8]; 8], k: usize, i: usize) -> [u16; 8]
-    requires { ⌜ (k ≤ 8) × (i < k) ⌝ }
+    requires { ⌜ (k ≤ mostCandidates) × (i < k) ⌝ }
     ensures { λ r. ⌜ ((j : ℕ) → j < k → getD r j 0 ≡ spec.link (entry votes) i j) ⌝ }
 {
     let mut row = [0u16; 8];
@@ -80,7 +81,7 @@ fn link(forth: u16, back: u16) -> u16
 
 // The strengths of the strongest paths, by the algorithm of Floyd and Warshall.
 fn strongest_paths(links: [[u16; 8]; 8], k: usize) -> [[u16; 8]; 8]
-    requires { ⌜ k ≤ 8 ⌝ }
+    requires { ⌜ k ≤ mostCandidates ⌝ }
     ensures { λ r. ⌜ HoldsPairs k r (closure.closure k (entry links)) ⌝ }
 {
     let mut paths = links;
@@ -95,7 +96,7 @@ fn strongest_paths(links: [[u16; 8]; 8], k: usize) -> [[u16; 8]; 8]
 
 // The strengths if paths over l are allowed too.
 fn detour(paths: [[u16; 8]; 8], k: usize, l: usize) -> [[u16; 8]; 8]
-    requires { ⌜ (k ≤ 8) × (l < k) ⌝ }
+    requires { ⌜ (k ≤ mostCandidates) × (l < k) ⌝ }
     ensures { λ r. ⌜ HoldsPairs k r (closure.detour l (entry paths)) ⌝ }
 {
     let mut after = [[0u16; 8]; 8];
@@ -110,7 +111,7 @@ fn detour(paths: [[u16; 8]; 8], k: usize, l: usize) -> [[u16; 8]; 8]
 
 // Row i of the strengths if paths over l are allowed too. If i or j is l itself, the path over l is never stronger.
 fn detour_from(paths: [[u16; 8]; 8], k: usize, l: usize, i: usize) -> [u16; 8]
-    requires { ⌜ (k ≤ 8) × (l < k) × (i < k) ⌝ }
+    requires { ⌜ (k ≤ mostCandidates) × (l < k) × (i < k) ⌝ }
     ensures { λ r. ⌜
         ((j : ℕ) → j < k → getD r j 0 ≡ max (entry paths i j) (min (entry paths i l) (entry paths l j)))
         ⌝ }

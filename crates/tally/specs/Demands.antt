@@ -9,7 +9,7 @@ use lib.ListN.{length, take}
 use Rattle.gates.specs.Gate.{gatesOf}
 use Rattle.gates.specs.Board.{MaskTape}
 use Rattle.jury.specs.declared.shape.Shape.{Shape}
-use Rattle.jury.specs.Shape.{ballotBytes}
+use Rattle.jury.specs.Shape.{ballotBytes, mostCandidates}
 use Rattle.jury.specs.Reason.{Reason}
 use Rattle.jury.specs.Accepted.{AcceptedBallots}
 use Rattle.tally.specs.Answer.{refused, accepted, Size}
@@ -68,7 +68,7 @@ RunAccuracy = Accuracy runResult (λ s ballots. ballots) AcceptedBallots
 pub record CountAccuracy : Type 0 where
   pub says-who-wins : (s : Shape) (ballots : List ℕ) → countReason s ballots ≡ none
       → SaysWhoWins s ballots (plainClosing s ballots)
-  pub eight-bytes : (s : Shape) (ballots : List ℕ) → length (plainClosing s ballots) ≡ 8
+  pub eight-bytes : (s : Shape) (ballots : List ℕ) → length (plainClosing s ballots) ≡ mostCandidates
 
 pub record ThreeDemands : Type 0 where
   pub memory : TallyMemory

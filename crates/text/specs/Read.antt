@@ -6,7 +6,7 @@ use Prim.Native.Nat.{ℕ, _*_}
 use lib.Dec.{leb}
 use lib.ListN.{length}
 use Rattle.gates.specs.Gate.{numbersOf}
-use Rattle.gates.specs.Test.{firstBad}
+use Rattle.gates.specs.Test.{firstBad, mostGates}
 use Rattle.jury.specs.declared.shape.Shape.{Shape}
 use Rattle.jury.specs.Shape.{withinLimits, ballotBytes}
 use Rattle.jury.specs.Reason.{Reason, unless, foundAt, firstOf}
@@ -19,7 +19,7 @@ use Rattle.text.specs.Text.{linesOf, firstMalformed, gatesIn}
 unfoldable pub readReasons : Shape → List ℕ → List ℕ → List (Option Reason)
 readReasons s text output =
     unless (withinLimits s) 1
-    ∷ unless (leb (s .candidates) (length (linesOf text)) && leb (length (linesOf text)) 1048576) 2
+    ∷ unless (leb (s .candidates) (length (linesOf text)) && leb (length (linesOf text)) mostGates) 2
     ∷ foundAt 23 (firstMalformed 0 (linesOf text))
     ∷ foundAt 3 (firstBad (ballotBytes s) 0 (gatesIn (linesOf text)))
     ∷ unless (leb (4 * length (linesOf text)) (length output)) 24

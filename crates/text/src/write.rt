@@ -8,13 +8,14 @@ ghost use Prim.Native.Nat.{_≤_};
 ghost use lib.ListN.{length};
 ghost use lib.Seq.{sets};
 ghost use Rattle.gates.specs.Gate.{gatesOf};
+ghost use Rattle.gates.specs.Test.{mostGates};
 ghost use Rattle.text.specs.Text.{textOf};
 ghost use Rattle.text.specs.Answer.{lengthOutcome};
 ghost use Rattle.text.specs.Write.{writeTextResult};
 
 // How many characters the text of a table's gates has.
 fn text_length(table: &[u32]) -> usize
-    requires { ⌜ length (gatesOf (now table)) ≤ 1048576 ⌝ }
+    requires { ⌜ length (gatesOf (now table)) ≤ mostGates ⌝ }
     ensures { λ r. ⌜ r ≡ length (textOf (gatesOf (now (table .entry)))) ⌝ }
 {
     let gates = table.len() / 4;

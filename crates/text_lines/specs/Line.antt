@@ -4,7 +4,7 @@ use mathlib.Core.Option.{Option, none, some, bind}
 use mathlib.Core.List.{List, [], _∷_, _++_}
 use Prim.Native.Nat.{ℕ}
 use lib.Dec.{ltb, eqb}
-use Rattle.gates.specs.Kind.{operandsOf}
+use Rattle.gates.specs.Kind.{operandsOf, kindCount}
 use Rattle.gates.specs.Gate.{Gate}
 use Rattle.text_lines.specs.Decimal.{decimal, Taken, taken, numberIn}
 
@@ -29,7 +29,7 @@ lineOf g =
 
 -- The kind that was read, if there is such a kind.
 unfoldable pub knownKind : Taken ℕ → Option (Taken ℕ)
-knownKind k = cond (ltb (k .value) 8) (some k) none
+knownKind k = cond (ltb (k .value) kindCount) (some k) none
 
 -- The operand at the start of these characters: a space and a number. An operand that is not in use is 0, without
 -- characters.

@@ -5,10 +5,11 @@ use Prim.Native.Nat.{ℕ, _+_, _*_}
 use lib.Dec.{eqb, leb, ltb}
 use lib.ListN.{length}
 use Rattle.tally.specs.Answer.{Outcome, Size}
+use Rattle.trustees.specs.Reasons.{mostTrustees}
 
--- Whether t is 2 to 5, and p, counted from 0, is one of the t trustees.
+-- Whether t is a number of trustees, and p, counted from 0, is one of the t trustees.
 unfoldable pub isTrustee : ℕ → ℕ → Bool
-isTrustee t p = leb 2 t && leb t 5 && ltb p t
+isTrustee t p = leb 2 t && leb t mostTrustees && ltb p t
 
 -- Whether a trustee's triples, wire parts and published bits have the right lengths.
 unfoldable pub ownTablesFit : ℕ → ℕ → Size → List ℕ → List ℕ → List ℕ → Bool

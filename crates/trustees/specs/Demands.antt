@@ -19,6 +19,7 @@ use Rattle.tally.specs.Write.{writeOutcome}
 use Rattle.tally.specs.Demands.{listIn}
 use Rattle.trustee_shares.specs.Shares.{opened, part, Held}
 use Rattle.trustee_shares.specs.Views.{Dealing, View}
+use Rattle.jury.specs.Shape.{mostCandidates}
 use Rattle.trustees.specs.Call.{Call, dealtAs, wirePartsIn, viewIn}
 use Rattle.trustees.specs.Result.{trusteesResult}
 
@@ -32,7 +33,8 @@ pub record TrusteesMemory (c : Call) : Type 0 where
       let bits : Lent = record { before = c .lent .published; after = trusteesResult c .published } in
       KeepsMemory (1 ∷ 2 ∷ 3 ∷ 4 ∷ 5 ∷ 6 ∷ 11 ∷ 12 ∷ 16 ∷ 17 ∷ 18 ∷ []) (trusteesResult c .answer) (parts ∷ bits ∷ [])
       (parts ∷ [])
-  pub zeros : (r : Reason) → trusteesResult c .answer ≡ refused r → trusteesResult c .closing ≡ replicate 8 0
+  pub zeros : (r : Reason) → trusteesResult c .answer ≡ refused r
+      → trusteesResult c .closing ≡ replicate mostCandidates 0
 
 -- A way in which trustees count: each trustee's parts of all wires, everything that is published, the closing
 -- bytes, and what the trustees except q hold and see. Demands 2 and 3 are stated for any such way.

@@ -13,6 +13,10 @@ use Rattle.tally.specs.Test.{testReasons}
 use Rattle.trustee_gates.specs.Dealing.{dealtWell}
 use Rattle.trustees.specs.Call.{PartTables, Call}
 
+-- The most trustees; the fewest are two.
+abbrev pub mostTrustees : ℕ
+mostTrustees = 5
+
 -- Whether the four tables have the right lengths for t trustees. Each trustee has a part of each input; u, v and
 -- product of each conditional gate; a part of each wire; both masked factors of each conditional gate, and k
 -- closing bits.
@@ -26,7 +30,7 @@ tablesFit inputs k size t lent =
 -- The reasons of the number of trustees and of the four tables: 16, 17, 18.
 unfoldable pub partReasons : (k : ℕ) → Size → (ballots : List ℕ) → (t : ℕ) → PartTables → List (Option Reason)
 partReasons k size ballots t lent =
-    unless (leb 2 t && leb t 5) 16
+    unless (leb 2 t && leb t mostTrustees) 16
     ∷ unless (tablesFit (length ballots) k size t lent) 17
     ∷ unless (dealtWell t (size .conditional) ballots (lent .dealing)) 18
     ∷ []

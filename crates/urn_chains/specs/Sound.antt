@@ -33,9 +33,16 @@ gradedShape k d = gradedLimits (juryOfOne k d)
 unfoldable pub goodBallot : ℕ → ℕ → List ℕ → Bool
 goodBallot k d ballot = eqb (length ballot) (k * d) && noReason (firstOf (ballotReasons (juryOfOne k d) ballot))
 
+-- The largest number of a juror, and the most slots of an urn.
+abbrev pub mostJurors : ℕ
+mostJurors = 255
+
+abbrev pub mostSlots : ℕ
+mostSlots = 256
+
 -- A juror's number is 1 to 255.
 unfoldable pub goodJuror : ℕ → Bool
-goodJuror juror = leb 1 juror && leb juror 255
+goodJuror juror = leb 1 juror && leb juror mostJurors
 
 -- Whether i is one of the slots 1 to n − 1. An urn of n slots has these and slot 0.
 unfoldable pub inUrn : ℕ → ℕ → Bool
@@ -77,7 +84,7 @@ slotCount b bytes = bytes / slotBytes b
 
 -- Whether an urn can have this length: 2 to 256 slots, and nothing after them.
 unfoldable pub urnLength : ℕ → ℕ → Bool
-urnLength b bytes = eqb (bytes % slotBytes b) 0 && leb 2 (slotCount b bytes) && leb (slotCount b bytes) 256
+urnLength b bytes = eqb (bytes % slotBytes b) 0 && leb 2 (slotCount b bytes) && leb (slotCount b bytes) mostSlots
 
 -- All slots of an urn for k candidates and d grades.
 unfoldable pub urnSlots : ℕ → ℕ → List ℕ → List Slot

@@ -7,12 +7,12 @@ use mathlib.Core.List.{List}
 use Prim.Native.Nat.{ℕ, _*_, _≤_}
 use Rattle.urn_chains.specs.Slots.{bytesOf}
 use Rattle.urn_chains.specs.Chains.{Entry, layout}
-use Rattle.urn_chains.specs.Sound.{goodChains, entriesOf, freeOf, sound}
+use Rattle.urn_chains.specs.Sound.{goodChains, entriesOf, freeOf, sound, mostSlots}
 
 -- The urn is the layout, in n slots, of the ballot chain es and the free chain `is`, and both are good.
 pub record LaidOut (k d n : ℕ) (es : List Entry) (is : List ℕ) (urn : List ℕ) : Type 0 where
   pub least : 2 ≤ n
-  pub most : n ≤ 256
+  pub most : n ≤ mostSlots
   pub good : goodChains k d n es is ≡ true
   pub bytes : urn ≡ bytesOf (layout n (k * d) es is)
 

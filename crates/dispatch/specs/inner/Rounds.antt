@@ -14,7 +14,8 @@ use Rattle.tally.specs.declared.answer.Answer.the-variants as answer
 use Rattle.dispatch_rounds.specs.declared.header.JuryHeader.{JuryHeader}
 use Rattle.dispatch_rounds.specs.Tables.{Tables, headerShape, listOf}
 use Rattle.dispatch_rounds.specs.Reasons.{reasonsOf, juryReasons}
-use Rattle.dispatch_rounds.specs.Rounds.{eightOf, RoundState}
+use Rattle.dispatch_rounds.specs.Rounds.{eightOf, RoundState, mostJuries, mostGatesPerRound}
+use Rattle.gates.specs.Test.{mostGates}
 use Rattle.dispatch.specs.declared.verdict.Tests.{Tests}
 use Rattle.dispatch.specs.Call.{Call, juriesIn}
 use Rattle.dispatch.specs.NoIdleRound.{NoIdleRound}
@@ -25,10 +26,10 @@ unfoldable pub wireBytes : List JuryHeader → ℕ
 wireBytes [] = 0
 wireBytes (s ∷ ss) = ballotBytes (headerShape s) + s .gates + wireBytes ss
 
--- The largest number of gates of a jury.
-unfoldable pub mostGates : List JuryHeader → ℕ
-mostGates [] = 0
-mostGates (s ∷ ss) = max (s .gates) (mostGates ss)
+-- The number of gates of the longest list.
+unfoldable pub longestList : List JuryHeader → ℕ
+longestList [] = 0
+longestList (s ∷ ss) = max (s .gates) (longestList ss)
 
 -- How many conditional gates a jury has, counted in its piece of the lists.
 abbrev pub pieceConditional : JuryHeader → Tables → ℕ
@@ -51,23 +52,23 @@ refusalIn (answer.Refused r) = some (reasonOf r)
 
 -- What the rounds require: no jury is refused.
 pub record Ready (c : Call) (conditional : List ℕ) : Type 0 where
-  pub few : c .count ≤ 8
+  pub few : c .count ≤ mostJuries
   pub per-round-least : 1 ≤ c .gatesPerRound
-  pub per-round-most : c .gatesPerRound ≤ 65536
+  pub per-round-most : c .gatesPerRound ≤ mostGatesPerRound
   pub accepted : firstOf (juryReasons 0 (juriesIn c) (c .tables)) ≡ none
   pub conditionalAre : conditional ≡ eightOf pieceConditional (juriesIn c) (c .tables)
 
 -- What counting the rounds requires: the numbers are so small that no sum wraps.
 pub record RoundsSmall (count : ℕ) (headers : List JuryHeader) (gatesPerRound : ℕ) : Type 0 where
-  pub few : count ≤ 8
+  pub few : count ≤ mostJuries
   pub per-round-least : 1 ≤ gatesPerRound
-  pub per-round-most : gatesPerRound ≤ 65536
-  pub gates-most : mostGates (take count headers) ≤ 1048576
+  pub per-round-most : gatesPerRound ≤ mostGatesPerRound
+  pub gates-most : longestList (take count headers) ≤ mostGates
 
 -- What the rounds leave after `done` rounds: every jury has done all its gates, and no round was idle.
 pub record RoundsFinished (c : Call) (conditional wires boards : List ℕ) : Type 0 where
   pub done : ℕ
   pub shown : List ℕ
-  pub all : mostGates (juriesIn c) ≤ done * c .gatesPerRound
+  pub all : longestList (juriesIn c) ≤ done * c .gatesPerRound
   pub none-idle : NoIdleRound (c .gatesPerRound) done (juriesIn c)
   pub state : RoundState (done * c .gatesPerRound) (juriesIn c) (c .tables) conditional wires boards shown

@@ -7,10 +7,11 @@ use lib.ListN.{length, take}
 use Rattle.gates.specs.Gate.{gatesOf}
 use Rattle.gates.specs.inner.Step.{RunReady}
 use Rattle.jury.specs.Shape.{withinLimits, ballotBytes}
+use Rattle.gates.specs.Test.{mostGates}
 use Rattle.dispatch_rounds.specs.declared.header.JuryHeader.{JuryHeader}
 use Rattle.dispatch_rounds.specs.declared.header.Places.{Places}
 use Rattle.dispatch_rounds.specs.Tables.{Tables, tablesOf, headerShape}
-use Rattle.dispatch_rounds.specs.Rounds.{juryWires, juryBoard, juryShown, RoundState}
+use Rattle.dispatch_rounds.specs.Rounds.{juryWires, juryBoard, juryShown, RoundState, mostJuries, mostGatesPerRound}
 
 -- Where the next jury's pieces begin, after those of a jury with c conditional gates.
 abbrev pub placesAfter : Places → JuryHeader → ℕ → Places
@@ -45,7 +46,7 @@ pub record JuryState (given : ℕ) (s : JuryHeader) (p : Tables) (wires board : 
 pub record TurnReady (given gatesPerRound : ℕ) (s : JuryHeader) (list ballots tape wires board : List ℕ) (shown : ℕ)
     : Type 0 where
   pub per-round-least : 1 ≤ gatesPerRound
-  pub per-round-most : gatesPerRound ≤ 65536
+  pub per-round-most : gatesPerRound ≤ mostGatesPerRound
   pub wires-lent : List ℕ
   pub board-lent : List ℕ
   pub state : JuryState given s (tablesOf list ballots tape wires-lent board-lent) wires board shown
@@ -54,10 +55,10 @@ pub record TurnReady (given gatesPerRound : ℕ) (s : JuryHeader) (list ballots 
 -- come before this one.
 pub record RoundReady (count : ℕ) (headers : List JuryHeader) (done gatesPerRound : ℕ) (lists ballots tapes : List ℕ)
     (conditional wires boards shown : List ℕ) : Type 0 where
-  pub few : count ≤ 8
+  pub few : count ≤ mostJuries
   pub per-round-least : 1 ≤ gatesPerRound
-  pub per-round-most : gatesPerRound ≤ 65536
-  pub done-most : done ≤ 1048576
+  pub per-round-most : gatesPerRound ≤ mostGatesPerRound
+  pub done-most : done ≤ mostGates
   pub wires-lent : List ℕ
   pub boards-lent : List ℕ
   pub state : RoundState (done * gatesPerRound) (take count headers)

@@ -4,7 +4,7 @@ use mathlib.Core.List.{List}
 use Prim.Native.Nat.{ℕ, _+_, _*_, _≤_, _<_}
 use lib.ListN.{length, getD}
 use Rattle.gates.specs.Gate.{gatesOf, gateAt}
-use Rattle.gates.specs.Test.{firstBad}
+use Rattle.gates.specs.Test.{firstBad, mostGates}
 use Rattle.gates.specs.declared.place.Place.the-variants.{Nowhere}
 use Rattle.gate_levels.specs.Levels.{levelsOf, roundsOf}
 
@@ -17,13 +17,13 @@ pub record LevelReady (inputs : ℕ) (table : List ℕ) (g : ℕ) (levels : List
   pub b-below : gateAt table g .b < inputs + g
   pub c-below : gateAt table g .c < inputs + g
   pub small : (h : ℕ) → h < g → getD levels h 0 ≤ g
-  pub few : g < 1048576
+  pub few : g < mostGates
 
 -- For the levels of a whole list: good gates over at least one input, at most 2 ^ 20 of them, and a place for each
 -- level.
 pub record LevelsReady (inputs : ℕ) (table levels : List ℕ) : Type 0 where
   pub some-input : 1 ≤ inputs
-  pub few : length (gatesOf table) ≤ 1048576
+  pub few : length (gatesOf table) ≤ mostGates
   pub good : firstBad inputs 0 (gatesOf table) ≡ Nowhere
   pub levels-length : length levels ≡ length (gatesOf table)
 

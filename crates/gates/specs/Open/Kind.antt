@@ -7,6 +7,10 @@ use lib.ListN.{getD}
 use Rattle.gates.specs.declared.kind.GateValue.{GateValue}
 use Rattle.gates.specs.declared.kind.GateValue.the-variants.{Value, NoSuchKind}
 
+-- How many kinds there are: 0 to 7.
+abbrev pub kindCount : ℕ
+kindCount = 8
+
 -- The columns of operand counts and of conditional marks, as the program's constant arrays have them.
 abbrev pub operandCounts : List ℕ
 operandCounts = 0 ∷ 0 ∷ 1 ∷ 1 ∷ 2 ∷ 2 ∷ 2 ∷ 3 ∷ []
@@ -31,11 +35,11 @@ unfoldable pub chosen : ℕ → ℕ → ℕ → ℕ
 chosen a b c = cond (eqb a 0) c b
 
 -- The value of a kind from the values of its operands. Of two bits, the smaller is their conjunction and the larger
--- their disjunction. A number above 7 is no kind; its value is 0.
+-- their disjunction. Any other number is no kind; its value is 0.
 unfoldable pub valueOf : ℕ → ℕ → ℕ → ℕ → ℕ
 valueOf kind a b c =
     getD (0 ∷ 1 ∷ a ∷ (1 - a) ∷ min a b ∷ max a b ∷ differ a b ∷ chosen a b c ∷ []) kind 0
 
 -- The value of a known kind, or the refusal of an unknown one.
 unfoldable pub applied : ℕ → ℕ → ℕ → ℕ → GateValue
-applied kind a b c = cond (ltb kind 8) (Value (valueOf kind a b c)) NoSuchKind
+applied kind a b c = cond (ltb kind kindCount) (Value (valueOf kind a b c)) NoSuchKind

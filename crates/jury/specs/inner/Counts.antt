@@ -6,37 +6,39 @@ use Prim.Native.Nat.{ℕ, _+_, _*_, _≤_, _<_}
 use lib.Dec.{ltb}
 use lib.ListN.{length, getD, take, drop}
 use Rattle.basics.specs.Lists.{tabulate}
+use Rattle.jury.specs.Shape.{mostCandidates, mostGrades}
 use Rattle.jury.specs.declared.shape.Shape.{Shape}
 use Rattle.jury.specs.Counts.{countArray, AddUp}
 
 -- The array of counts while it is filled: eight rows of seven counts, each so small that adding a byte does not
 -- overflow.
 pub record EightBySeven (counts : List (List ℕ)) : Type 0 where
-  pub rows : length counts ≡ 8
-  pub columns : (c : ℕ) → c < 8 → length (getD counts c []) ≡ 7
+  pub rows : length counts ≡ mostCandidates
+  pub columns : (c : ℕ) → c < mostCandidates → length (getD counts c []) ≡ mostGrades
   pub small : (c g : ℕ) → getD (getD counts c []) g 0 < 256
 
 -- A row of a ballot can be added to a row of counts.
 pub record RowReady (counts row : List ℕ) : Type 0 where
-  pub seven : length counts ≡ 7
-  pub short : length row ≤ 7
+  pub seven : length counts ≡ mostGrades
+  pub short : length row ≤ mostGrades
   pub small : (g : ℕ) → getD counts g 0 < 256
 
 -- A ballot, k rows of d bytes, can be added to the array of counts.
 pub record BallotReady (counts : List (List ℕ)) (ballot : List ℕ) (k d : ℕ) : Type 0 where
-  pub fewRows : k ≤ 8
-  pub fewColumns : d ≤ 7
+  pub fewRows : k ≤ mostCandidates
+  pub fewColumns : d ≤ mostGrades
   pub size : length ballot ≡ k * d
   pub array : EightBySeven counts
 
 -- A row of counts with one row of a ballot added.
 unfoldable pub plusRow : List ℕ → List ℕ → List ℕ
-plusRow counts bytes = tabulate 7 (λ g. getD counts g 0 + getD bytes g 0)
+plusRow counts bytes = tabulate mostGrades (λ g. getD counts g 0 + getD bytes g 0)
 
 -- The array of counts with one ballot, k rows of d bytes, added.
 unfoldable pub plusBallot : ℕ → ℕ → List (List ℕ) → List ℕ → List (List ℕ)
 plusBallot k d counts ballot =
-    tabulate 8 (λ c. cond (ltb c k) (plusRow (getD counts c []) (take d (drop (c * d) ballot))) (getD counts c []))
+    tabulate mostCandidates
+    (λ c. cond (ltb c k) (plusRow (getD counts c []) (take d (drop (c * d) ballot))) (getD counts c []))
 
 -- The first d counts of each of the first k rows.
 unfoldable pub rowsIn : ℕ → ℕ → List (List ℕ) → List (List ℕ)

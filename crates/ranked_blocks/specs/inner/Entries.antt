@@ -8,12 +8,13 @@ use Rattle.gates.specs.Gate.{Gate}
 use Rattle.gate_words.specs.Writing.{Room, Wrote}
 use Rattle.gate_words.specs.declared.writer.Writer.{Writer}
 use Rattle.ranked_circuit.specs.Stages.{votesBlock, stays, cutAt, newWord, pathBlock}
+use Rattle.jury.specs.Shape.{mostCandidates}
 use Rattle.ranked_blocks.specs.Ranked.{Ranked, keptOf, keep, keepLinks, WordsBelow}
 use Rattle.ranked_blocks.specs.declared.entries.Ranks.{Ranks}
 
 -- For reading what is kept for i and j, of at most eight candidates: there are 64 places.
 pub record KeptReady (wires : List ℕ) (k i j : ℕ) : Type 0 where
-  pub few : k ≤ 8
+  pub few : k ≤ mostCandidates
   pub row : i < k
   pub column : j < k
   pub long : length wires ≡ 64

@@ -12,6 +12,7 @@ use Rattle.ranked_circuit.specs.Paths.{pathsTo, linkWire}
 use Rattle.ranked_circuit.specs.RankedList.{rankedList}
 use Rattle.ranked_blocks.specs.Ranked.{Ranked, keptOf}
 use Rattle.ranked_blocks.specs.declared.entries.Ranks.{Ranks}
+use Rattle.jury.specs.Shape.{mostCandidates}
 use Rattle.ranked_writer.specs.Tables.{Keeps}
 use Rattle.ranked_writer.specs.inner.Contests.{TableReady}
 
@@ -66,6 +67,6 @@ pub record PairReady (w : Writer) (p : Ranks) : Type 0 where
 -- For the whole list: one to eight candidates, 1 to 255 ballots.
 pub record ListReady (candidates ballots : ℕ) : Type 0 where
   pub k-least : 1 ≤ candidates
-  pub k-most : candidates ≤ 8
+  pub k-most : candidates ≤ mostCandidates
   pub n-least : 1 ≤ ballots
   pub n-most : ballots ≤ 255

@@ -7,6 +7,7 @@ use Prim.Native.Nat.{ℕ, _*_, _≤_, _<_}
 use lib.Dec.{leb, eqb}
 use lib.ListN.{length, getD}
 use Rattle.basics.specs.Lists.{all}
+use Rattle.jury.specs.Shape.{mostCandidates, mostBallots}
 use Rattle.rule_schulze.specs.Schulze.{allCandidates}
 
 -- The number in row i and column j.
@@ -27,8 +28,8 @@ unbeatenIn t k i = all (λ j. eqb j i || leb (entry t j i) (entry t i j)) (allCa
 
 -- xs has as many bytes as n ranked ballots of k candidates, and k and n are not above their limits.
 pub record RankedSize (k n : ℕ) (xs : List ℕ) : Type 0 where
-  pub most-candidates : k ≤ 8
-  pub most-ballots : n ≤ 255
+  pub most-candidates : k ≤ mostCandidates
+  pub most-ballots : n ≤ mostBallots
   pub size : length xs ≡ n * k * k
 
 -- Row i of the matrix of votes can be counted.

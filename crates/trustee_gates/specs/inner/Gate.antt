@@ -4,7 +4,7 @@ use mathlib.Core.Bool.{true, cond}
 use mathlib.Core.List.{List, [], _∷_}
 use Prim.Native.Nat.{ℕ, _+_, _*_, _≤_, _<_}
 use lib.ListN.{length}
-use Rattle.gates.specs.Kind.{conditionalOf}
+use Rattle.gates.specs.Kind.{conditionalOf, kindCount}
 use Rattle.gates.specs.Gate.{Gate}
 use Rattle.trustee_shares.specs.Shares.{maskedFirst, maskedSecond, openedFirst, openedSecond, newPart, markOf}
 use Rattle.trustee_shares.specs.Views.{piece}
@@ -64,7 +64,7 @@ pub record ProductReady (t : ℕ) (pieces : Pieces) (g : Numbers) (own i : ℕ) 
 pub record GateReady (t : ℕ) (pieces : Pieces) (g : Numbers) (own i : ℕ) (triples wires published : List ℕ)
     : Type 0 where
   pub free : FreeReady t (pieces .wires) g own wires
-  pub known : g .kind < 8
+  pub known : g .kind < kindCount
   pub few : i + 1 < 2147483648
   pub triple-in : conditionalOf (g .kind) ≡ true → 3 * i + 2 < pieces .triples
   pub factors-in : conditionalOf (g .kind) ≡ true → 2 * i + 1 < pieces .published

@@ -4,7 +4,7 @@ use mathlib.Core.Bool.{true}
 use mathlib.Core.List.{List}
 use Prim.Native.Nat.{ℕ, _+_, _*_, _≤_, _<_}
 use lib.ListN.{length}
-use Rattle.gates.specs.Kind.{conditionalOf}
+use Rattle.gates.specs.Kind.{conditionalOf, kindCount}
 use Rattle.gates.specs.Gate.{gatesOf}
 use Rattle.gates.specs.Board.{conditionalCount}
 use Rattle.gates.specs.Test.{firstBad}
@@ -34,7 +34,7 @@ pub record GateIn (g : Numbers) (ws : List ℕ) : Type 0 where
 -- The same and, if the gate is conditional, its triple and its two sums are in their tables.
 pub record PartReady (g : Numbers) (i : ℕ) (triples heard ws : List ℕ) : Type 0 where
   pub operands : GateIn g ws
-  pub known : g .kind < 8
+  pub known : g .kind < kindCount
   pub triple-in : conditionalOf (g .kind) ≡ true → 3 * i + 2 < length triples
   pub sums-in : conditionalOf (g .kind) ≡ true → 2 * i + 1 < length heard
 

@@ -4,23 +4,26 @@ use mathlib.Core.List.{List}
 use Prim.Native.Nat.{ℕ, _+_, _*_, _≤_}
 use lib.ListN.{length}
 use Rattle.trustee_shares.specs.Views.{Dealing}
+use Rattle.gates.specs.Test.{mostGates}
+use Rattle.jury.specs.Shape.{mostCandidates}
+use Rattle.trustees.specs.Reasons.{mostTrustees}
 
 -- The sizes of an accepted list and of accepted ballots are so small that no product with the number of trustees
 -- wraps.
 pub record SmallSizes (inputs outputs gates conditional : ℕ) : Type 0 where
   pub inputs-most : inputs ≤ 1048576
-  pub outputs-most : outputs ≤ 8
-  pub gates-most : gates ≤ 1048576
+  pub outputs-most : outputs ≤ mostCandidates
+  pub gates-most : gates ≤ mostGates
   pub conditional-most : conditional ≤ 1048576
 
 -- The same, and there are at most five trustees.
 pub record SmallCall (inputs outputs gates conditional t : ℕ) : Type 0 where
   pub sizes : SmallSizes inputs outputs gates conditional
-  pub few : t ≤ 5
+  pub few : t ≤ mostTrustees
 
 -- The k closing bits, from place `first` on, are in each trustee's piece of the published table.
 pub record ClosingFits (t size first k : ℕ) (published : List ℕ) : Type 0 where
-  pub k-most : k ≤ 8
+  pub k-most : k ≤ mostCandidates
   pub closing-in : first + k ≤ size
   pub published-length : length published ≡ t * size
 

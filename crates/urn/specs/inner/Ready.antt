@@ -8,7 +8,7 @@ use lib.Dec.{T}
 use lib.ListN.{length}
 use Rattle.urn_chains.specs.declared.find.ChainPosition.the-variants.{Found}
 use Rattle.urn_chains.specs.Slots.{slotAt}
-use Rattle.urn_chains.specs.Sound.{gradedShape, goodJuror, urnSlots, sound, freeOf}
+use Rattle.urn_chains.specs.Sound.{gradedShape, goodJuror, urnSlots, sound, freeOf, mostSlots}
 use Rattle.urn.specs.declared.facts.Facts.{Facts}
 use Rattle.urn.specs.declared.facts.UrnCheck.{UrnCheck}
 use Rattle.urn.specs.Facts.{isEmpty, factsOf}
@@ -17,13 +17,13 @@ use Rattle.urn.specs.inner.Position.{positionIn}
 -- The result of checking an urn: its facts and, if it is sound, where the juror's ballot is.
 pub record UrnChecked (k d : ℕ) (urn : List ℕ) (juror : ℕ) (check : UrnCheck) : Type 0 where
   pub told : check .facts ≡ factsOf k d urn juror
-  pub few : check .facts .ballots ≤ 256
+  pub few : check .facts .ballots ≤ mostSlots
   pub placed : check .facts .sound ≡ true → check .position ≡ positionIn k d urn juror
 
 -- The facts can decide an admission: the number of ballots is so small that adding one does not overflow.
 pub record Countable (k d : ℕ) (facts : Facts) : Type 0 where
   pub graded : T (gradedShape k d)
-  pub few : facts .ballots ≤ 256
+  pub few : facts .ballots ≤ mostSlots
 
 -- The ballot can be put into the urn, which is sound and has a free slot.
 pub record Admissible (k d : ℕ) (urn : List ℕ) (juror : ℕ) (ballot : List ℕ) : Type 0 where

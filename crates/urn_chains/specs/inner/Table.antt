@@ -6,7 +6,7 @@ use Prim.Native.Nat.{ℕ, _*_, _≤_}
 use lib.Dec.{T}
 use lib.ListN.{length}
 use Rattle.urn_chains.specs.Slots.{slotBytes}
-use Rattle.urn_chains.specs.Sound.{gradedShape}
+use Rattle.urn_chains.specs.Sound.{gradedShape, mostSlots}
 use Rattle.urn_chains.specs.declared.sound.Soundness.{Soundness}
 use Rattle.urn_chains.specs.declared.sound.Soundness.the-variants.{Sound, Unsound}
 
@@ -14,7 +14,7 @@ use Rattle.urn_chains.specs.declared.sound.Soundness.the-variants.{Sound
 pub record SlotTable (b n : ℕ) (urn : List ℕ) : Type 0 where
   pub size : length urn ≡ n * slotBytes b
   pub least : 2 ≤ n
-  pub most : n ≤ 256
+  pub most : n ≤ mostSlots
   pub few : b ≤ 56
 
 -- The bytes are n slots for the ballots of a graded jury.

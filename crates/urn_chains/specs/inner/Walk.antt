@@ -7,7 +7,7 @@ use lib.ListN.{length, getD, set, replicate}
 use Rattle.urn_chains.specs.Slots.{Slot, slotAt}
 use Rattle.urn_chains.specs.Chains.{chain, ends}
 use Rattle.basics.specs.Lists.{all}
-use Rattle.urn_chains.specs.Sound.{goodBallot, goodJuror, inUrn, emptySlot}
+use Rattle.urn_chains.specs.Sound.{goodBallot, goodJuror, inUrn, emptySlot, mostSlots}
 use Rattle.urn_chains.specs.declared.walk.SlotCheck.{SlotCheck}
 use Rattle.urn_chains.specs.declared.walk.SlotCheck.the-variants.{Sound, Wrong}
 use Rattle.urn_chains.specs.declared.walk.Walk.{Walk}
@@ -38,7 +38,7 @@ freeAt slots i = inUrn (length slots) i && emptySlot (slotAt slots i)
 
 -- Marks for the numbers below 256, none of them set.
 unfoldable pub noMarks : List Bool
-noMarks = replicate 256 false
+noMarks = replicate mostSlots false
 
 -- The marks after those of these numbers are set.
 unfoldable pub markAll : List ℕ → List Bool → List Bool

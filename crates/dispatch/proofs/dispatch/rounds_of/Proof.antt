@@ -12,7 +12,7 @@ use borrow.Author.Needs.{needs}
 use Rattle.dispatch_rounds.specs.declared.header.JuryHeader.{JuryHeader}
 use Rattle.dispatch_rounds.specs.Tables.{Tables, remaining}
 use Rattle.dispatch_rounds.specs.Rounds.{eightOf, roundsFor}
-use Rattle.dispatch.specs.inner.Rounds.{mostGates}
+use Rattle.dispatch.specs.inner.Rounds.{longestList}
 use Rattle.dispatch_rounds.proofs.Pieces.{Upto, upto-start, upto-end, oneOf, upto-set, eight-zeros}
 use Rattle.dispatch_rounds.proofs.MidRound.{left-cons, padding}
 use Rattle.dispatch.proofs.Whole.{most-left, most-first}
@@ -50,7 +50,7 @@ few c =
     let x = getD (s .args .t2) j blank in
     omega (
       arith,
-      ap mostGates (left-cons (s .args .count) j (s .args .t2) blank (c .loop-test .taken) (enough s)),
+      ap longestList (left-cons (s .args .count) j (s .args .t2) blank (c .loop-test .taken) (enough s)),
       most-first x (drop (suc j) ss),
       most-left j ss,
       s .pre .gates-most,

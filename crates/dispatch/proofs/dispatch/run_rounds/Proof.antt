@@ -35,17 +35,17 @@ abbrev all : tie.Start Inv-loop μ-loop → Tables
 all s = tablesOf (s .args .lists .now) (s .args .ballots .now) (s .args .tapes .now) (s .args .wires .now) (s .args .boards .now)
 
 -- a bound for the gates of the longest jury
-few : (c : tie.At-loop Inv-loop μ-loop) → c .before .most-gates .result ≤ 1048576
+few : (c : tie.At-loop Inv-loop μ-loop) → c .before .longest-list .result ≤ 1048576
 few c =
     let s = c .before .before .before .before .before .before .before in
-    omega (arith, c .before .most-gates .ensures, few-gates 0 (take (s .args .count) (s .args .headers)) (all s) (s .pre .accepted))
+    omega (arith, c .before .longest-list .ensures, few-gates 0 (take (s .args .count) (s .args .headers)) (all s) (s .pre .accepted))
 
 -- a round gives at least one gate, so there are no more rounds than gates
 below : (done gatesPerRound most : ℕ) → 1 ≤ gatesPerRound → done * gatesPerRound < most → done < most
 below done gatesPerRound most h l = omega (arith, mul-le-mul {n₁ = done} {m₁ = 1} {n₂ = done} {m₂ = gatesPerRound} (omega arith) h)
 
-most-gates-requires : tie.Need-most-gates-requires Inv-loop μ-loop
-most-gates-requires c κs = c .before .before .before .before .before .pre .few
+longest-list-requires : tie.Need-longest-list-requires Inv-loop μ-loop
+longest-list-requires c κs = c .before .before .before .before .before .pre .few
 
 loop-holds : tie.Need-loop-holds Inv-loop μ-loop
 loop-holds c =
@@ -92,10 +92,10 @@ add-done c =
     omega (arith, l .loop .inv .3, few l)
 
 -- this round is needed: the longest jury is not finished
-needed : (c : tie.In-loop Inv-loop μ-loop) → c .before .loop .done < c .before .before .most-gates .result
+needed : (c : tie.In-loop Inv-loop μ-loop) → c .before .loop .done < c .before .before .longest-list .result
 needed c =
     let s = c .before .before .before .before .before .before .before .before in
-    below (c .before .loop .done) (s .args .gates-per-round) (c .before .before .most-gates .result) (s .pre .per-round-least) (c .loop-test .taken)
+    below (c .before .loop .done) (s .args .gates-per-round) (c .before .before .longest-list .result) (s .pre .per-round-least) (c .loop-test .taken)
 
 loop-less : tie.Need-loop-less Inv-loop μ-loop
 loop-less c = omega (arith, needed (c .before .before .before .before .before .before .before))
@@ -114,7 +114,7 @@ loop-again c =
       r .kept .1 .1 .1 .1 .1 .1 .1 .1 .1 .1 .0 ∙ l .inv .2,
       omega (arith, needed (c .before .before .before .before .before .before .before)),
       further (a .gates-per-round)
-          ((c .before .before .before .before .before .before .before) .before .before .most-gates .result) (l .done)
+          ((c .before .before .before .before .before .before .before) .before .before .longest-list .result) (l .done)
           (l .inv .4) (c .before .before .before .before .before .before .before .loop-test .taken),
     )
   where
@@ -133,7 +133,7 @@ same-length-2 c = c .before .loop .inv .2
 returns : tie.Need-returns Inv-loop μ-loop
 returns c =
     let l = c .before .loop in
-    let most = c .before .before .most-gates .ensures in
+    let most = c .before .before .longest-list .ensures in
     let s = c .before .before .before .before .before .before .before .before in
     let ss = take (s .args .count) (s .args .headers) in
     record {
@@ -150,7 +150,7 @@ run-rounds-spec =
     (tie.spec
     Inv-loop
     μ-loop
-    most-gates-requires
+    longest-list-requires
     loop-holds
     mul-loop
     round-requires

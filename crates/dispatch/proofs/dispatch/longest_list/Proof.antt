@@ -1,4 +1,4 @@
--- `dispatch::dispatch::most_gates` meets its contract: the larger of the maximum so far and the maximum of the rest
+-- `dispatch::dispatch::longest_list` meets its contract: the larger of the maximum so far and the maximum of the rest
 -- is that of all juries.
 -- Assumes nothing.
 use mathlib.Core.Path.{_≡_, _∙_, ap}
@@ -10,15 +10,15 @@ use lib.ListN.{length, getD, take, drop, drop-of-length-le}
 use lib.Seq.{length-take-le}
 use borrow.Author.Needs.{needs}
 use Rattle.dispatch_rounds.specs.declared.header.JuryHeader.{JuryHeader}
-use Rattle.dispatch.specs.inner.Rounds.{mostGates}
+use Rattle.dispatch.specs.inner.Rounds.{longestList}
 use Rattle.dispatch_rounds.proofs.MidRound.{left-cons}
 use Rattle.dispatch.proofs.Whole.{most-first, most-none}
-use Rattle.dispatch.proofs.dispatch.most_gates.Statement.{statement}
-use Rattle.dispatch.proofs.dispatch.most_gates.Tie as tie
+use Rattle.dispatch.proofs.dispatch.longest_list.Statement.{statement}
+use Rattle.dispatch.proofs.dispatch.longest_list.Tie as tie
 
 abbrev Inv-loop : tie.InvT-loop
 Inv-loop count headers most₀ j₀ most j =
-    (j ≤ count) × (max most (mostGates (drop j (take count headers))) ≡ mostGates (take count headers))
+    (j ≤ count) × (max most (longestList (drop j (take count headers))) ≡ longestList (take count headers))
 
 abbrev μ-loop : tie.MeasureT-loop
 μ-loop count headers most₀ j₀ most j = count - j
@@ -53,9 +53,9 @@ loop-again c =
     let l = c .before .before .before .loop in
     let ss = take (s .args .count) (s .args .t2) in
     let test = c .before .before .loop-test .taken in
-    let first = ap mostGates (left-cons (s .args .count) (l .j) (s .args .t2) blank test (enough s))
+    let first = ap longestList (left-cons (s .args .count) (l .j) (s .args .t2) blank test (enough s))
     ∙ most-first (getD (s .args .t2) (l .j) blank) (drop (suc (l .j)) ss) in
-    (omega arith, omega (arith, c .larger .ensures, first, ap (λ (x : ℕ). mostGates (drop x ss)) (add-one (l .j)), l .inv .1))
+    (omega arith, omega (arith, c .larger .ensures, first, ap (λ (x : ℕ). longestList (drop x ss)) (add-one (l .j)), l .inv .1))
 
 returns : tie.Need-returns Inv-loop μ-loop
 returns c =
@@ -65,10 +65,10 @@ returns c =
     let none-left : drop (l .j) ss ≡ [] =
     drop-of-length-le ss {i = l .j}
     (omega (arith, length-take-le (s .args .count) (s .args .t2) (enough s), c .loop-test .left)) in
-    omega (arith, ap mostGates none-left, most-none, l .inv .1)
+    omega (arith, ap longestList none-left, most-none, l .inv .1)
 
-pub most-gates-spec : {M : Type 1} → statement M
-most-gates-spec =
+pub longest-list-spec : {M : Type 1} → statement M
+longest-list-spec =
     tie.close
     (tie.spec
     Inv-loop
