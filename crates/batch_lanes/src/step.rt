@@ -2,6 +2,7 @@
 // asks. The same is asked of words as of bytes in the step over bytes.
 use crate::word;
 use gates::kind;
+use gates::kind::ConditionalMarks;
 ghost use mathlib.Core.Path.{_≡_};
 ghost use mathlib.Core.List.{_++_};
 ghost use Prim.Native.Nat.{_-_};
@@ -13,7 +14,7 @@ ghost use Rattle.batch_lanes.specs.inner.Step.{GateAsks, GateDone, StepD
 // Evaluates gate g of the table in all lanes: stores its value in wire `own` and, if it is conditional, puts wire
 // a, masked by the tape's word, on the board. Answers the number of shown words after it.
 fn run_gate(
-    marks: &[bool; 8],
+    marks: &ConditionalMarks,
     table: &[u32],
     g: usize,
     own: usize,

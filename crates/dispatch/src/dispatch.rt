@@ -1,7 +1,10 @@
 // The entry point of the dispatcher.
 use crate::tests::test_juries;
 use crate::verdict::JuriesVerdict;
+use dispatch_rounds::header::Headers;
 use dispatch_rounds::header::JuryHeader;
+use dispatch_rounds::header::JuryNumbers;
+use dispatch_rounds::header::MOST_JURIES;
 use dispatch_rounds::round::round;
 use jury::reason::Refusal;
 ghost use mathlib.Core.Path.{_≡_};
@@ -17,8 +20,6 @@ ghost use Rattle.dispatch.specs.inner.Rounds.{Ready, RoundsSmall, Rounds
 
 pub const LEAST_JURIES: usize = 1;
 
-pub const MOST_JURIES: usize = 8;
-
 pub const LEAST_GATES_PER_ROUND: usize = 1;
 
 pub const MOST_GATES_PER_ROUND: usize = 65536;
@@ -26,7 +27,7 @@ pub const MOST_GATES_PER_ROUND: usize = 65536;
 // The answer of a call: its verdict, and how many rounds each jury took, 0 past the last jury and all 0 on a refusal.
 pub struct Dispatched {
     pub verdict: JuriesVerdict,
-    pub rounds: [usize; 8],
+    pub rounds: JuryNumbers,
 }
 
 // Whether least ≤ n ≤ most.
@@ -44,7 +45,7 @@ fn larger(a: usize, b: usize) -> usize
 }
 
 // The number of gates of the longest list.
-fn longest_list(count: usize, headers: [JuryHeader; 8]) -> usize
+fn longest_list(count: usize, headers: Headers) -> usize
     requires { ⌜ count ≤ mostJuries ⌝ }
     ensures { λ r. ⌜ r ≡ longestList (take count headers) ⌝ }
 {
@@ -59,14 +60,14 @@ fn longest_list(count: usize, headers: [JuryHeader; 8]) -> usize
 }
 
 // How many rounds each jury takes. This does not depend on the other juries.
-fn rounds_of(count: usize, headers: [JuryHeader; 8], gates_per_round: usize) -> [usize; 8]
+fn rounds_of(count: usize, headers: Headers, gates_per_round: usize) -> JuryNumbers
     requires { ⌜ RoundsSmall count headers «gates_per_round» ⌝ }
     ensures { λ r.
         ⌜ ((t : Tables)
         → r ≡ eightOf (λ (s : JuryHeader) (p : Tables). roundsFor (s .gates) «gates_per_round»)
         (take count headers) t) ⌝ }
 {
-    let mut rounds = [0usize; 8];
+    let mut rounds = [0usize; MOST_JURIES];
     let mut j = 0;
     while j < count {
         let header = headers[j];
@@ -79,8 +80,8 @@ fn rounds_of(count: usize, headers: [JuryHeader; 8], gates_per_round: usize) -> 
 // Does one round after the other until the longest jury is finished.
 fn run_rounds(
     count: usize,
-    headers: [JuryHeader; 8],
-    conditional: [usize; 8],
+    headers: Headers,
+    conditional: JuryNumbers,
     gates_per_round: usize,
     lists: &[u32],
     ballots: &[u8],
@@ -104,7 +105,7 @@ fn run_rounds(
         }) conditional (now (wires .exit)) (now (boards .exit)) ⌝ }
 {
     let most = longest_list(count, headers);
-    let mut shown = [0usize; 8];
+    let mut shown = [0usize; MOST_JURIES];
     let mut done = 0;
     while done * gates_per_round < most {
         let after = round(
@@ -129,7 +130,7 @@ fn run_rounds(
 // number of juries are not read. At the end the juries' wires are emptied.
 pub fn dispatch(
     count: usize,
-    headers: [JuryHeader; 8],
+    headers: Headers,
     gates_per_round: usize,
     lists: &[u32],
     ballots: &[u8],
@@ -159,7 +160,7 @@ pub fn dispatch(
                 reason: Refusal::Juries,
                 jury: 0,
             },
-            rounds: [0usize; 8],
+            rounds: [0usize; MOST_JURIES],
         };
     }
     if !is_between(LEAST_GATES_PER_ROUND, gates_per_round, MOST_GATES_PER_ROUND) {
@@ -168,7 +169,7 @@ pub fn dispatch(
                 reason: Refusal::GatesPerRound,
                 jury: 0,
             },
-            rounds: [0usize; 8],
+            rounds: [0usize; MOST_JURIES],
         };
     }
     let tests = test_juries(count, headers, lists, ballots, tapes, wires, boards);
@@ -176,7 +177,7 @@ pub fn dispatch(
     let JuriesVerdict::Accepted = verdict else {
         return Dispatched {
             verdict,
-            rounds: [0usize; 8],
+            rounds: [0usize; MOST_JURIES],
         };
     };
     let conditional = tests.conditional;

@@ -1,7 +1,9 @@
 // The tests of all juries, before the first gate.
 use crate::verdict::JuriesVerdict;
 use crate::verdict::Tests;
+use dispatch_rounds::header::Headers;
 use dispatch_rounds::header::JuryHeader;
+use dispatch_rounds::header::MOST_JURIES;
 use dispatch_rounds::header::Places;
 use jury::reason::Verdict;
 use jury::shape::Shape;
@@ -100,7 +102,7 @@ fn verdict_of(answer: Answer, jury: usize) -> JuriesVerdict
 // Tests the juries in order: all tests of one jury come before those of the next.
 pub(crate) fn test_juries(
     count: usize,
-    headers: [JuryHeader; 8],
+    headers: Headers,
     lists: &[u32],
     ballots: &[u8],
     tapes: &[u8],
@@ -112,7 +114,7 @@ pub(crate) fn test_juries(
         ⌜ TestsFound (take count headers) (tablesOf (now (lists .entry)) (now (ballots .entry)) (now (tapes .entry))
         (now (wires .entry)) (now (boards .entry))) r ⌝ }
 {
-    let mut conditional = [0usize; 8];
+    let mut conditional = [0usize; MOST_JURIES];
     let mut at = Places {
         lists: 0,
         ballots: 0,

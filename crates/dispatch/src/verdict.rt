@@ -1,4 +1,5 @@
 // What the tests of all juries answer.
+use dispatch_rounds::header::JuryNumbers;
 use jury::reason::Refusal;
 
 // The verdict of a call: accepted, or the first reason of the first bad jury. For a reason that concerns no jury,
@@ -12,6 +13,6 @@ pub enum JuriesVerdict {
 // and the number of all their wires.
 pub(crate) struct Tests {
     pub(crate) verdict: JuriesVerdict,
-    pub(crate) conditional: [usize; 8],
+    pub(crate) conditional: JuryNumbers,
     pub(crate) wires: usize,
 }

@@ -11,6 +11,15 @@ pub struct JuryHeader {
     pub gates: usize,
 }
 
+// The most juries of a call.
+pub const MOST_JURIES: usize = 8;
+
+// A header for each jury of a call. Those past the number of juries do not matter.
+pub type Headers = [JuryHeader; MOST_JURIES];
+
+// A number for each jury, 0 past the last.
+pub type JuryNumbers = [usize; MOST_JURIES];
+
 // Where a jury's pieces begin in the five tables.
 pub struct Places {
     pub lists: usize,

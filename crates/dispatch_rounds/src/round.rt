@@ -1,5 +1,7 @@
 // A round: each unfinished jury, in order, does up to `gates_per_round` gates, the S of request 2.8.
+use crate::header::Headers;
 use crate::header::JuryHeader;
+use crate::header::JuryNumbers;
 use crate::header::Places;
 ghost use mathlib.Core.Path.{_≡_};
 ghost use mathlib.Core.Bool.{cond};
@@ -75,17 +77,17 @@ fn turn(
 // answer has their number after the round.
 pub fn round(
     count: usize,
-    headers: [JuryHeader; 8],
-    conditional: [usize; 8],
+    headers: Headers,
+    conditional: JuryNumbers,
     done: usize,
     gates_per_round: usize,
-    before: [usize; 8],
+    before: JuryNumbers,
     lists: &[u32],
     ballots: &[u8],
     tapes: &[u8],
     wires: &mut [u8],
     boards: &mut [u8],
-) -> [usize; 8]
+) -> JuryNumbers
     requires { ⌜ RoundReady count headers done «gates_per_round» (now lists) (now ballots) (now tapes) conditional
         (now wires)
         (now boards) before ⌝ }

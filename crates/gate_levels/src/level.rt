@@ -1,6 +1,7 @@
 // Writes the levels of a list, or compares a lent table with them. No function here is an entry point: the test of
 // the list establishes what each `requires` asks.
 use gates::kind;
+use gates::kind::ConditionalMarks;
 ghost use mathlib.Core.Path.{_≡_};
 ghost use Prim.Native.Nat.{_+_, _<_, max};
 ghost use lib.ListN.{length};
@@ -44,7 +45,13 @@ fn wire_level(inputs: usize, levels: &[u32], x: u32) -> u32
 }
 
 // The level of gate g, given the levels of the gates before it.
-fn gate_level(marks: &[bool; 8], inputs: usize, table: &[u32], g: usize, levels: &[u32]) -> u32
+fn gate_level(
+    marks: &ConditionalMarks,
+    inputs: usize,
+    table: &[u32],
+    g: usize,
+    levels: &[u32],
+) -> u32
     requires { ⌜ Marked (now marks) (LevelReady inputs (now table) g (now levels)) ⌝ }
     ensures { λ r. ⌜ r ≡ gateLevel inputs (now (levels .entry)) (gateAt (now (table .entry)) g) ⌝ }
 {

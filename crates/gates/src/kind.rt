@@ -22,11 +22,17 @@ pub const CHOICE: u32 = 7;
 // How many kinds there are: 0 to 7.
 pub const KINDS: u32 = 8;
 
+// A column of the table of kinds: operand counts.
+pub type OperandCounts = [u32; KINDS as usize];
+
+// A column of the table of kinds: conditional marks.
+pub type ConditionalMarks = [bool; KINDS as usize];
+
 // The number of operands of each kind.
-pub const OPERANDS: [u32; 8] = [0, 0, 1, 1, 2, 2, 2, 3];
+pub const OPERANDS: OperandCounts = [0, 0, 1, 1, 2, 2, 2, 3];
 
 // The conditional mark of each kind.
-pub const CONDITIONAL: [bool; 8] = [false, false, false, false, true, true, false, true];
+pub const CONDITIONAL: ConditionalMarks = [false, false, false, false, true, true, false, true];
 
 // The result of a gate: its value, or a refusal if its kind is above 7.
 pub enum GateValue {
@@ -35,7 +41,7 @@ pub enum GateValue {
 }
 
 // The number of operands that a kind uses. The caller lends `OPERANDS`, so that a loop builds this array only once.
-pub fn operands(counts: &[u32; 8], kind: u32) -> u32
+pub fn operands(counts: &OperandCounts, kind: u32) -> u32
     requires { ⌜ now counts ≡ operandCounts ⌝ }
     ensures { λ r. ⌜ r ≡ operandsOf kind ⌝ }
 {
@@ -47,7 +53,7 @@ pub fn operands(counts: &[u32; 8], kind: u32) -> u32
 }
 
 // Whether a kind is conditional: its gate then shows wire a under a mask.
-pub fn conditional(marks: &[bool; 8], kind: u32) -> bool
+pub fn conditional(marks: &ConditionalMarks, kind: u32) -> bool
     requires { ⌜ now marks ≡ conditionalMarks ⌝ }
     ensures { λ r. ⌜ r ≡ conditionalOf kind ⌝ }
 {
@@ -59,7 +65,7 @@ pub fn conditional(marks: &[bool; 8], kind: u32) -> bool
 }
 
 // What a gate of a kind adds to C: 1 if the kind is conditional, else 0.
-pub fn mark(marks: &[bool; 8], kind: u32) -> usize
+pub fn mark(marks: &ConditionalMarks, kind: u32) -> usize
     requires { ⌜ now marks ≡ conditionalMarks ⌝ }
     ensures { λ r. ⌜ r ≡ cond (conditionalOf kind) 1 0 ⌝ }
 {

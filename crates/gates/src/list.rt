@@ -1,6 +1,7 @@
 // The test of a gate list, the own one or a stranger's.
 use crate::kind;
 use crate::kind::GateValue;
+use crate::kind::OperandCounts;
 ghost use mathlib.Core.Path.{_≡_};
 ghost use mathlib.Core.Bool.{_&&_};
 ghost use Prim.Native.Nat.{ℕ, _+_, _<_};
@@ -57,7 +58,7 @@ fn own_wire(inputs: usize, g: usize) -> usize
 fn gate_is_good(
     inputs: usize,
     g: usize,
-    counts: &[u32; 8],
+    counts: &OperandCounts,
     kind: u32,
     a: u32,
     b: u32,

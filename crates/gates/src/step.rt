@@ -1,5 +1,6 @@
 // Evaluation. No function here is an entry point: the tests of this crate establish what each `requires` asks.
 use crate::kind;
+use crate::kind::ConditionalMarks;
 ghost use mathlib.Core.Path.{_≡_};
 ghost use mathlib.Core.List.{_++_};
 ghost use Prim.Native.Nat.{_+_, _%_};
@@ -19,7 +20,7 @@ fn masked(a: u8, m: u8) -> u8
 // Evaluates gate g of the table: stores its value in wire `own` and, if it is conditional, its shown bit on the
 // board. Returns the number of shown bits after this gate.
 fn run_gate(
-    marks: &[bool; 8],
+    marks: &ConditionalMarks,
     table: &[u32],
     g: usize,
     own: usize,

@@ -14,6 +14,9 @@ pub struct Shape {
     pub ballots: usize,
 }
 
+// The closing bytes of a jury: one for each candidate, 0 past the last.
+pub type ClosingBytes = [u8; Shape::MOST_CANDIDATES];
+
 // What the constructor answers.
 pub enum ShapeResult {
     Within(Shape),

@@ -7,6 +7,7 @@ use crate::tables::path_table;
 use crate::tables::votes_table;
 use gate_words::writer::Writer;
 use gates::kind;
+use jury::shape::Shape;
 use jury::width::width;
 use ranked_blocks::entries::Ranks;
 ghost use Prim.Native.Nat.{_*_};
@@ -17,6 +18,9 @@ ghost use Rattle.ranked_circuit.specs.OwnRanking.{ownRanking};
 ghost use Rattle.ranked_writer.specs.inner.Contests.{ContestsReady, ContestsDone, CircuitReady};
 ghost use Rattle.ranked_writer.specs.inner.Paths.{FirstReady, FirstDone, PathsReady, WordsDone};
 ghost use Rattle.ranked_writer.specs.inner.Paths.{PairReady, ListReady};
+
+// The largest number of pairs of candidates: a word's place is kept for each.
+const PAIRS: usize = Shape::MOST_CANDIDATES * Shape::MOST_CANDIDATES;
 
 // The tables of the numbers of ballots and of the links.
 fn first_tables(
@@ -44,7 +48,7 @@ fn path_tables(w: Writer, table: &mut [u32], words: &mut [u32], p: Ranks) -> Wri
         (pathsTo (p .candidates) (p .ballots) (p .digits) (p .candidates) .words)
         ⌝ }
 {
-    let mut links = [0u32; 64];
+    let mut links = [0u32; PAIRS];
     let mut next = first_tables(w, table, &mut links, words, p);
     let mut m: u32 = 0;
     while m < p.candidates {
@@ -70,8 +74,8 @@ fn pair_circuit(w: Writer, table: &mut [u32], p: Ranks) -> Writer
         Wrote w (now (table .entry)) (rankedList (p .candidates) (p .ballots) (p .digits)) (now (table .exit)) r
         ⌝ }
 {
-    let mut links = [0u32; 64];
-    let mut words = [0u32; 64];
+    let mut links = [0u32; PAIRS];
+    let mut words = [0u32; PAIRS];
     let linked = first_tables(w, table, &mut links, &mut words, p);
     output_gates(linked, table, &links, p.candidates, linked.wire)
 }
@@ -83,8 +87,8 @@ fn circuit(w: Writer, table: &mut [u32], p: Ranks) -> Writer
         Wrote w (now (table .entry)) (rankedList (p .candidates) (p .ballots) (p .digits)) (now (table .exit)) r
         ⌝ }
 {
-    let mut words = [0u32; 64];
-    let mut beats = [0u32; 64];
+    let mut words = [0u32; PAIRS];
+    let mut beats = [0u32; PAIRS];
     let paths = path_tables(w, table, &mut words, p);
     let met = contests(paths, table, &words, &mut beats, p);
     let lost = loser_rows(met, table, &beats, p.candidates);

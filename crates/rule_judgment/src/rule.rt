@@ -1,5 +1,7 @@
 // Full majority judgment from the matrix of grade counts. Nothing is struck out: the running sums of two candidates
 // at two grades decide whose sequence comes first, and sequences are equal only if all counts are equal.
+use jury::counts::GradeCounts;
+use jury::shape::ClosingBytes;
 use jury::shape::Shape;
 ghost use mathlib.Core.Path.{_≡_};
 ghost use Prim.Native.Nat.{_≤_};
@@ -20,7 +22,7 @@ pub struct Sums {
 
 // The closing bytes: 1 for each candidate with the first sequence, 0 for the others and from place k on. There is no
 // loop, and the matrix is lent: reading or copying as a whole what was just stored in parts would stall the processor.
-pub fn winners(shape: Shape, counts: &[[u16; 7]; 8]) -> [u8; 8]
+pub fn winners(shape: Shape, counts: &GradeCounts) -> ClosingBytes
     requires { ⌜ WinnersReady shape (now counts) ⌝ }
     ensures { λ r.
         ⌜ r ≡ eightBytes (judgmentOf (rowsIn (shape .candidates) (shape .grades) (now (counts .entry)))) ⌝ }
@@ -41,7 +43,7 @@ pub fn winners(shape: Shape, counts: &[[u16; 7]; 8]) -> [u8; 8]
 }
 
 // The closing byte of candidate c: 1 if it is one of k and has the counts of `first`, who wins.
-fn closing_byte(counts: &[[u16; 7]; 8], c: usize, first: usize, k: usize, d: usize) -> u8
+fn closing_byte(counts: &GradeCounts, c: usize, first: usize, k: usize, d: usize) -> u8
     requires { ⌜ RowsReady (now counts) c first d ⌝ }
     ensures { λ r. ⌜ r ≡ byteBeside (now (counts .entry)) k d first c ⌝ }
 {
@@ -56,7 +58,7 @@ fn closing_byte(counts: &[[u16; 7]; 8], c: usize, first: usize, k: usize, d: usi
 }
 
 // A candidate whose sequence no other sequence precedes.
-fn first_winner(counts: &[[u16; 7]; 8], k: usize, d: usize, n: usize) -> usize
+fn first_winner(counts: &GradeCounts, k: usize, d: usize, n: usize) -> usize
     requires { ⌜ FirstReady (now counts) k d n ⌝ }
     ensures { λ r. ⌜ WinningCandidate (now (counts .entry)) k d r ⌝ }
 {
@@ -72,7 +74,7 @@ fn first_winner(counts: &[[u16; 7]; 8], k: usize, d: usize, n: usize) -> usize
 }
 
 // Whether candidates a and b have the same counts.
-fn same_counts(counts: &[[u16; 7]; 8], a: usize, b: usize, d: usize) -> bool
+fn same_counts(counts: &GradeCounts, a: usize, b: usize, d: usize) -> bool
     requires { ⌜ RowsReady (now counts) a b d ⌝ }
     ensures { λ r. ⌜
         Compared (take d (getD (now (counts .entry)) a [])) (take d (getD (now (counts .entry)) b [])) d r
@@ -89,7 +91,7 @@ fn same_counts(counts: &[[u16; 7]; 8], a: usize, b: usize, d: usize) -> bool
 }
 
 // Whether the sequence of candidate a comes before that of b. Both have n grades.
-fn comes_before(counts: &[[u16; 7]; 8], a: usize, b: usize, d: usize, n: usize) -> bool
+fn comes_before(counts: &GradeCounts, a: usize, b: usize, d: usize, n: usize) -> bool
     requires { ⌜ SumsReady (now counts) a b d n ⌝ }
     ensures { λ r. ⌜
         r ≡ precedes (sequenceOf (take d (getD (now (counts .entry)) a [])))

@@ -1,4 +1,8 @@
 // Schulze's rule on a matrix of votes.
+use crate::votes::PairRow;
+use crate::votes::PairTable;
+use jury::shape::ClosingBytes;
+use jury::shape::Shape;
 ghost use mathlib.Core.Path.{_≡_};
 ghost use Prim.Native.Nat.{ℕ, _≤_, _<_, min, max};
 ghost use mathlib.Core.Bool.{cond};
@@ -11,12 +15,12 @@ ghost use Rattle.rule_schulze.specs.Closure as closure;
 ghost use Rattle.rule_schulze.specs.inner.Tables.{entry, Holds, HoldsPairs, unbeatenIn};
 
 // The closing bytes: 1 for a winner, 0 for the others and from place k on.
-pub fn winners(votes: [[u16; 8]; 8], k: usize) -> [u8; 8]
+pub fn winners(votes: PairTable, k: usize) -> ClosingBytes
     requires { ⌜ k ≤ mostCandidates ⌝ }
     ensures { λ r. ⌜ r ≡ eightBytes (spec.schulzeOf (entry votes) k) ⌝ }
 {
     let paths = strongest_paths(links(votes, k), k);
-    let mut closing = [0u8; 8];
+    let mut closing = [0u8; Shape::MOST_CANDIDATES];
     let mut i = 0;
     while i < k {
         if wins(paths, k, i) {
@@ -28,7 +32,7 @@ pub fn winners(votes: [[u16; 8]; 8], k: usize) -> [u8; 8]
 }
 
 // Whether no candidate j has a stronger path to i than i has to j.
-fn wins(paths: [[u16; 8]; 8], k: usize, i: usize) -> bool
+fn wins(paths: PairTable, k: usize, i: usize) -> bool
     requires { ⌜ (k ≤ mostCandidates) × (i < k) ⌝ }
     ensures { λ r. ⌜ r ≡ unbeatenIn paths k i ⌝ }
 {
@@ -43,11 +47,11 @@ fn wins(paths: [[u16; 8]; 8], k: usize, i: usize) -> bool
 }
 
 // The strengths of the links.
-fn links(votes: [[u16; 8]; 8], k: usize) -> [[u16; 8]; 8]
+fn links(votes: PairTable, k: usize) -> PairTable
     requires { ⌜ k ≤ mostCandidates ⌝ }
     ensures { λ r. ⌜ Holds k r (spec.link (entry votes)) ⌝ }
 {
-    let mut links = [[0u16; 8]; 8];
+    let mut links = [[0u16; Shape::MOST_CANDIDATES]; Shape::MOST_CANDIDATES];
     let mut i = 0;
     while i < k {
         let row = links_of(votes, k, i);
@@ -58,11 +62,11 @@ fn links(votes: [[u16; 8]; 8], k: usize) -> [[u16; 8]; 8]
 }
 
 // The strengths of the links from i.
-fn links_of(votes: [[u16; 8]; 8], k: usize, i: usize) -> [u16; 8]
+fn links_of(votes: PairTable, k: usize, i: usize) -> PairRow
     requires { ⌜ (k ≤ mostCandidates) × (i < k) ⌝ }
     ensures { λ r. ⌜ ((j : ℕ) → j < k → getD r j 0 ≡ spec.link (entry votes) i j) ⌝ }
 {
-    let mut row = [0u16; 8];
+    let mut row = [0u16; Shape::MOST_CANDIDATES];
     let mut j = 0;
     while j < k {
         let strength = link(votes[i][j], votes[j][i]);
@@ -80,7 +84,7 @@ fn link(forth: u16, back: u16) -> u16
 }
 
 // The strengths of the strongest paths, by the algorithm of Floyd and Warshall.
-fn strongest_paths(links: [[u16; 8]; 8], k: usize) -> [[u16; 8]; 8]
+fn strongest_paths(links: PairTable, k: usize) -> PairTable
     requires { ⌜ k ≤ mostCandidates ⌝ }
     ensures { λ r. ⌜ HoldsPairs k r (closure.closure k (entry links)) ⌝ }
 {
@@ -95,11 +99,11 @@ fn strongest_paths(links: [[u16; 8]; 8], k: usize) -> [[u16; 8]; 8]
 }
 
 // The strengths if paths over l are allowed too.
-fn detour(paths: [[u16; 8]; 8], k: usize, l: usize) -> [[u16; 8]; 8]
+fn detour(paths: PairTable, k: usize, l: usize) -> PairTable
     requires { ⌜ (k ≤ mostCandidates) × (l < k) ⌝ }
     ensures { λ r. ⌜ HoldsPairs k r (closure.detour l (entry paths)) ⌝ }
 {
-    let mut after = [[0u16; 8]; 8];
+    let mut after = [[0u16; Shape::MOST_CANDIDATES]; Shape::MOST_CANDIDATES];
     let mut i = 0;
     while i < k {
         let row = detour_from(paths, k, l, i);
@@ -110,13 +114,13 @@ fn detour(paths: [[u16; 8]; 8], k: usize, l: usize) -> [[u16; 8]; 8]
 }
 
 // Row i of the strengths if paths over l are allowed too. If i or j is l itself, the path over l is never stronger.
-fn detour_from(paths: [[u16; 8]; 8], k: usize, l: usize, i: usize) -> [u16; 8]
+fn detour_from(paths: PairTable, k: usize, l: usize, i: usize) -> PairRow
     requires { ⌜ (k ≤ mostCandidates) × (l < k) × (i < k) ⌝ }
     ensures { λ r. ⌜
         ((j : ℕ) → j < k → getD r j 0 ≡ max (entry paths i j) (min (entry paths i l) (entry paths l j)))
         ⌝ }
 {
-    let mut row = [0u16; 8];
+    let mut row = [0u16; Shape::MOST_CANDIDATES];
     let mut j = 0;
     while j < k {
         let way = weaker(paths[i][l], paths[l][j]);

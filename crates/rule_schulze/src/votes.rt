@@ -1,17 +1,24 @@
 // How many ballots put one candidate before another, for every pair.
+use jury::shape::Shape;
 ghost use mathlib.Core.Path.{_≡_};
 ghost use Prim.Native.Nat.{ℕ, _<_};
 ghost use lib.ListN.{getD};
 ghost use Rattle.rule_schulze.specs.Votes as spec;
 ghost use Rattle.rule_schulze.specs.inner.Tables.{Holds, RankedSize, VotesRowReady, VotesReady};
 
+// A number for each candidate.
+pub type PairRow = [u16; Shape::MOST_CANDIDATES];
+
+// A number for each pair of candidates.
+pub type PairTable = [PairRow; Shape::MOST_CANDIDATES];
+
 // The matrix of votes: entry (i, j) is the number of ballots that put i before j. Rows and columns from k on stay
 // 0.
-pub fn matrix(ballots: &[u8], k: usize, n: usize) -> [[u16; 8]; 8]
+pub fn matrix(ballots: &[u8], k: usize, n: usize) -> PairTable
     requires { ⌜ RankedSize k n (now ballots) ⌝ }
     ensures { λ r. ⌜ Holds k r (spec.votes k n (now (ballots .entry))) ⌝ }
 {
-    let mut table = [[0u16; 8]; 8];
+    let mut table = [[0u16; Shape::MOST_CANDIDATES]; Shape::MOST_CANDIDATES];
     let mut i = 0;
     while i < k {
         let row = row_of(ballots, k, n, i);
@@ -22,11 +29,11 @@ pub fn matrix(ballots: &[u8], k: usize, n: usize) -> [[u16; 8]; 8]
 }
 
 // Row i of the matrix.
-fn row_of(ballots: &[u8], k: usize, n: usize, i: usize) -> [u16; 8]
+fn row_of(ballots: &[u8], k: usize, n: usize, i: usize) -> PairRow
     requires { ⌜ VotesRowReady k n (now ballots) i ⌝ }
     ensures { λ r. ⌜ ((j : ℕ) → j < k → getD r j 0 ≡ spec.votes k n (now (ballots .entry)) i j) ⌝ }
 {
-    let mut row = [0u16; 8];
+    let mut row = [0u16; Shape::MOST_CANDIDATES];
     let mut j = 0;
     while j < k {
         let preferring = count_of(ballots, k, n, i, j);

@@ -2,6 +2,7 @@
 use crate::bits;
 use crate::table;
 use gates::kind;
+use gates::kind::ConditionalMarks;
 ghost use mathlib.Core.Path.{_≡_};
 ghost use mathlib.Core.List.{_∷_, []};
 ghost use Rattle.trustee_shares.specs.Shares.{secondFactor, maskedFirst, maskedSecond, productPart, partOfKind, part};
@@ -183,7 +184,7 @@ fn enter_free(t: usize, size: usize, gate: Numbers, own: usize, wires: &mut [u8]
 
 // Runs one gate, before which i conditional gates were run. Answers how many were run after it.
 pub(crate) fn run_gate(
-    marks: &[bool; 8],
+    marks: &ConditionalMarks,
     t: usize,
     pieces: Pieces,
     gate: Numbers,

@@ -1,5 +1,6 @@
 // A trustee's part of one gate's wire, and what it publishes for one gate.
 use gates::kind;
+use gates::kind::ConditionalMarks;
 use trustee_gates::bits;
 use trustee_gates::gate;
 use trustee_gates::gate::Numbers;
@@ -51,7 +52,7 @@ fn product(p: usize, i: usize, triples: &[u8], heard: &[u8]) -> u8
 
 // The part of a gate's wire, conditional or free; i conditional gates come before it. A free gate needs no product.
 fn gate_part(
-    marks: &[bool; 8],
+    marks: &ConditionalMarks,
     p: usize,
     gate: Numbers,
     i: usize,
@@ -76,7 +77,7 @@ fn gate_part(
 
 // Enters the part of a gate's wire if this round is the gate's level.
 pub(crate) fn enter_gate(
-    marks: &[bool; 8],
+    marks: &ConditionalMarks,
     p: usize,
     round: usize,
     level: usize,
@@ -106,7 +107,7 @@ pub(crate) fn enter_gate(
 
 // Publishes both masked factors if the gate is conditional and its level is the next one.
 pub(crate) fn publish_gate(
-    marks: &[bool; 8],
+    marks: &ConditionalMarks,
     next: usize,
     level: usize,
     numbers: Numbers,

@@ -1,4 +1,5 @@
 // The entry point [trustees].
+use jury::shape::ClosingBytes;
 use jury::shape::Shape;
 use tally::answer::Answer;
 ghost use mathlib.Core.Path.{_≡_};
@@ -15,17 +16,17 @@ ghost use Rattle.trustees.specs.Result.{TrusteesResult, trusteesResult};
 // and all 0 on a refusal.
 pub struct Tallied {
     pub answer: Answer,
-    pub closing: [u8; 8],
+    pub closing: ClosingBytes,
 }
 
 // Opens the closing bits, which are the last in each trustee's piece of the published table.
-fn open_closing(t: usize, size: usize, first: usize, k: usize, published: &[u8]) -> [u8; 8]
+fn open_closing(t: usize, size: usize, first: usize, k: usize, published: &[u8]) -> ClosingBytes
     requires { ⌜ ClosingFits t size first k (now published) ⌝ }
     ensures { λ r.
         ⌜ r ≡ eightBytes (tabulate k
         (λ j. opened t (λ p. part (piece size (now (published .entry)) p) (first + j)))) ⌝ }
 {
-    let mut closing = [0u8; 8];
+    let mut closing = [0u8; Shape::MOST_CANDIDATES];
     let mut j = 0;
     while j < k {
         closing[j] = trustee_gates::table::open(published, size, t, first + j);
@@ -74,7 +75,7 @@ pub fn run(
     else {
         return Tallied {
             answer,
-            closing: [0u8; 8],
+            closing: [0u8; Shape::MOST_CANDIDATES],
         };
     };
     let k = shape.candidates;

@@ -6,6 +6,7 @@ use crate::facts;
 use crate::facts::Facts;
 use crate::put;
 use jury::reason::Refusal;
+use jury::shape::Shape;
 use urn_chains::find::ChainPosition;
 ghost use mathlib.Core.Path.{_≡_};
 ghost use Prim.Native.Nat.{_*_};
@@ -59,7 +60,7 @@ fn take_ballot(k: usize, d: usize, urn: &mut [u8], before: usize, slot: usize)
 {
     let bytes = k * d;
     let size = 2 + bytes;
-    let zeros = [0u8; 56];
+    let zeros = [0u8; Shape::MOST_CANDIDATES * Shape::MOST_GRADES];
     let from = before * size;
     let at = slot * size;
     let free = urn[1];
