@@ -1,5 +1,5 @@
 -- The numbers that a call leaves in its answer array, and the status that it returns.
-use mathlib.Core.Option.{Option, none, some}
+use mathlib.Core.Option.{Option}
 use mathlib.Core.Bool.{cond}
 use mathlib.Core.List.{List, [], _∷_, _++_}
 use Prim.Native.Nat.{ℕ}
@@ -7,46 +7,62 @@ use lib.Dec.{ltb}
 use lib.ListN.{length, getD, drop}
 use Rattle.jury.specs.declared.shape.Shape.{Shape}
 use Rattle.jury.specs.Reason.{Reason}
-use Rattle.tally.specs.Answer.{Outcome, refused, accepted, Size}
+use Rattle.tally.specs.Answer.{Outcome, refused, accepted, outcome, Size}
 use Rattle.tally.specs.Measure.{Measures}
 use Rattle.tally.specs.Run.{RunResult}
 
 unfoldable pub shapeOf : ℕ → ℕ → ℕ → Shape
 shapeOf candidates grades ballots = record { candidates = candidates; grades = grades; ballots = ballots }
 
--- Write, test and run: the reason, 0 if accepted; the place; G; C. On a refusal G and C are 0.
-unfoldable pub sizeNumbers : Outcome Size → List ℕ
-sizeNumbers (refused r) = r .number ∷ r .place ∷ 0 ∷ 0 ∷ []
-sizeNumbers (accepted size) = 0 ∷ 0 ∷ size .gates ∷ size .conditional ∷ []
+-- Every answer: the reason, 0 if the call is accepted; the place; then what the call tells.
+unfoldable pub answerNumbers : {Values : Type 0} → Outcome Values → (told : List ℕ) → List ℕ
+answerNumbers (refused r) told = r .number ∷ r .place ∷ told
+answerNumbers (accepted values) told = 0 ∷ 0 ∷ told
 
--- Measure: the same, then I.
-unfoldable pub measureNumbers : Outcome Measures → List ℕ
-measureNumbers (refused r) = r .number ∷ r .place ∷ 0 ∷ 0 ∷ 0 ∷ []
-measureNumbers (accepted m) = 0 ∷ 0 ∷ m .gates ∷ m .conditional ∷ m .inputs ∷ []
+-- Calls with one number, such as the length of a text or the ballots in an urn. What a refused call tells is zeros.
+unfoldable pub oneTold : Outcome ℕ → List ℕ
+oneTold (refused r) = 0 ∷ []
+oneTold (accepted told) = told ∷ []
 
--- Count: reason and place, then the eight closing bytes, 0 on a refusal.
-unfoldable pub answerNumbers : Option Reason → List ℕ → List ℕ
-answerNumbers none closing = 0 ∷ 0 ∷ closing
-answerNumbers (some r) closing = r .number ∷ r .place ∷ closing
+-- Write, test and run tell G and C.
+unfoldable pub sizeTold : Outcome Size → List ℕ
+sizeTold (refused r) = 0 ∷ 0 ∷ []
+sizeTold (accepted size) = size .gates ∷ size .conditional ∷ []
 
--- Calls with one number, such as the length of a text or the ballots in an urn: reason and place, then that number, 0
--- on a refusal.
-unfoldable pub oneNumber : Outcome ℕ → List ℕ
-oneNumber (refused r) = r .number ∷ r .place ∷ 0 ∷ []
-oneNumber (accepted told) = 0 ∷ 0 ∷ told ∷ []
+-- Measure tells also I.
+unfoldable pub measureTold : Outcome Measures → List ℕ
+measureTold (refused r) = 0 ∷ 0 ∷ 0 ∷ []
+measureTold (accepted m) = m .gates ∷ m .conditional ∷ m .inputs ∷ []
 
--- How many numbers each kind of answer has.
+-- The answers with these numbers.
+abbrev pub oneNumbers : Outcome ℕ → List ℕ
+oneNumbers o = answerNumbers o (oneTold o)
+
+abbrev pub sizeNumbers : Outcome Size → List ℕ
+sizeNumbers o = answerNumbers o (sizeTold o)
+
+abbrev pub measureNumbers : Outcome Measures → List ℕ
+measureNumbers o = answerNumbers o (measureTold o)
+
+-- Calls with eight numbers, such as the closing bytes of a count.
+abbrev pub eightNumbers : Option Reason → (told : List ℕ) → List ℕ
+eightNumbers reason told = answerNumbers (outcome reason told) told
+
+-- How many numbers an answer has: reason and place, then one; G and C; G, C and a third; eight; G, C and eight.
+abbrev pub oneAnswer : ℕ
+oneAnswer = 3
+
 abbrev pub sizeAnswer : ℕ
 sizeAnswer = 4
 
-abbrev pub measureAnswer : ℕ
-measureAnswer = 5
+abbrev pub threeAnswer : ℕ
+threeAnswer = 5
 
-abbrev pub countAnswer : ℕ
-countAnswer = 10
+abbrev pub eightAnswer : ℕ
+eightAnswer = 10
 
-abbrev pub oneAnswer : ℕ
-oneAnswer = 3
+abbrev pub tallyAnswer : ℕ
+tallyAnswer = 12
 
 -- The first of the numbers: the reason, 0 if the call is accepted.
 unfoldable pub statusOf : List ℕ → ℕ

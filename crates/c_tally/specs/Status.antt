@@ -7,7 +7,7 @@ use Rattle.tally.specs.Measure.{measureOutcome}
 use Rattle.tally.specs.Run.{runResult}
 use Rattle.tally.specs.Test.{testOutcome}
 use Rattle.tally.specs.Write.{writeOutcome}
-use Rattle.c_answers.specs.Status.{SizeStatus, MeasureStatus, CountStatus}
+use Rattle.c_answers.specs.Status.{SizeStatus, MeasureStatus, EightStatus}
 
 abbrev pub lastReason : ℕ
 lastReason = 12
@@ -19,4 +19,4 @@ pub record StatusMeans : Type 0 where
   pub run : (s : Shape) (table ballots tape wires board answer : List ℕ)
       → SizeStatus lastReason answer (runResult s table ballots tape wires board .answer)
   pub count : (s : Shape) (ballots answer : List ℕ)
-      → CountStatus lastReason answer (countReason s ballots) (plainClosing s ballots)
+      → EightStatus lastReason answer (countReason s ballots) (plainClosing s ballots)

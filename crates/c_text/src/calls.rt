@@ -1,7 +1,7 @@
 // Lists as text, for C.
 use c_answers::array::ONE_ANSWER;
 use c_answers::array::SHORT_ANSWER;
-use c_answers::array::put_one;
+use c_answers::array::put_answer;
 use jury::reason::Refusal;
 use jury::shape::Shape;
 use jury::shape::ShapeResult;
@@ -12,19 +12,19 @@ ghost use mathlib.Core.List.{[], _∷_};
 ghost use Prim.Native.Nat.{_≤_};
 ghost use lib.ListN.{length};
 ghost use Rattle.text.specs.Answer.{lengthOutcome};
-ghost use Rattle.c_answers.specs.Numbers.{oneAnswer, oneNumber, shapeOf};
+ghost use Rattle.c_answers.specs.Numbers.{oneAnswer, oneNumbers, shapeOf};
 ghost use Rattle.c_answers.specs.inner.Puts.{Puts};
 ghost use Rattle.c_text.specs.Calls.{writeTextCall, readTextCall};
 
-// Puts the answer of writing or reading a text, and returns its status.
+// Puts reason, place and the length of what was written, and returns the status.
 fn put_length(outcome: Answer, answer: &mut [usize]) -> usize
     requires { ⌜ oneAnswer ≤ length (now answer) ⌝ }
     ensures { λ r.
-        ⌜ Puts oneAnswer (oneNumber (lengthOutcome outcome)) (now (answer .entry)) (now (answer .exit)) r ⌝ }
+        ⌜ Puts oneAnswer (oneNumbers (lengthOutcome outcome)) (now (answer .entry)) (now (answer .exit)) r ⌝ }
 {
     match outcome {
-        Answer::Accepted { length } => put_one(0, 0, length, answer),
-        Answer::Refused(reason) => put_one(reason.number(), reason.place(), 0, answer),
+        Answer::Accepted { length } => put_answer(0, 0, &[length], answer),
+        Answer::Refused(reason) => put_answer(reason.number(), reason.place(), &[0], answer),
     }
 }
 

@@ -5,8 +5,8 @@ use Rattle.jury.specs.declared.shape.Shape.{Shape}
 use Rattle.trustee_alone.specs.Start.{startOutcome, startedWires, startedPublished}
 use Rattle.trustee_alone.specs.Rounds.{roundOutcome, roundedWires, roundedPublished}
 use Rattle.trustee_alone.specs.Finish.{finishOutcome, finishedWires}
-use Rattle.c_answers.specs.Numbers.{sizeAnswer, sizeNumbers, CallResult, callResult}
-use Rattle.c_levels.specs.Numbers.{depthAnswer, depthNumbers}
+use Rattle.c_answers.specs.Numbers.{sizeAnswer, threeAnswer, sizeNumbers, CallResult, callResult}
+use Rattle.c_levels.specs.Numbers.{depthNumbers}
 
 -- Trustee p of t: its start, its round r, and its finish.
 abbrev pub startCall : (s : Shape) (table : List ℕ) (t p : ℕ) (shares triples wires published answer : List ℕ)
@@ -21,7 +21,7 @@ startCall s table t p shares triples wires published answer =
 abbrev pub roundCall : (s : Shape) (table : List ℕ) (t p r : ℕ) (levels triples heard wires published answer : List ℕ)
     → CallResult
 roundCall s table t p r levels triples heard wires published answer =
-    callResult depthAnswer (depthNumbers (roundOutcome s table t p r levels triples heard wires published)) answer
+    callResult threeAnswer (depthNumbers (roundOutcome s table t p r levels triples heard wires published)) answer
     (wires ∷ published ∷ [])
     (roundedWires s table t p r levels triples heard wires published
     ∷ roundedPublished s table t p r levels triples heard wires published ∷ [])

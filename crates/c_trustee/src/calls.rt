@@ -1,8 +1,8 @@
 // A trustee on its own machine, for C.
 use c_answers::array::SHORT_ANSWER;
-use c_answers::size::SIZE_ANSWER;
+use c_answers::array::SIZE_ANSWER;
+use c_answers::array::THREE_ANSWER;
 use c_answers::size::put_size;
-use c_levels::calls::DEPTH_ANSWER;
 use c_levels::calls::put_depths;
 use jury::reason::Refusal;
 use jury::shape::Shape;
@@ -82,7 +82,7 @@ pub extern "C" fn jugy_trustee_round(
         (now (levels .entry)) (now (triples .entry)) (now (heard .entry)) (now (wires .entry)) (now (published .entry))
         (now (answer .entry)) ⌝ }
 {
-    if answer.len() < DEPTH_ANSWER {
+    if answer.len() < THREE_ANSWER {
         return SHORT_ANSWER;
     }
     let ShapeResult::Within(shape) = Shape::new(candidates, grades, ballots) else {

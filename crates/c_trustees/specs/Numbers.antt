@@ -4,16 +4,11 @@ use Prim.Native.Nat.{ℕ}
 use Rattle.tally.specs.Answer.{Outcome, Size}
 use Rattle.trustees.specs.Call.{Call}
 use Rattle.trustees.specs.Result.{trusteesResult}
-use Rattle.c_answers.specs.Numbers.{sizeNumbers, CallResult, callResult}
+use Rattle.c_answers.specs.Numbers.{tallyAnswer, answerNumbers, sizeTold, CallResult, callResult}
 
--- The reason, 0 if accepted; the place; G; C; then the sums of the closing bits as eight bytes. On a refusal all of
--- these but the reason and the place are 0.
-unfoldable pub tallyNumbers : Outcome Size → List ℕ → List ℕ
-tallyNumbers outcome closing = sizeNumbers outcome ++ closing
-
--- How many there are.
-abbrev pub tallyAnswer : ℕ
-tallyAnswer = 12
+-- The call tells G and C, then the sums of the closing bits as eight bytes. On a refusal all of these are 0.
+abbrev pub tallyNumbers : Outcome Size → List ℕ → List ℕ
+tallyNumbers outcome closing = answerNumbers outcome (sizeTold outcome ++ closing)
 
 -- What a call from C leaves: the entry point's result, if the answer array has room for it.
 abbrev pub trusteesCall : Call → (answer : List ℕ) → CallResult

@@ -1,5 +1,5 @@
 // Empty urns, admission, withdrawal and their previews, for C.
-use crate::answer::put_answer;
+use crate::answer::put_ballots;
 use c_answers::array::ONE_ANSWER;
 use c_answers::array::SHORT_ANSWER;
 ghost use mathlib.Core.Path.{_≡_};
@@ -21,7 +21,7 @@ pub extern "C" fn jugy_empty_urn(
         return SHORT_ANSWER;
     }
     let outcome = urn::empty::empty(candidates, grades, urn);
-    put_answer(outcome, answer)
+    put_ballots(outcome, answer)
 }
 
 // Admits a juror's ballot: reason, place and the new number of ballots.
@@ -41,7 +41,7 @@ pub extern "C" fn jugy_admit(
         return SHORT_ANSWER;
     }
     let outcome = urn::admit::admit(candidates, grades, urn, juror, ballot);
-    put_answer(outcome, answer)
+    put_ballots(outcome, answer)
 }
 
 // Withdraws a juror's ballot: reason, place and the new number of ballots.
@@ -60,7 +60,7 @@ pub extern "C" fn jugy_withdraw(
         return SHORT_ANSWER;
     }
     let outcome = urn::withdraw::withdraw(candidates, grades, urn, juror);
-    put_answer(outcome, answer)
+    put_ballots(outcome, answer)
 }
 
 // What an admission would answer. The urn is not changed.
@@ -80,7 +80,7 @@ pub extern "C" fn jugy_preview_admit(
         return SHORT_ANSWER;
     }
     let outcome = urn::admit::preview(candidates, grades, urn, juror, ballot);
-    put_answer(outcome, answer)
+    put_ballots(outcome, answer)
 }
 
 // What a withdrawal would answer. The urn is not changed.
@@ -99,5 +99,5 @@ pub extern "C" fn jugy_preview_withdraw(
         return SHORT_ANSWER;
     }
     let outcome = urn::withdraw::preview(candidates, grades, urn, juror);
-    put_answer(outcome, answer)
+    put_ballots(outcome, answer)
 }

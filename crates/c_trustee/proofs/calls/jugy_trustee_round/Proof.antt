@@ -12,8 +12,8 @@ use Rattle.levels.specs.Answer.{Depths, depthsOutcome, levelReasonOf}
 use Rattle.trustee_alone.specs.Own.{OwnResult}
 use Rattle.trustee_alone.specs.Rounds.{roundResult}
 use Rattle.trustee_alone.proofs.Outside.{outside-round}
-use Rattle.c_answers.specs.Numbers.{shapeOf}
-use Rattle.c_levels.specs.Numbers.{depthAnswer, depthNumbers}
+use Rattle.c_answers.specs.Numbers.{threeAnswer, shapeOf}
+use Rattle.c_levels.specs.Numbers.{depthNumbers}
 use Rattle.c_answers.proofs.Answering.{short-call, put-call}
 use Rattle.c_trustee.proofs.calls.jugy_trustee_round.Statement.{statement}
 use Rattle.c_trustee.proofs.calls.jugy_trustee_round.Tie as tie
@@ -40,7 +40,7 @@ unfolding shapeOf
 returns c =
     let a = started-short c .args in
     let r = left-by (started-short c) in
-    short-call depthAnswer (a .answer .now) (c .if1 .taken) (depthNumbers (r .answer))
+    short-call threeAnswer (a .answer .now) (c .if1 .taken) (depthNumbers (r .answer))
     (a .wires .now ∷ a .published .now ∷ []) (r .wires ∷ r .published ∷ [])
 
 new-requires : tie.Need-new-requires
@@ -70,7 +70,7 @@ returns-2 c =
     let r = left-by (started long) in
     let left = outside-round s outside (a .table .now) (a .trustees) (a .trustee) (a .round) (a .levels .now)
     (a .triples .now) (a .heard .now) (a .wires .now) (a .published .now) in
-    put-call depthAnswer (a .answer .now) (long .if1 .left) (depthNumbers (r .answer)) _ _ _ (c .before .before .put-depths .ensures)
+    put-call threeAnswer (a .answer .now) (long .if1 .left) (depthNumbers (r .answer)) _ _ _ (c .before .before .put-depths .ensures)
     (ap (λ (z : OwnResult Depths). depthNumbers (z .answer)) (sym left)) (a .wires .now ∷ a .published .now ∷ [])
     (r .wires ∷ r .published ∷ []) _ (ap (λ (z : OwnResult Depths). z .wires ∷ z .published ∷ []) (sym left))
 
@@ -101,7 +101,7 @@ returns-3 c =
     let same = shape-is (withinLimits s) s (known .shape .given .0 .0) (sym (made .new .ensures .result) ∙ known .shape .given .1) in
     let r = left-by (started long) in
     let left = outcome .round .ensures ∙ ap (λ (z : Shape). left-for z (started long)) same in
-    put-call depthAnswer (a .answer .now) (long .if1 .left) (depthNumbers (r .answer)) _ _ _ (c .before .before .put-depths2 .ensures)
+    put-call threeAnswer (a .answer .now) (long .if1 .left) (depthNumbers (r .answer)) _ _ _ (c .before .before .put-depths2 .ensures)
     (ap (λ (z : OwnResult Depths). depthNumbers (z .answer)) left) (a .wires .now ∷ a .published .now ∷ [])
     (r .wires ∷ r .published ∷ []) _ (ap (λ (z : OwnResult Depths). z .wires ∷ z .published ∷ []) left)
 

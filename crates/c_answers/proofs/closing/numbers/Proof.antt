@@ -1,11 +1,11 @@
--- `c_tally::answer::numbers` meets its contract: each byte is its own number.
+-- `c_answers::closing::numbers` meets its contract: each byte is its own number.
 -- Assumes nothing.
 use mathlib.Core.Path.{_∙_, refl}
 use native.Mathlib.Omega.{arith}
 use borrow.Author.Needs.{needs}
 use Rattle.c_answers.proofs.Copying.{cons, eight}
-use Rattle.c_tally.proofs.answer.numbers.Statement.{statement}
-use Rattle.c_tally.proofs.answer.numbers.Tie as tie
+use Rattle.c_answers.proofs.closing.numbers.Statement.{statement}
+use Rattle.c_answers.proofs.closing.numbers.Tie as tie
 
 array-read-wide : tie.Need-array-read-wide
 array-read-wide c = search needs

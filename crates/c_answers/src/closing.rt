@@ -1,0 +1,19 @@
+// Closing bytes as numbers.
+use basics::byte::wide;
+ghost use mathlib.Core.Path.{_≡_};
+
+// The eight closing bytes as numbers.
+pub fn numbers(closing: [u8; 8]) -> [usize; 8]
+    ensures { λ r. ⌜ r ≡ closing ⌝ }
+{
+    [
+        wide(closing[0]),
+        wide(closing[1]),
+        wide(closing[2]),
+        wide(closing[3]),
+        wide(closing[4]),
+        wide(closing[5]),
+        wide(closing[6]),
+        wide(closing[7]),
+    ]
+}
