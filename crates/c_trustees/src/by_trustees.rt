@@ -16,7 +16,8 @@ ghost use lib.ListN.{length};
 ghost use Rattle.tally.specs.Answer.{outcomeOf};
 ghost use Rattle.c_answers.specs.Numbers.{tallyAnswer, shapeOf};
 ghost use Rattle.c_answers.specs.inner.Puts.{Puts};
-ghost use Rattle.c_trustees.specs.Numbers.{tallyNumbers, trusteesCall};
+ghost use Rattle.c_trustees.specs.Calls.{trusteesCall};
+ghost use Rattle.c_trustees.specs.Numbers.{tallyNumbers};
 
 // What the call tells: G and C, then the eight closing bytes.
 fn told(gates: usize, conditional: usize, closing: [u8; 8]) -> [usize; 10]

@@ -1,5 +1,5 @@
--- `c_trustee::calls::jugy_trustee_finish` meets its contract: if the answer array is long enough, it answers what the
--- entry point does.
+-- `c_trustees::one_trustee::jugy_trustee_finish` meets its contract: if the answer array is long enough, it answers
+-- what the entry point does.
 -- Assumes nothing.
 use mathlib.Core.Path.{_∙_, sym, ap}
 use mathlib.Core.List.{[], _∷_}
@@ -13,8 +13,8 @@ use Rattle.trustee_alone.specs.Finish.{FinishResult, finishResult}
 use Rattle.trustee_alone.proofs.Outside.{outside-finish}
 use Rattle.c_answers.specs.Numbers.{sizeAnswer, sizeNumbers, shapeOf}
 use Rattle.c_answers.proofs.Answering.{short-call, put-call}
-use Rattle.c_trustee.proofs.calls.jugy_trustee_finish.Statement.{statement}
-use Rattle.c_trustee.proofs.calls.jugy_trustee_finish.Tie as tie
+use Rattle.c_trustees.proofs.one_trustee.jugy_trustee_finish.Statement.{statement}
+use Rattle.c_trustees.proofs.one_trustee.jugy_trustee_finish.Tie as tie
 
 -- What the entry point leaves for a shape, by its other arguments at the start; and what this call leaves.
 abbrev left-for : Shape → tie.Start → FinishResult

@@ -12,7 +12,7 @@ use tally::answer::Answer;
 ghost use mathlib.Core.Path.{_≡_};
 ghost use mathlib.Core.List.{[], _∷_};
 ghost use Rattle.c_answers.specs.Numbers.{shapeOf};
-ghost use Rattle.c_trustee.specs.Calls.{startCall, roundCall, finishCall};
+ghost use Rattle.c_trustees.specs.Calls.{startCall, roundCall, finishCall};
 
 // A trustee starts: reason, place, G and C. Its wire parts are its ballot parts, then zeros; nothing is published.
 #[no_mangle]
