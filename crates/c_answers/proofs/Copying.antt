@@ -26,7 +26,7 @@ put-end : (told answer₀ answer : List ℕ) (i : ℕ) → Putting told answer�
 put-end told answer₀ answer i p h =
     sym (ap (λ (l : List ℕ). sets answer (2 + i) l) (drop-of-length-le told {i = i} h)) ∙ p .rest
 
--- reason and place, then what is told
+-- the array holds reason, place and what is told, then its old contents
 pub all-put : (reason place : ℕ) (told before answer : List ℕ) (i : ℕ) → 2 + length told ≤ length before
     → Putting told (set (set before 0 reason) 1 place) answer i → length told ≤ i
     → answer ≡ (reason ∷ place ∷ told) ++ drop (2 + length told) before

@@ -26,7 +26,7 @@ record Numbered (last : ℕ) (r : Reason) : Type 0 where
   pub most : r .number ≤ last
 
 module _ (last : ℕ) where
-  -- by the test of the first of them
+  -- by whether the reason has the first of these numbers
   by-first : (n : ℕ) (ns : List ℕ) (r : Reason) (t : Bool) → eqb (r .number) n ≡ t → T (leb 1 n && leb n last)
       → (T (hasNumberIn ns r) → Numbered last r) → T (t || hasNumberIn ns r) → Numbered last r
   by-first n ns r true e m rest h =
@@ -48,7 +48,7 @@ module _ (last : ℕ) where
   few [] m = ltb→lt last shortAnswer m
   few (n ∷ ns) m = few ns (and-right (leb 1 n && leb n last) (fit last ns) m)
 
-  -- a status of numbers that begin with 0 exactly if the call is accepted, and with a number up to the last
+  -- if the first number of an answer is 0 exactly for an accepted call, and at most the last
   reads : {Values : Type 0} → last < shortAnswer → (needed : ℕ) (o : Outcome Values) (told answer : List ℕ)
       → statusOf (answerNumbers o told) ≤ last → ((statusOf (answerNumbers o told) ≡ 0) ↔ T (isAccepted o))
       → StatusReads last needed o told answer

@@ -14,12 +14,12 @@ use Rattle.tally.specs.Run.{RunResult}
 unfoldable pub shapeOf : ℕ → ℕ → ℕ → Shape
 shapeOf candidates grades ballots = record { candidates = candidates; grades = grades; ballots = ballots }
 
--- Every answer: the reason, 0 if the call is accepted; the place; then what the call tells.
+-- Every answer has the reason, 0 if the call is accepted, and the place. Then comes what the call tells.
 unfoldable pub answerNumbers : {Values : Type 0} → Outcome Values → (told : List ℕ) → List ℕ
 answerNumbers (refused r) told = r .number ∷ r .place ∷ told
 answerNumbers (accepted values) told = 0 ∷ 0 ∷ told
 
--- Calls with one number, such as the length of a text or the ballots in an urn. What a refused call tells is zeros.
+-- Some calls tell one number, such as the length of a text or the ballots in an urn. A refused call tells zeros.
 unfoldable pub oneTold : Outcome ℕ → List ℕ
 oneTold (refused r) = 0 ∷ []
 oneTold (accepted told) = told ∷ []
@@ -29,7 +29,7 @@ unfoldable pub sizeTold : Outcome Size → List ℕ
 sizeTold (refused r) = 0 ∷ 0 ∷ []
 sizeTold (accepted size) = size .gates ∷ size .conditional ∷ []
 
--- Measure tells also I.
+-- Measure also tells I.
 unfoldable pub measureTold : Outcome Measures → List ℕ
 measureTold (refused r) = 0 ∷ 0 ∷ 0 ∷ []
 measureTold (accepted m) = m .gates ∷ m .conditional ∷ m .inputs ∷ []
@@ -44,11 +44,12 @@ sizeNumbers o = answerNumbers o (sizeTold o)
 abbrev pub measureNumbers : Outcome Measures → List ℕ
 measureNumbers o = answerNumbers o (measureTold o)
 
--- Calls with eight numbers, such as the closing bytes of a count.
+-- Some calls tell eight numbers, such as the closing bytes of a count. These are zeros on a refusal already.
 abbrev pub eightNumbers : Option Reason → (told : List ℕ) → List ℕ
 eightNumbers reason told = answerNumbers (outcome reason told) told
 
--- How many numbers an answer has: reason and place, then one; G and C; G, C and a third; eight; G, C and eight.
+-- How many numbers an answer has. Reason and place come first; after them one number, or G and C, or G, C and a
+-- third, or eight numbers, or G, C and eight bytes.
 abbrev pub oneAnswer : ℕ
 oneAnswer = 3
 
@@ -86,8 +87,8 @@ pub record CallResult : Type 0 where
   pub answer : List ℕ
   pub lent : List (List ℕ)
 
--- The same from an answer of this length, given the lent tables before and as the entry point leaves them. If the
--- answer array is too short, nothing changes.
+-- What a call leaves, given the numbers of its answer, and the lent tables before the call and as the entry point
+-- leaves them. If the answer array is too short, nothing changes.
 unfoldable pub callResult : (needed : ℕ) (numbers answer : List ℕ) (before after : List (List ℕ)) → CallResult
 callResult needed numbers answer before after =
     record {
@@ -96,7 +97,7 @@ callResult needed numbers answer before after =
       lent = cond (ltb (length answer) needed) before after;
     }
 
--- The same for a call that leaves a board, from what its run leaves.
+-- What a call that fills a board leaves, from what its run leaves.
 abbrev pub boardCall : (r : RunResult) (wires board answer : List ℕ) → CallResult
 boardCall r wires board answer =
     callResult sizeAnswer (sizeNumbers (r .answer)) answer (wires ∷ board ∷ []) (r .wires ∷ r .board ∷ [])

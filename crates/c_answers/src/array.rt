@@ -7,7 +7,8 @@ ghost use Rattle.c_answers.specs.inner.Puts.{Puts};
 // The status of a call whose answer array is too short. No reason has this number, and such a call changes nothing.
 pub const SHORT_ANSWER: usize = 255;
 
-// The lengths of answers: reason and place, then one number; G and C; G, C and a third; eight; G, C and eight.
+// How long an answer is. Reason and place come first; after them one number, or G and C, or G, C and a third, or
+// eight numbers, or G, C and eight bytes.
 pub const ONE_ANSWER: usize = 3;
 
 pub const SIZE_ANSWER: usize = 4;
@@ -18,7 +19,8 @@ pub const EIGHT_ANSWER: usize = 10;
 
 pub const TALLY_ANSWER: usize = 12;
 
-// Puts an answer at the start of the lent array, reason and place first, and returns its status, the reason.
+// Writes reason, place and the numbers told to the start of the array. The rest of the array stays. The reason is
+// returned, because it is the status of the call.
 pub fn put_answer(reason: usize, place: usize, told: &[usize], answer: &mut [usize]) -> usize
     requires { ⌜ 2 + length (now told) ≤ length (now answer) ⌝ }
     ensures { λ r.

@@ -1,8 +1,8 @@
-// Closing bytes as numbers.
+// Closing bytes in an answer.
 use basics::byte::wide;
 ghost use mathlib.Core.Path.{_≡_};
 
-// The eight closing bytes as numbers.
+// The eight closing bytes as numbers of an answer. A candidate that the shape does not have has byte 0.
 pub fn numbers(closing: [u8; 8]) -> [usize; 8]
     ensures { λ r. ⌜ r ≡ closing ⌝ }
 {

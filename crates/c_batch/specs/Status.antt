@@ -1,4 +1,4 @@
--- What the status of a run for 64 juries means, for any arguments. The largest number of its reasons is 12.
+-- What the status of a run for 64 juries means, for any arguments. Its largest reason is 12.
 use mathlib.Core.List.{List}
 use Prim.Native.Nat.{ℕ}
 use Rattle.c_answers.specs.Status.{SizeStatus}

@@ -7,8 +7,8 @@ use Rattle.dispatch.specs.Call.{Call}
 use Rattle.dispatch.specs.Result.{DispatchResult, dispatchResult}
 use Rattle.c_answers.specs.Numbers.{eightAnswer, eightNumbers, CallResult, callResult}
 
--- Four numbers a jury: k, d, n and G. A number that the array does not hold counts as 0; a header with k = 0 is
--- refused for reason 1.
+-- Four numbers for each jury: k, d, n and G. A number past the end of the array is 0; a header with k = 0 is refused
+-- for reason 1.
 unfoldable pub headerAt : List ℕ → ℕ → JuryHeader
 headerAt numbers j =
     record {

@@ -1,4 +1,4 @@
--- What the status of the dispatcher means, for any arguments. The largest number of its reasons is 20.
+-- What the status of the dispatcher means, for any arguments. Its largest reason is 20.
 use mathlib.Core.List.{List}
 use Prim.Native.Nat.{ℕ}
 use Rattle.dispatch.specs.Call.{Call}

@@ -14,7 +14,7 @@ ghost use Rattle.c_answers.specs.Numbers.{eightAnswer, eightNumbers};
 ghost use Rattle.c_answers.specs.inner.Puts.{Puts};
 ghost use Rattle.c_dispatch.specs.Numbers.{headerAt, headersIn, dispatchCall};
 
-// Number i of an array, 0 past its end.
+// Number i of an array, or 0 past its end.
 fn number_at(numbers: &[usize], i: usize) -> usize
     ensures { λ r. ⌜ r ≡ getD (now (numbers .entry)) i 0 ⌝ }
 {
@@ -35,7 +35,8 @@ fn header_at(numbers: &[usize], j: usize) -> JuryHeader
     }
 }
 
-// The eight headers, four numbers each. Those that the array does not hold are zeros, which reason 1 refuses.
+// The eight headers, four numbers each. A number past the end of the array is 0, so a missing header is refused for
+// reason 1.
 fn headers_in(numbers: &[usize]) -> [JuryHeader; 8]
     ensures { λ r. ⌜ r ≡ headersIn (now (numbers .entry)) ⌝ }
 {
@@ -69,7 +70,7 @@ fn put_rounds(verdict: JuriesVerdict, rounds: [usize; 8], answer: &mut [usize]) 
     }
 }
 
-// Runs up to eight juries in rounds: reason, place and eight numbers of rounds.
+// Runs up to eight juries in rounds. Answers reason, place and eight numbers of rounds.
 #[no_mangle]
 pub extern "C" fn jugy_dispatch(
     count: usize,

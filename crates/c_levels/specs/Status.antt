@@ -1,4 +1,4 @@
--- What the status of the call [levels] means, for any arguments. The largest number of its reasons is 200.
+-- What the status of the call [levels] means, for any arguments. Its largest reason is 200.
 use mathlib.Core.List.{List}
 use Prim.Native.Nat.{ℕ}
 use Rattle.jury.specs.declared.shape.Shape.{Shape}

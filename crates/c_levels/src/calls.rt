@@ -1,4 +1,4 @@
-// Levels, for C.
+// The levels of a list, for C.
 use c_answers::array::SHORT_ANSWER;
 use c_answers::array::THREE_ANSWER;
 use c_answers::array::put_answer;
@@ -33,7 +33,7 @@ pub fn put_depths(outcome: Answer, answer: &mut [usize]) -> usize
     }
 }
 
-// Writes the level of each gate of a list, whoever wrote it: reason, place, G, C and R.
+// Writes the level of each gate of any list. Answers reason, place, G, C and R.
 #[no_mangle]
 pub extern "C" fn jugy_levels(
     candidates: usize,

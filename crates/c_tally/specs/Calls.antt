@@ -18,7 +18,7 @@ abbrev pub writeCall : (s : Shape) (table answer : List ℕ) → CallResult
 writeCall s table answer =
     callResult sizeAnswer (sizeNumbers (writeOutcome s table)) answer (table ∷ []) (writeResult s table ∷ [])
 
--- What writing promises besides: what holds for the list of a shape within the limits.
+-- Writing also promises what holds for the own list of any shape within the limits.
 pub record WriteLeaves (s : Shape) (table answer : List ℕ) (left : CallResult) : Type 0 where
   pub leaves : left ≡ writeCall s table answer
   pub holds : HoldsWithin s

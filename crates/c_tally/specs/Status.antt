@@ -1,4 +1,4 @@
--- What the status of each call means, for any arguments. The largest number of their reasons is 12, of rankings.
+-- What the status of each call means, for any arguments. Their largest reason is 12, for a bad ranking.
 use mathlib.Core.List.{List}
 use Prim.Native.Nat.{ℕ}
 use Rattle.jury.specs.declared.shape.Shape.{Shape}

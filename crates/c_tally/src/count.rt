@@ -12,7 +12,7 @@ ghost use mathlib.Core.List.{[]};
 ghost use Rattle.c_answers.specs.Numbers.{shapeOf};
 ghost use Rattle.c_tally.specs.Calls.{countCall};
 
-// Counts plainly: reason, place and the eight closing bytes.
+// Counts without a circuit. Answers reason, place and the eight closing bytes.
 #[no_mangle]
 pub extern "C" fn jugy_count(
     candidates: usize,

@@ -11,7 +11,7 @@ ghost use mathlib.Core.List.{[]};
 ghost use Rattle.c_answers.specs.Numbers.{shapeOf};
 ghost use Rattle.c_tally.specs.Calls.{measureCall};
 
-// Measures the own list of a shape: reason, place, G, C and I.
+// Measures the own list of a shape. Answers reason, place, G, C and I.
 #[no_mangle]
 pub extern "C" fn jugy_measure(
     candidates: usize,

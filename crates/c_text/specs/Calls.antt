@@ -7,7 +7,7 @@ use Rattle.text.specs.Write.{writeTextResult}
 use Rattle.text.specs.Read.{readTextResult}
 use Rattle.c_answers.specs.Numbers.{oneAnswer, oneNumbers, CallResult, callResult}
 
--- The same from what the entry point leaves.
+-- What either call leaves, from what its entry point leaves.
 abbrev pub textCall : (r : TextResult) (output answer : List ℕ) → CallResult
 textCall r output answer = callResult oneAnswer (oneNumbers (r .answer)) answer (output ∷ []) (r .output ∷ [])
 

@@ -28,7 +28,7 @@ fn put_length(outcome: Answer, answer: &mut [usize]) -> usize
     }
 }
 
-// Writes the text of a list, whoever wrote it: reason, place and the number of characters written.
+// Writes any list as text. Answers reason, place and the number of characters written.
 #[no_mangle]
 pub extern "C" fn jugy_write_text(
     candidates: usize,
@@ -53,7 +53,7 @@ pub extern "C" fn jugy_write_text(
     put_length(outcome, answer)
 }
 
-// Reads a text as a list: reason, place and how many numbers were written.
+// Reads a text as a list. Answers reason, place and how many numbers were written.
 #[no_mangle]
 pub extern "C" fn jugy_read_text(
     candidates: usize,

@@ -11,7 +11,7 @@ use Rattle.c_answers.specs.Numbers.{sizeAnswer, threeAnswer, tallyAnswer, sizeN
 use Rattle.c_levels.specs.Numbers.{depthNumbers}
 use Rattle.c_trustees.specs.Numbers.{tallyNumbers}
 
--- The tally by all trustees.
+-- The tally by all trustees together.
 abbrev pub trusteesCall : Call → (answer : List ℕ) → CallResult
 trusteesCall c answer =
     let r = trusteesResult c in

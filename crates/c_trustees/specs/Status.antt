@@ -1,5 +1,5 @@
--- What the status of the trustees' calls means, for any arguments. The largest number of the reasons is 18, and 202
--- for a round of one trustee.
+-- What the status of the trustees' calls means, for any arguments. The largest reason is 18, or 202 for a round of one
+-- trustee.
 use mathlib.Core.List.{List}
 use Prim.Native.Nat.{ℕ}
 use Rattle.jury.specs.declared.shape.Shape.{Shape}

@@ -59,7 +59,8 @@ fn put_tally(outcome: Tallied, answer: &mut [usize]) -> usize
     }
 }
 
-// Tallies ballots that trustees hold in parts: reason, place, G, C and the opened closing bits as eight bytes.
+// Tallies ballots that trustees hold in parts. Answers reason, place, G, C and the opened closing bits as eight
+// bytes.
 #[no_mangle]
 pub extern "C" fn jugy_trustees(
     candidates: usize,

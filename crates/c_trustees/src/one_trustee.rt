@@ -14,7 +14,8 @@ ghost use mathlib.Core.List.{[], _∷_};
 ghost use Rattle.c_answers.specs.Numbers.{shapeOf};
 ghost use Rattle.c_trustees.specs.Calls.{startCall, roundCall, finishCall};
 
-// A trustee starts: reason, place, G and C. Its wire parts are its ballot parts, then zeros; nothing is published.
+// A trustee starts: its wire parts are its ballot parts, then zeros, and nothing is published yet. Answers reason,
+// place, G and C.
 #[no_mangle]
 pub extern "C" fn jugy_trustee_start(
     candidates: usize,
@@ -56,7 +57,8 @@ pub extern "C" fn jugy_trustee_start(
     put_size(outcome, answer)
 }
 
-// A round of a trustee: reason, place, G, C and R. It enters the parts of this level and publishes for the next.
+// A trustee plays a round: it computes its wire parts of this level and publishes for the next. Answers reason, place,
+// G, C and R.
 #[no_mangle]
 pub extern "C" fn jugy_trustee_round(
     candidates: usize,
@@ -106,7 +108,7 @@ pub extern "C" fn jugy_trustee_round(
     put_depths(outcome, answer)
 }
 
-// A trustee finishes: reason, place, G and C. Its wire parts are emptied.
+// A trustee finishes: its wire parts are emptied. Answers reason, place, G and C.
 #[no_mangle]
 pub extern "C" fn jugy_trustee_finish(
     candidates: usize,

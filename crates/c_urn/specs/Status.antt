@@ -1,5 +1,5 @@
--- What the status of a call on an urn means, for any arguments. The largest number of these reasons is 15, and 13 for
--- a run on an urn. A preview answers what the call itself would.
+-- What the status of a call on an urn means, for any arguments. The largest reason is 15, or 13 for a run on an
+-- urn. A preview answers what the call itself would.
 use mathlib.Core.List.{List}
 use Prim.Native.Nat.{ℕ}
 use Rattle.jury.specs.declared.shape.Shape.{Shape}

@@ -6,7 +6,7 @@ ghost use mathlib.Core.Path.{_≡_};
 ghost use mathlib.Core.List.{[], _∷_};
 ghost use Rattle.c_urn.specs.Calls.{emptyCall, admitCall, withdrawCall, previewAdmitCall, previewWithdrawCall};
 
-// Makes a table into an empty urn: reason, place and the number of ballots, 0.
+// Turns a table into an empty urn. Answers reason, place and the number of ballots, 0.
 #[no_mangle]
 pub extern "C" fn jugy_empty_urn(
     candidates: usize,
@@ -24,7 +24,7 @@ pub extern "C" fn jugy_empty_urn(
     put_ballots(outcome, answer)
 }
 
-// Admits a juror's ballot: reason, place and the new number of ballots.
+// Admits a juror's ballot. Answers reason, place and the new number of ballots.
 #[no_mangle]
 pub extern "C" fn jugy_admit(
     candidates: usize,
@@ -44,7 +44,7 @@ pub extern "C" fn jugy_admit(
     put_ballots(outcome, answer)
 }
 
-// Withdraws a juror's ballot: reason, place and the new number of ballots.
+// Withdraws a juror's ballot. Answers reason, place and the new number of ballots.
 #[no_mangle]
 pub extern "C" fn jugy_withdraw(
     candidates: usize,
@@ -63,7 +63,7 @@ pub extern "C" fn jugy_withdraw(
     put_ballots(outcome, answer)
 }
 
-// What an admission would answer. The urn is not changed.
+// Answers what an admission would. The urn is not changed.
 #[no_mangle]
 pub extern "C" fn jugy_preview_admit(
     candidates: usize,
@@ -83,7 +83,7 @@ pub extern "C" fn jugy_preview_admit(
     put_ballots(outcome, answer)
 }
 
-// What a withdrawal would answer. The urn is not changed.
+// Answers what a withdrawal would. The urn is not changed.
 #[no_mangle]
 pub extern "C" fn jugy_preview_withdraw(
     candidates: usize,
