@@ -8,18 +8,18 @@ use Prim.Native.Nat.{ℕ, _<_, _≤_}
 use lib.ListN.{length, drop}
 use borrow.Author.Tests.{lt-ltb, le-ltb}
 use Rattle.jury.specs.Reason.{Reason}
-use Rattle.c_answers.specs.Numbers.{answerNumbers, statusOf, shortAnswer, status, answered, CallResult, callResult}
+use Rattle.c_answers.specs.Numbers.{eightNumbers, statusOf, shortAnswer, status, answered, CallResult, callResult}
 use Rattle.c_answers.specs.inner.Puts.{Puts}
 
--- two numbers and the rest
+-- lists that differ at most in the first two numbers
 pub two : (a b c d : ℕ) (rest : List ℕ) → a ≡ c → b ≡ d → a ∷ b ∷ rest ≡ c ∷ d ∷ rest
 two a b c d rest e f = ap (λ (n : ℕ). n ∷ b ∷ rest) e ∙ ap (λ (n : ℕ). c ∷ n ∷ rest) f
 
 -- equal parts make equal numbers
-pub counted : (o q : Option Reason) (bytes closing : List ℕ) → o ≡ q → bytes ≡ closing → answerNumbers o bytes ≡ answerNumbers q closing
-counted o q bytes closing e f = ap (λ (r : Option Reason). answerNumbers r bytes) e ∙ ap (answerNumbers q) f
+pub counted : (o q : Option Reason) (bytes closing : List ℕ) → o ≡ q → bytes ≡ closing → eightNumbers o bytes ≡ eightNumbers q closing
+counted o q bytes closing e f = ap (λ (r : Option Reason). eightNumbers r bytes) e ∙ ap (λ (l : List ℕ). eightNumbers q l) f
 
--- the numbers that were put are these
+-- the same answer, its numbers given by another expression
 pub puts-same : {needed result : ℕ} {numbers others before after : List ℕ} → numbers ≡ others
     → Puts needed numbers before after result → Puts needed others before after result
 puts-same {needed} {result} {numbers} {others} {before} {after} e puts =
@@ -27,6 +27,12 @@ puts-same {needed} {result} {numbers} {others} {before} {after} e puts =
       returns = puts .returns ∙ ap statusOf e;
       writes = puts .writes ∙ ap (λ (z : List ℕ). z ++ drop needed before) e;
     }
+
+-- the same answer, its length given by another expression
+pub puts-long : {needed enough result : ℕ} {numbers before after : List ℕ} → needed ≡ enough
+    → Puts needed numbers before after result → Puts enough numbers before after result
+puts-long {needed} {enough} {result} {numbers} {before} e puts =
+    record { returns = puts .returns; writes = puts .writes ∙ ap (λ (n : ℕ). numbers ++ drop n before) e }
 
 -- the result of a call is equal if its three parts are
 same-call : {r r′ : ℕ} {answer answer′ : List ℕ} {lent lent′ : List (List ℕ)} → r ≡ r′ → answer ≡ answer′ → lent ≡ lent′

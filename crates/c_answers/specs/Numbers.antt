@@ -1,5 +1,5 @@
 -- The numbers that a call leaves in its answer array, and the status that it returns.
-use mathlib.Core.Option.{Option, none, some}
+use mathlib.Core.Option.{Option}
 use mathlib.Core.Bool.{cond}
 use mathlib.Core.List.{List, [], _∷_, _++_}
 use Prim.Native.Nat.{ℕ}
@@ -7,46 +7,63 @@ use lib.Dec.{ltb}
 use lib.ListN.{length, getD, drop}
 use Rattle.jury.specs.declared.shape.Shape.{Shape}
 use Rattle.jury.specs.Reason.{Reason}
-use Rattle.tally.specs.Answer.{Outcome, refused, accepted, Size}
+use Rattle.tally.specs.Answer.{Outcome, refused, accepted, outcome, Size}
 use Rattle.tally.specs.Measure.{Measures}
 use Rattle.tally.specs.Run.{RunResult}
 
 unfoldable pub shapeOf : ℕ → ℕ → ℕ → Shape
 shapeOf candidates grades ballots = record { candidates = candidates; grades = grades; ballots = ballots }
 
--- Write, test and run: the reason, 0 if accepted; the place; G; C. On a refusal G and C are 0.
-unfoldable pub sizeNumbers : Outcome Size → List ℕ
-sizeNumbers (refused r) = r .number ∷ r .place ∷ 0 ∷ 0 ∷ []
-sizeNumbers (accepted size) = 0 ∷ 0 ∷ size .gates ∷ size .conditional ∷ []
+-- Every answer has the reason, 0 if the call is accepted, and the place. Then comes what the call tells.
+unfoldable pub answerNumbers : {Values : Type 0} → Outcome Values → (told : List ℕ) → List ℕ
+answerNumbers (refused r) told = r .number ∷ r .place ∷ told
+answerNumbers (accepted values) told = 0 ∷ 0 ∷ told
 
--- Measure: the same, then I.
-unfoldable pub measureNumbers : Outcome Measures → List ℕ
-measureNumbers (refused r) = r .number ∷ r .place ∷ 0 ∷ 0 ∷ 0 ∷ []
-measureNumbers (accepted m) = 0 ∷ 0 ∷ m .gates ∷ m .conditional ∷ m .inputs ∷ []
+-- Some calls tell one number, such as the length of a text or the ballots in an urn. A refused call tells zeros.
+unfoldable pub oneTold : Outcome ℕ → List ℕ
+oneTold (refused r) = 0 ∷ []
+oneTold (accepted told) = told ∷ []
 
--- Count: reason and place, then the eight closing bytes, 0 on a refusal.
-unfoldable pub answerNumbers : Option Reason → List ℕ → List ℕ
-answerNumbers none closing = 0 ∷ 0 ∷ closing
-answerNumbers (some r) closing = r .number ∷ r .place ∷ closing
+-- Write, test and run tell G and C.
+unfoldable pub sizeTold : Outcome Size → List ℕ
+sizeTold (refused r) = 0 ∷ 0 ∷ []
+sizeTold (accepted size) = size .gates ∷ size .conditional ∷ []
 
--- Calls with one number, such as the length of a text or the ballots in an urn: reason and place, then that number, 0
--- on a refusal.
-unfoldable pub oneNumber : Outcome ℕ → List ℕ
-oneNumber (refused r) = r .number ∷ r .place ∷ 0 ∷ []
-oneNumber (accepted told) = 0 ∷ 0 ∷ told ∷ []
+-- Measure also tells I.
+unfoldable pub measureTold : Outcome Measures → List ℕ
+measureTold (refused r) = 0 ∷ 0 ∷ 0 ∷ []
+measureTold (accepted m) = m .gates ∷ m .conditional ∷ m .inputs ∷ []
 
--- How many numbers each kind of answer has.
+-- The answers with these numbers.
+abbrev pub oneNumbers : Outcome ℕ → List ℕ
+oneNumbers o = answerNumbers o (oneTold o)
+
+abbrev pub sizeNumbers : Outcome Size → List ℕ
+sizeNumbers o = answerNumbers o (sizeTold o)
+
+abbrev pub measureNumbers : Outcome Measures → List ℕ
+measureNumbers o = answerNumbers o (measureTold o)
+
+-- Some calls tell eight numbers, such as the closing bytes of a count. These are zeros on a refusal already.
+abbrev pub eightNumbers : Option Reason → (told : List ℕ) → List ℕ
+eightNumbers reason told = answerNumbers (outcome reason told) told
+
+-- How many numbers an answer has. Reason and place come first; after them one number, or G and C, or G, C and a
+-- third, or eight numbers, or G, C and eight bytes.
+abbrev pub oneAnswer : ℕ
+oneAnswer = 3
+
 abbrev pub sizeAnswer : ℕ
 sizeAnswer = 4
 
-abbrev pub measureAnswer : ℕ
-measureAnswer = 5
+abbrev pub threeAnswer : ℕ
+threeAnswer = 5
 
-abbrev pub countAnswer : ℕ
-countAnswer = 10
+abbrev pub eightAnswer : ℕ
+eightAnswer = 10
 
-abbrev pub oneAnswer : ℕ
-oneAnswer = 3
+abbrev pub tallyAnswer : ℕ
+tallyAnswer = 12
 
 -- The first of the numbers: the reason, 0 if the call is accepted.
 unfoldable pub statusOf : List ℕ → ℕ
@@ -70,8 +87,8 @@ pub record CallResult : Type 0 where
   pub answer : List ℕ
   pub lent : List (List ℕ)
 
--- The same from an answer of this length, given the lent tables before and as the entry point leaves them. If the
--- answer array is too short, nothing changes.
+-- What a call leaves, given the numbers of its answer, and the lent tables before the call and as the entry point
+-- leaves them. If the answer array is too short, nothing changes.
 unfoldable pub callResult : (needed : ℕ) (numbers answer : List ℕ) (before after : List (List ℕ)) → CallResult
 callResult needed numbers answer before after =
     record {
@@ -80,7 +97,7 @@ callResult needed numbers answer before after =
       lent = cond (ltb (length answer) needed) before after;
     }
 
--- The same for a call that leaves a board, from what its run leaves.
+-- What a call that fills a board leaves, from what its run leaves.
 abbrev pub boardCall : (r : RunResult) (wires board answer : List ℕ) → CallResult
 boardCall r wires board answer =
     callResult sizeAnswer (sizeNumbers (r .answer)) answer (wires ∷ board ∷ []) (r .wires ∷ r .board ∷ [])

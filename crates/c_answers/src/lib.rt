@@ -1,4 +1,4 @@
-// Answers as numbers in a lent array, for the functions that C and Rust call: reason, place, then the call's own
-// numbers.
+// What exported calls share: their answers, as numbers in a lent array.
 pub mod array;
+pub mod closing;
 pub mod size;

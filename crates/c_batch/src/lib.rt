@@ -1,2 +1,2 @@
-// The run for 64 juries for programs in C and Rust.
+// Running a list for 64 juries at once, for programs in C and Rust.
 pub mod run;

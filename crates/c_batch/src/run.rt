@@ -1,6 +1,6 @@
 // Running a list for 64 juries at once, for C.
 use c_answers::array::SHORT_ANSWER;
-use c_answers::size::SIZE_ANSWER;
+use c_answers::array::SIZE_ANSWER;
 use c_answers::size::put_size;
 use jury::reason::Refusal;
 use jury::shape::Shape;
@@ -11,7 +11,7 @@ ghost use mathlib.Core.List.{[], _∷_};
 ghost use Rattle.c_answers.specs.Numbers.{shapeOf};
 ghost use Rattle.c_batch.specs.Calls.{batchCall};
 
-// Runs a list on the ballots of 64 juries, of which bit j is jury j's: reason, place, G and C.
+// Runs a list for 64 juries; bit j of each word is jury j's. Answers reason, place, G and C.
 #[no_mangle]
 pub extern "C" fn jugy_run_batch(
     candidates: usize,

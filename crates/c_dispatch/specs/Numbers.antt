@@ -5,10 +5,10 @@ use lib.ListN.{getD}
 use Rattle.dispatch_rounds.specs.declared.header.JuryHeader.{JuryHeader}
 use Rattle.dispatch.specs.Call.{Call}
 use Rattle.dispatch.specs.Result.{DispatchResult, dispatchResult}
-use Rattle.c_answers.specs.Numbers.{answerNumbers, CallResult, callResult}
+use Rattle.c_answers.specs.Numbers.{eightAnswer, eightNumbers, CallResult, callResult}
 
--- Four numbers a jury: k, d, n and G. A number that the array does not hold counts as 0; a header with k = 0 is
--- refused for reason 1.
+-- Four numbers for each jury: k, d, n and G. A number past the end of the array is 0; a header with k = 0 is refused
+-- for reason 1.
 unfoldable pub headerAt : List ℕ → ℕ → JuryHeader
 headerAt numbers j =
     record {
@@ -26,14 +26,11 @@ headersIn numbers =
 
 -- The reason, 0 if accepted; the place; then the juries' eight numbers of rounds, 0 on a refusal.
 abbrev pub dispatchNumbers : DispatchResult → List ℕ
-dispatchNumbers d = answerNumbers (d .reason) (d .rounds)
-
-abbrev pub dispatchAnswer : ℕ
-dispatchAnswer = 10
+dispatchNumbers d = eightNumbers (d .reason) (d .rounds)
 
 -- What a call from C leaves: the entry point's result, if the answer array has room for it.
 abbrev pub dispatchCall : Call → (answer : List ℕ) → CallResult
 dispatchCall c answer =
     let r = dispatchResult c in
-    callResult dispatchAnswer (dispatchNumbers r) answer (c .tables .wires ∷ c .tables .boards ∷ [])
+    callResult eightAnswer (dispatchNumbers r) answer (c .tables .wires ∷ c .tables .boards ∷ [])
     (r .wires ∷ r .boards ∷ [])

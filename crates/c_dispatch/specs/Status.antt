@@ -1,16 +1,13 @@
--- What the status of the dispatcher means, for any arguments. The largest number of its reasons is 20.
+-- What the status of the dispatcher means, for any arguments. Its largest reason is 20.
 use mathlib.Core.List.{List}
 use Prim.Native.Nat.{ℕ}
-use Rattle.tally.specs.Answer.{outcome}
 use Rattle.dispatch.specs.Call.{Call}
 use Rattle.dispatch.specs.Result.{dispatchResult}
-use Rattle.c_answers.specs.Status.{isAccepted, StatusReads}
-use Rattle.c_dispatch.specs.Numbers.{dispatchNumbers, dispatchAnswer}
+use Rattle.c_answers.specs.Status.{EightStatus}
 
 abbrev pub lastReason : ℕ
 lastReason = 20
 
 pub record StatusMeans : Type 0 where
   pub dispatch : (c : Call) (answer : List ℕ)
-      → StatusReads lastReason dispatchAnswer (dispatchNumbers (dispatchResult c)) answer
-      (isAccepted (outcome (dispatchResult c .reason) (dispatchResult c .rounds)))
+      → EightStatus lastReason answer (dispatchResult c .reason) (dispatchResult c .rounds)

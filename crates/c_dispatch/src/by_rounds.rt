@@ -1,24 +1,23 @@
 // The dispatcher, for C.
+use c_answers::array::EIGHT_ANSWER;
 use c_answers::array::SHORT_ANSWER;
-use c_answers::array::put_eight;
-use dispatch::dispatch::Dispatched;
+use c_answers::array::put_answer;
 use dispatch::verdict::JuriesVerdict;
+use dispatch_rounds::header::Headers;
 use dispatch_rounds::header::JuryHeader;
+use dispatch_rounds::header::JuryNumbers;
 ghost use mathlib.Core.Path.{_≡_};
 ghost use mathlib.Core.List.{[], _∷_};
 ghost use Prim.Native.Nat.{_≤_, _<_};
 ghost use lib.ListN.{length, getD};
 ghost use Rattle.dispatch_rounds.specs.Tables.{tablesOf};
 ghost use Rattle.dispatch.specs.Reasons.{verdictReason};
-ghost use Rattle.c_answers.specs.Numbers.{answerNumbers};
+ghost use Rattle.c_answers.specs.Numbers.{eightAnswer, eightNumbers};
 ghost use Rattle.c_answers.specs.inner.Puts.{Puts};
 ghost use Rattle.dispatch_rounds.specs.Rounds.{mostJuries};
-ghost use Rattle.c_dispatch.specs.Numbers.{headerAt, headersIn, dispatchAnswer, dispatchCall};
+ghost use Rattle.c_dispatch.specs.Numbers.{headerAt, headersIn, dispatchCall};
 
-// The length of the answer: reason, place and eight numbers of rounds.
-const DISPATCH_ANSWER: usize = 10;
-
-// Number i of an array, 0 past its end.
+// Number i of an array, or 0 past its end.
 fn number_at(numbers: &[usize], i: usize) -> usize
     ensures { λ r. ⌜ r ≡ getD (now (numbers .entry)) i 0 ⌝ }
 {
@@ -39,8 +38,9 @@ fn header_at(numbers: &[usize], j: usize) -> JuryHeader
     }
 }
 
-// The eight headers, four numbers each. Those that the array does not hold are zeros, which reason 1 refuses.
-fn headers_in(numbers: &[usize]) -> [JuryHeader; 8]
+// The eight headers, four numbers each. A number past the end of the array is 0, so a missing header is refused for
+// reason 1.
+fn headers_in(numbers: &[usize]) -> Headers
     ensures { λ r. ⌜ r ≡ headersIn (now (numbers .entry)) ⌝ }
 {
     [
@@ -55,22 +55,25 @@ fn headers_in(numbers: &[usize]) -> [JuryHeader; 8]
     ]
 }
 
-// Puts the answer of the dispatcher, and returns its status.
-fn put_rounds(outcome: Dispatched, answer: &mut [usize]) -> usize
-    requires { ⌜ dispatchAnswer ≤ length (now answer) ⌝ }
+// Puts reason, jury and the eight numbers of rounds, and returns the status.
+fn put_rounds(verdict: JuriesVerdict, rounds: JuryNumbers, answer: &mut [usize]) -> usize
+    requires { ⌜ eightAnswer ≤ length (now answer) ⌝ }
     ensures { λ r.
-        ⌜ Puts dispatchAnswer (answerNumbers (verdictReason (outcome .verdict)) (outcome .rounds))
-        (now (answer .entry)) (now (answer .exit)) r ⌝ }
+        ⌜ Puts eightAnswer (eightNumbers (verdictReason verdict) rounds) (now (answer .entry))
+        (now (answer .exit)) r ⌝ }
 {
-    let verdict = outcome.verdict;
-    let rounds = outcome.rounds;
     match verdict {
-        JuriesVerdict::Accepted => put_eight(0, 0, rounds, answer),
-        JuriesVerdict::Refused { reason, jury } => put_eight(reason.number(), jury, rounds, answer),
+        JuriesVerdict::Accepted => put_answer(0, 0, &rounds, answer),
+        JuriesVerdict::Refused { reason, jury } => put_answer(
+            reason.number(),
+            jury,
+            &rounds,
+            answer,
+        ),
     }
 }
 
-// Runs up to eight juries in rounds: reason, place and eight numbers of rounds.
+// Runs up to eight juries in rounds. Answers reason, place and eight numbers of rounds.
 #[no_mangle]
 pub extern "C" fn jugy_dispatch(
     count: usize,
@@ -96,7 +99,7 @@ pub extern "C" fn jugy_dispatch(
               (now (boards .entry));
         }) (now (answer .entry)) ⌝ }
 {
-    if answer.len() < DISPATCH_ANSWER {
+    if answer.len() < EIGHT_ANSWER {
         return SHORT_ANSWER;
     }
     let stated = headers_in(headers);
@@ -110,5 +113,7 @@ pub extern "C" fn jugy_dispatch(
         wires,
         boards,
     );
-    put_rounds(outcome, answer)
+    let verdict = outcome.verdict;
+    let rounds = outcome.rounds;
+    put_rounds(verdict, rounds, answer)
 }

@@ -1,14 +1,14 @@
--- The numbers that a call by levels leaves in its answer array.
+-- The numbers that a call that uses levels leaves in its answer array.
 use mathlib.Core.List.{List, [], _∷_}
 use Prim.Native.Nat.{ℕ}
 use Rattle.tally.specs.Answer.{Outcome, refused, accepted}
 use Rattle.levels.specs.Answer.{Depths}
+use Rattle.c_answers.specs.Numbers.{answerNumbers}
 
--- The reason, 0 if accepted; the place; G; C; R. On a refusal the last three are 0.
-unfoldable pub depthNumbers : Outcome Depths → List ℕ
-depthNumbers (refused r) = r .number ∷ r .place ∷ 0 ∷ 0 ∷ 0 ∷ []
-depthNumbers (accepted d) = 0 ∷ 0 ∷ d .gates ∷ d .conditional ∷ d .rounds ∷ []
+-- Such a call tells G, C and the rounds R. A refused call tells zeros.
+unfoldable pub depthTold : Outcome Depths → List ℕ
+depthTold (refused r) = 0 ∷ 0 ∷ 0 ∷ []
+depthTold (accepted d) = d .gates ∷ d .conditional ∷ d .rounds ∷ []
 
--- How many there are.
-abbrev pub depthAnswer : ℕ
-depthAnswer = 5
+abbrev pub depthNumbers : Outcome Depths → List ℕ
+depthNumbers o = answerNumbers o (depthTold o)

@@ -1,6 +1,7 @@
-// Levels, for C.
+// The levels of a list, for C.
 use c_answers::array::SHORT_ANSWER;
-use c_answers::array::put;
+use c_answers::array::THREE_ANSWER;
+use c_answers::array::put_answer;
 use jury::reason::Refusal;
 use jury::shape::Shape;
 use jury::shape::ShapeResult;
@@ -11,39 +12,28 @@ ghost use mathlib.Core.List.{[], _∷_};
 ghost use Prim.Native.Nat.{_≤_};
 ghost use lib.ListN.{length};
 ghost use Rattle.levels.specs.Answer.{depthsOutcome};
-ghost use Rattle.c_answers.specs.Numbers.{shapeOf};
+ghost use Rattle.c_answers.specs.Numbers.{threeAnswer, shapeOf};
 ghost use Rattle.c_answers.specs.inner.Puts.{Puts};
-ghost use Rattle.c_levels.specs.Numbers.{depthAnswer, depthNumbers};
+ghost use Rattle.c_levels.specs.Numbers.{depthNumbers};
 ghost use Rattle.c_levels.specs.Calls.{levelsCall};
 
-// The length of an answer: reason, place, G, C and R.
-pub const DEPTH_ANSWER: usize = 5;
-
-// Puts the answer of a call by levels, and returns its status.
+// Puts reason, place, G, C and R, and returns the status.
 pub fn put_depths(outcome: Answer, answer: &mut [usize]) -> usize
-    requires { ⌜ depthAnswer ≤ length (now answer) ⌝ }
+    requires { ⌜ threeAnswer ≤ length (now answer) ⌝ }
     ensures { λ r.
-        ⌜ Puts depthAnswer (depthNumbers (depthsOutcome outcome)) (now (answer .entry)) (now (answer .exit)) r ⌝ }
+        ⌜ Puts threeAnswer (depthNumbers (depthsOutcome outcome)) (now (answer .entry)) (now (answer .exit)) r ⌝ }
 {
     match outcome {
         Answer::Accepted {
             gates,
             conditional,
             rounds,
-        } => {
-            put(&[0, 0, gates, conditional, rounds], answer);
-            0
-        }
-        Answer::Refused(reason) => {
-            let number = reason.number();
-            let place = reason.place();
-            put(&[number, place, 0, 0, 0], answer);
-            number
-        }
+        } => put_answer(0, 0, &[gates, conditional, rounds], answer),
+        Answer::Refused(reason) => put_answer(reason.number(), reason.place(), &[0, 0, 0], answer),
     }
 }
 
-// Writes the level of each gate of a list, whoever wrote it: reason, place, G, C and R.
+// Writes the level of each gate of any list. Answers reason, place, G, C and R.
 #[no_mangle]
 pub extern "C" fn jugy_levels(
     candidates: usize,
@@ -58,7 +48,7 @@ pub extern "C" fn jugy_levels(
         ≡ levelsCall (shapeOf candidates grades ballots) (now (table .entry)) (now (levels .entry))
         (now (answer .entry)) ⌝ }
 {
-    if answer.len() < DEPTH_ANSWER {
+    if answer.len() < THREE_ANSWER {
         return SHORT_ANSWER;
     }
     let ShapeResult::Within(shape) = Shape::new(candidates, grades, ballots) else {

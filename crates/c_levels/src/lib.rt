@@ -1,2 +1,2 @@
-// Levels for programs in C and Rust, and how a call by levels answers.
+// The levels of a list for programs in C and Rust, and the answers of all calls that use levels.
 pub mod calls;

@@ -8,17 +8,17 @@ use Rattle.tally.specs.Measure.{measureOutcome}
 use Rattle.tally.specs.Run.{runResult}
 use Rattle.tally.specs.Test.{testOutcome}
 use Rattle.tally.specs.Write.{writeOutcome, writeResult, HoldsWithin}
-use Rattle.c_answers.specs.Numbers.{sizeAnswer, measureAnswer, countAnswer, sizeNumbers, measureNumbers, answerNumbers, boardCall}
-use Rattle.c_answers.specs.Numbers.{CallResult, callResult}
+use Rattle.c_answers.specs.Numbers.{sizeAnswer, threeAnswer, eightAnswer, sizeNumbers, measureNumbers, eightNumbers}
+use Rattle.c_answers.specs.Numbers.{CallResult, callResult, boardCall}
 
 abbrev pub measureCall : (s : Shape) (answer : List ℕ) → CallResult
-measureCall s answer = callResult measureAnswer (measureNumbers (measureOutcome s)) answer [] []
+measureCall s answer = callResult threeAnswer (measureNumbers (measureOutcome s)) answer [] []
 
 abbrev pub writeCall : (s : Shape) (table answer : List ℕ) → CallResult
 writeCall s table answer =
     callResult sizeAnswer (sizeNumbers (writeOutcome s table)) answer (table ∷ []) (writeResult s table ∷ [])
 
--- What writing promises besides: what holds for the list of a shape within the limits.
+-- Writing also promises what holds for the own list of any shape within the limits.
 pub record WriteLeaves (s : Shape) (table answer : List ℕ) (left : CallResult) : Type 0 where
   pub leaves : left ≡ writeCall s table answer
   pub holds : HoldsWithin s
@@ -32,4 +32,4 @@ runCall s table ballots tape wires board answer =
 
 abbrev pub countCall : (s : Shape) (ballots answer : List ℕ) → CallResult
 countCall s ballots answer =
-    callResult countAnswer (answerNumbers (countReason s ballots) (plainClosing s ballots)) answer [] []
+    callResult eightAnswer (eightNumbers (countReason s ballots) (plainClosing s ballots)) answer [] []

@@ -1,4 +1,4 @@
--- What the status of each call means, for any arguments. The largest number of their reasons is 12, of rankings.
+-- What the status of each call means, for any arguments. Their largest reason is 12, for a bad ranking.
 use mathlib.Core.List.{List}
 use Prim.Native.Nat.{ℕ}
 use Rattle.jury.specs.declared.shape.Shape.{Shape}
@@ -7,7 +7,7 @@ use Rattle.tally.specs.Measure.{measureOutcome}
 use Rattle.tally.specs.Run.{runResult}
 use Rattle.tally.specs.Test.{testOutcome}
 use Rattle.tally.specs.Write.{writeOutcome}
-use Rattle.c_answers.specs.Status.{SizeStatus, MeasureStatus, CountStatus}
+use Rattle.c_answers.specs.Status.{SizeStatus, MeasureStatus, EightStatus}
 
 abbrev pub lastReason : ℕ
 lastReason = 12
@@ -19,4 +19,4 @@ pub record StatusMeans : Type 0 where
   pub run : (s : Shape) (table ballots tape wires board answer : List ℕ)
       → SizeStatus lastReason answer (runResult s table ballots tape wires board .answer)
   pub count : (s : Shape) (ballots answer : List ℕ)
-      → CountStatus lastReason answer (countReason s ballots) (plainClosing s ballots)
+      → EightStatus lastReason answer (countReason s ballots) (plainClosing s ballots)

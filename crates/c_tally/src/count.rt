@@ -1,6 +1,6 @@
 // The plain count, for C.
 use crate::answer::put_count;
-use c_answers::array::COUNT_ANSWER;
+use c_answers::array::EIGHT_ANSWER;
 use c_answers::array::SHORT_ANSWER;
 use jury::reason::Refusal;
 use jury::reason::Verdict;
@@ -12,7 +12,7 @@ ghost use mathlib.Core.List.{[]};
 ghost use Rattle.c_answers.specs.Numbers.{shapeOf};
 ghost use Rattle.c_tally.specs.Calls.{countCall};
 
-// Counts plainly: reason, place and the eight closing bytes.
+// Counts without a circuit. Answers reason, place and the eight closing bytes.
 #[no_mangle]
 pub extern "C" fn jugy_count(
     candidates: usize,
@@ -25,14 +25,14 @@ pub extern "C" fn jugy_count(
         ⌜ record { returned = r; answer = now (answer .exit); lent = [] }
         ≡ countCall (shapeOf candidates grades ballots) (now (bytes .entry)) (now (answer .entry)) ⌝ }
 {
-    if answer.len() < COUNT_ANSWER {
+    if answer.len() < EIGHT_ANSWER {
         return SHORT_ANSWER;
     }
     let ShapeResult::Within(shape) = Shape::new(candidates, grades, ballots) else {
         return put_count(
             Counted {
                 verdict: Verdict::Refused(Refusal::Shape),
-                closing: [0u8; 8],
+                closing: [0u8; Shape::MOST_CANDIDATES],
             },
             answer,
         );

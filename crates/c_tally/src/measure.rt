@@ -1,7 +1,7 @@
 // Measuring a shape, for C.
-use crate::answer::MEASURE_ANSWER;
 use crate::answer::put_measures;
 use c_answers::array::SHORT_ANSWER;
+use c_answers::array::THREE_ANSWER;
 use jury::reason::Refusal;
 use jury::shape::Shape;
 use jury::shape::ShapeResult;
@@ -11,7 +11,7 @@ ghost use mathlib.Core.List.{[]};
 ghost use Rattle.c_answers.specs.Numbers.{shapeOf};
 ghost use Rattle.c_tally.specs.Calls.{measureCall};
 
-// Measures the own list of a shape: reason, place, G, C and I.
+// Measures the own list of a shape. Answers reason, place, G, C and I.
 #[no_mangle]
 pub extern "C" fn jugy_measure(
     candidates: usize,
@@ -23,7 +23,7 @@ pub extern "C" fn jugy_measure(
         ⌜ record { returned = r; answer = now (answer .exit); lent = [] }
         ≡ measureCall (shapeOf candidates grades ballots) (now (answer .entry)) ⌝ }
 {
-    if answer.len() < MEASURE_ANSWER {
+    if answer.len() < THREE_ANSWER {
         return SHORT_ANSWER;
     }
     let ShapeResult::Within(shape) = Shape::new(candidates, grades, ballots) else {

@@ -1,6 +1,6 @@
 // Testing a list, for C.
 use c_answers::array::SHORT_ANSWER;
-use c_answers::size::SIZE_ANSWER;
+use c_answers::array::SIZE_ANSWER;
 use c_answers::size::put_size;
 use jury::reason::Refusal;
 use jury::shape::Shape;
@@ -11,7 +11,7 @@ ghost use mathlib.Core.List.{[]};
 ghost use Rattle.c_answers.specs.Numbers.{shapeOf};
 ghost use Rattle.c_tally.specs.Calls.{testCall};
 
-// Tests a list for a shape, whoever wrote it: reason, place, G and C.
+// Tests any list for a shape. Answers reason, place, G and C.
 #[no_mangle]
 pub extern "C" fn jugy_test(
     candidates: usize,

@@ -1,6 +1,6 @@
 // Writing the own list of a shape, for C.
 use c_answers::array::SHORT_ANSWER;
-use c_answers::size::SIZE_ANSWER;
+use c_answers::array::SIZE_ANSWER;
 use c_answers::size::put_size;
 use jury::reason::Refusal;
 use jury::shape::Shape;
@@ -10,7 +10,7 @@ ghost use mathlib.Core.List.{[], _∷_};
 ghost use Rattle.c_answers.specs.Numbers.{shapeOf};
 ghost use Rattle.c_tally.specs.Calls.{WriteLeaves};
 
-// Writes the own list of a shape: reason, place, G and C.
+// Writes the own list of a shape. Answers reason, place, G and C.
 #[no_mangle]
 pub extern "C" fn jugy_write(
     candidates: usize,

@@ -5,11 +5,11 @@ use Rattle.jury.specs.declared.shape.Shape.{Shape}
 use Rattle.text.specs.Answer.{TextResult}
 use Rattle.text.specs.Write.{writeTextResult}
 use Rattle.text.specs.Read.{readTextResult}
-use Rattle.c_answers.specs.Numbers.{oneAnswer, oneNumber, CallResult, callResult}
+use Rattle.c_answers.specs.Numbers.{oneAnswer, oneNumbers, CallResult, callResult}
 
--- The same from what the entry point leaves.
+-- What either call leaves, from what its entry point leaves.
 abbrev pub textCall : (r : TextResult) (output answer : List ℕ) → CallResult
-textCall r output answer = callResult oneAnswer (oneNumber (r .answer)) answer (output ∷ []) (r .output ∷ [])
+textCall r output answer = callResult oneAnswer (oneNumbers (r .answer)) answer (output ∷ []) (r .output ∷ [])
 
 abbrev pub writeTextCall : (s : Shape) (table output answer : List ℕ) → CallResult
 writeTextCall s table output answer = textCall (writeTextResult s table output) output answer

@@ -1,4 +1,4 @@
--- What the status of a call on text means, for any arguments. The largest number of these reasons is 24.
+-- What the status of a call on text means, for any arguments. The largest reason is 24.
 use mathlib.Core.List.{List}
 use Prim.Native.Nat.{ℕ}
 use Rattle.jury.specs.declared.shape.Shape.{Shape}

@@ -1,7 +1,7 @@
 // Lists as text, for C.
 use c_answers::array::ONE_ANSWER;
 use c_answers::array::SHORT_ANSWER;
-use c_answers::array::put_one;
+use c_answers::array::put_answer;
 use jury::reason::Refusal;
 use jury::shape::Shape;
 use jury::shape::ShapeResult;
@@ -12,23 +12,23 @@ ghost use mathlib.Core.List.{[], _∷_};
 ghost use Prim.Native.Nat.{_≤_};
 ghost use lib.ListN.{length};
 ghost use Rattle.text.specs.Answer.{lengthOutcome};
-ghost use Rattle.c_answers.specs.Numbers.{oneAnswer, oneNumber, shapeOf};
+ghost use Rattle.c_answers.specs.Numbers.{oneAnswer, oneNumbers, shapeOf};
 ghost use Rattle.c_answers.specs.inner.Puts.{Puts};
 ghost use Rattle.c_text.specs.Calls.{writeTextCall, readTextCall};
 
-// Puts the answer of writing or reading a text, and returns its status.
+// Puts reason, place and the length of what was written, and returns the status.
 fn put_length(outcome: Answer, answer: &mut [usize]) -> usize
     requires { ⌜ oneAnswer ≤ length (now answer) ⌝ }
     ensures { λ r.
-        ⌜ Puts oneAnswer (oneNumber (lengthOutcome outcome)) (now (answer .entry)) (now (answer .exit)) r ⌝ }
+        ⌜ Puts oneAnswer (oneNumbers (lengthOutcome outcome)) (now (answer .entry)) (now (answer .exit)) r ⌝ }
 {
     match outcome {
-        Answer::Accepted { length } => put_one(0, 0, length, answer),
-        Answer::Refused(reason) => put_one(reason.number(), reason.place(), 0, answer),
+        Answer::Accepted { length } => put_answer(0, 0, &[length], answer),
+        Answer::Refused(reason) => put_answer(reason.number(), reason.place(), &[0], answer),
     }
 }
 
-// Writes the text of a list, whoever wrote it: reason, place and the number of characters written.
+// Writes any list as text. Answers reason, place and the number of characters written.
 #[no_mangle]
 pub extern "C" fn jugy_write_text(
     candidates: usize,
@@ -53,7 +53,7 @@ pub extern "C" fn jugy_write_text(
     put_length(outcome, answer)
 }
 
-// Reads a text as a list: reason, place and how many numbers were written.
+// Reads a text as a list. Answers reason, place and how many numbers were written.
 #[no_mangle]
 pub extern "C" fn jugy_read_text(
     candidates: usize,

@@ -1,2 +1,1 @@
-pub mod Tallying
 pub mod Statuses

@@ -1,23 +1,18 @@
--- The status of the trustees' call means what `Status` says, by the numbers of its reasons.
+-- The status of each call means what `Status` says, by the numbers of its reasons.
 -- Assumes nothing.
-use mathlib.Core.Path.{refl}
-use native.Mathlib.Omega.{arith}
-use Rattle.tally.specs.Answer.{Outcome, Size}
-use Rattle.c_answers.specs.Numbers.{sizeNumbers, statusOf}
-use Rattle.c_answers.proofs.Statuses.{fit, numbered, outcome-tells}
-use Rattle.trustees.specs.Result.{trusteesResult}
 use Rattle.trustees.proofs.Demands.{number}
-use Rattle.c_trustees.specs.Numbers.{tallyNumbers, tallyAnswer}
-use Rattle.c_trustees.specs.Status.{lastReason, StatusMeans}
+use Rattle.trustee_alone.proofs.Memory.{start-number, round-number, finish-number}
+use Rattle.c_answers.proofs.Statuses.{fit, status-means}
+use Rattle.c_trustees.specs.Status.{StatusMeans}
 
 pub status-tells : StatusMeans
-unfolding fit statusOf sizeNumbers tallyNumbers
+unfolding fit
 status-tells =
     record {
-      trustees = λ c answer.
-          let left = trusteesResult c in
-          outcome-tells lastReason (omega arith) tallyAnswer
-          (λ (outcome : Outcome Size). tallyNumbers outcome (left .closing)) answer (λ r. refl) (λ v. refl)
-          (left .answer)
-          (λ r e. numbered lastReason _ r tt (number c r e));
+      trustees = λ c answer. status-means _ tt (number c);
+      start = λ s table t p shares triples wireParts published answer.
+          status-means _ tt (start-number s table t p shares triples wireParts published);
+      round = λ s table t p round levels triples heard wireParts published answer.
+          status-means _ tt (round-number s table t p round levels triples heard wireParts published);
+      finish = λ s table wireParts answer. status-means _ tt (finish-number s table wireParts);
     }

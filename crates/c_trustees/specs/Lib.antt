@@ -1,3 +1,3 @@
 pub mod Numbers
-pub mod inner
+pub mod Calls
 pub mod Status

@@ -1,23 +1,12 @@
--- The numbers that the trustees' call leaves in its answer array, and all that it leaves.
-use mathlib.Core.List.{List, [], _∷_, _++_}
+-- The numbers that the trustees' call leaves in its answer array.
+use mathlib.Core.List.{List, _++_}
 use Prim.Native.Nat.{ℕ}
 use Rattle.tally.specs.Answer.{Outcome, Size}
-use Rattle.trustees.specs.Call.{Call}
-use Rattle.trustees.specs.Result.{trusteesResult}
-use Rattle.c_answers.specs.Numbers.{sizeNumbers, CallResult, callResult}
+use Rattle.c_answers.specs.Numbers.{answerNumbers, sizeTold}
 
--- The reason, 0 if accepted; the place; G; C; then the sums of the closing bits as eight bytes. On a refusal all of
--- these but the reason and the place are 0.
-unfoldable pub tallyNumbers : Outcome Size → List ℕ → List ℕ
-tallyNumbers outcome closing = sizeNumbers outcome ++ closing
+-- The call tells G and C, then the sums of the closing bits as eight bytes. On a refusal all of these are 0.
+abbrev pub tallyTold : Outcome Size → List ℕ → List ℕ
+tallyTold outcome closing = sizeTold outcome ++ closing
 
--- How many there are.
-abbrev pub tallyAnswer : ℕ
-tallyAnswer = 12
-
--- What a call from C leaves: the entry point's result, if the answer array has room for it.
-abbrev pub trusteesCall : Call → (answer : List ℕ) → CallResult
-trusteesCall c answer =
-    let r = trusteesResult c in
-    callResult tallyAnswer (tallyNumbers (r .answer) (r .closing)) answer (c .lent .wireParts ∷ c .lent .published ∷ [])
-    (r .wireParts ∷ r .published ∷ [])
+abbrev pub tallyNumbers : Outcome Size → List ℕ → List ℕ
+tallyNumbers outcome closing = answerNumbers outcome (tallyTold outcome closing)

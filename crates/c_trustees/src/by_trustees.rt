@@ -1,9 +1,10 @@
 // The tally by trustees, for C.
-use basics::byte::wide;
 use c_answers::array::SHORT_ANSWER;
-use c_answers::size::SIZE_ANSWER;
-use c_answers::size::put_size;
+use c_answers::array::TALLY_ANSWER;
+use c_answers::array::put_answer;
+use c_answers::closing::numbers;
 use jury::reason::Refusal;
+use jury::shape::ClosingBytes;
 use jury::shape::Shape;
 use jury::shape::ShapeResult;
 use tally::answer::Answer;
@@ -14,30 +15,31 @@ ghost use mathlib.Core.List.{[], _∷_};
 ghost use Prim.Native.Nat.{_≤_};
 ghost use lib.ListN.{length};
 ghost use Rattle.tally.specs.Answer.{outcomeOf};
-ghost use Rattle.c_answers.specs.Numbers.{shapeOf};
+ghost use Rattle.c_answers.specs.Numbers.{tallyAnswer, shapeOf};
 ghost use Rattle.c_answers.specs.inner.Puts.{Puts};
-ghost use Rattle.c_trustees.specs.inner.Put.{PutClosing};
-ghost use Rattle.c_trustees.specs.Numbers.{tallyNumbers, tallyAnswer, trusteesCall};
+ghost use Rattle.c_trustees.specs.Calls.{trusteesCall};
+ghost use Rattle.c_trustees.specs.Numbers.{tallyNumbers};
 
-// The length of an answer: reason, place, G, C and the eight closing bytes.
-const TALLY_ANSWER: usize = 12;
-
-// The number of closing bytes, one for each possible candidate.
-const CLOSING_BYTES: usize = 8;
-
-// Puts the eight bytes after reason, place, G and C. Their type says that there are eight.
-fn put_closing(closing: [u8; 8], answer: &mut [usize])
-    requires { ⌜ tallyAnswer ≤ length (now answer) ⌝ }
-    ensures { λ _. ⌜ PutClosing closing (now (answer .entry)) (now (answer .exit)) ⌝ }
+// What the call tells: G and C, then the eight closing bytes.
+fn told(gates: usize, conditional: usize, closing: ClosingBytes) -> [usize; 10]
+    ensures { λ r. ⌜ r ≡ gates ∷ conditional ∷ closing ⌝ }
 {
-    let mut i = 0;
-    while i < CLOSING_BYTES {
-        answer[SIZE_ANSWER + i] = wide(closing[i]);
-        i += 1;
-    }
+    let bytes = numbers(closing);
+    [
+        gates,
+        conditional,
+        bytes[0],
+        bytes[1],
+        bytes[2],
+        bytes[3],
+        bytes[4],
+        bytes[5],
+        bytes[6],
+        bytes[7],
+    ]
 }
 
-// Puts the whole answer, and returns its status.
+// Puts reason, place, G, C and the eight closing bytes, and returns the status.
 fn put_tally(outcome: Tallied, answer: &mut [usize]) -> usize
     requires { ⌜ tallyAnswer ≤ length (now answer) ⌝ }
     ensures { λ r.
@@ -46,12 +48,20 @@ fn put_tally(outcome: Tallied, answer: &mut [usize]) -> usize
 {
     let size = outcome.answer;
     let closing = outcome.closing;
-    let status = put_size(size, answer);
-    put_closing(closing, answer);
-    status
+    match size {
+        Answer::Accepted { gates, conditional } => {
+            let values = told(gates, conditional, closing);
+            put_answer(0, 0, &values, answer)
+        }
+        Answer::Refused(reason) => {
+            let values = told(0, 0, closing);
+            put_answer(reason.number(), reason.place(), &values, answer)
+        }
+    }
 }
 
-// Tallies ballots that trustees hold in parts: reason, place, G, C and the opened closing bits as eight bytes.
+// Tallies ballots that trustees hold in parts. Answers reason, place, G, C and the opened closing bits as eight
+// bytes.
 #[no_mangle]
 pub extern "C" fn jugy_trustees(
     candidates: usize,
@@ -90,7 +100,7 @@ pub extern "C" fn jugy_trustees(
         return put_tally(
             Tallied {
                 answer: Answer::Refused(Refusal::Shape),
-                closing: [0u8; 8],
+                closing: [0u8; Shape::MOST_CANDIDATES],
             },
             answer,
         );

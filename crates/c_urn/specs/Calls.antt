@@ -7,11 +7,11 @@ use Rattle.urn.specs.Empty.{emptying}
 use Rattle.urn.specs.Admit.{admitOutcome, admission}
 use Rattle.urn.specs.Withdraw.{withdrawOutcome, withdrawal}
 use Rattle.urn_run.specs.Run.{urnRunResult}
-use Rattle.c_answers.specs.Numbers.{oneAnswer, oneNumber, CallResult, callResult, boardCall}
+use Rattle.c_answers.specs.Numbers.{oneAnswer, oneNumbers, CallResult, callResult, boardCall}
 
--- The same from what a call leaves of its urn.
+-- What a call that may change its urn leaves.
 abbrev pub urnCall : (r : UrnResult) (urn answer : List ℕ) → CallResult
-urnCall r urn answer = callResult oneAnswer (oneNumber (r .answer)) answer (urn ∷ []) (r .urn ∷ [])
+urnCall r urn answer = callResult oneAnswer (oneNumbers (r .answer)) answer (urn ∷ []) (r .urn ∷ [])
 
 abbrev pub emptyCall : (k d : ℕ) (urn answer : List ℕ) → CallResult
 emptyCall k d urn answer = urnCall (emptying k d urn) urn answer
@@ -22,13 +22,14 @@ admitCall k d urn juror ballot answer = urnCall (admission k d urn juror ballot)
 abbrev pub withdrawCall : (k d : ℕ) (urn : List ℕ) (juror : ℕ) (answer : List ℕ) → CallResult
 withdrawCall k d urn juror answer = urnCall (withdrawal k d urn juror) urn answer
 
--- The previews are lent nothing to write to but the answer array.
+-- A preview can write only to the answer array.
 abbrev pub previewAdmitCall : (k d : ℕ) (urn : List ℕ) (juror : ℕ) (ballot answer : List ℕ) → CallResult
 previewAdmitCall k d urn juror ballot answer =
-    callResult oneAnswer (oneNumber (admitOutcome k d urn juror ballot)) answer [] []
+    callResult oneAnswer (oneNumbers (admitOutcome k d urn juror ballot)) answer [] []
 
 abbrev pub previewWithdrawCall : (k d : ℕ) (urn : List ℕ) (juror : ℕ) (answer : List ℕ) → CallResult
-previewWithdrawCall k d urn juror answer = callResult oneAnswer (oneNumber (withdrawOutcome k d urn juror)) answer [] []
+previewWithdrawCall k d urn juror answer =
+    callResult oneAnswer (oneNumbers (withdrawOutcome k d urn juror)) answer [] []
 
 abbrev pub runUrnCall : (s : Shape) (table urn tape wires board answer : List ℕ) → CallResult
 runUrnCall s table urn tape wires board answer =

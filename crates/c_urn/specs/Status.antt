@@ -1,5 +1,5 @@
--- What the status of a call on an urn means, for any arguments. The largest number of these reasons is 15, and 13 for
--- a run on an urn. A preview answers what the call itself would.
+-- What the status of a call on an urn means, for any arguments. The largest reason is 15, or 13 for a run on an
+-- urn. A preview answers what the call itself would.
 use mathlib.Core.List.{List}
 use Prim.Native.Nat.{ℕ}
 use Rattle.jury.specs.declared.shape.Shape.{Shape}
@@ -7,8 +7,7 @@ use Rattle.urn.specs.Empty.{emptyOutcome}
 use Rattle.urn.specs.Admit.{admitOutcome}
 use Rattle.urn.specs.Withdraw.{withdrawOutcome}
 use Rattle.urn_run.specs.Run.{urnRunResult}
-use Rattle.c_answers.specs.Numbers.{oneAnswer, sizeAnswer, oneNumber, sizeNumbers}
-use Rattle.c_answers.specs.Status.{isAccepted, StatusReads}
+use Rattle.c_answers.specs.Status.{OneStatus, SizeStatus}
 
 abbrev pub lastReason : ℕ
 lastReason = 15
@@ -17,15 +16,10 @@ abbrev pub lastRunReason : ℕ
 lastRunReason = 13
 
 pub record StatusMeans : Type 0 where
-  pub empty : (k d : ℕ) (table answer : List ℕ)
-      → StatusReads lastReason oneAnswer (oneNumber (emptyOutcome k d table)) answer
-      (isAccepted (emptyOutcome k d table))
+  pub empty : (k d : ℕ) (table answer : List ℕ) → OneStatus lastReason answer (emptyOutcome k d table)
   pub admit : (k d : ℕ) (urn : List ℕ) (juror : ℕ) (ballot answer : List ℕ)
-      → StatusReads lastReason oneAnswer (oneNumber (admitOutcome k d urn juror ballot)) answer
-      (isAccepted (admitOutcome k d urn juror ballot))
+      → OneStatus lastReason answer (admitOutcome k d urn juror ballot)
   pub withdraw : (k d : ℕ) (urn : List ℕ) (juror : ℕ) (answer : List ℕ)
-      → StatusReads lastReason oneAnswer (oneNumber (withdrawOutcome k d urn juror)) answer
-      (isAccepted (withdrawOutcome k d urn juror))
+      → OneStatus lastReason answer (withdrawOutcome k d urn juror)
   pub runUrn : (s : Shape) (table urn tape wires board answer : List ℕ)
-      → StatusReads lastRunReason sizeAnswer (sizeNumbers (urnRunResult s table urn tape wires board .answer)) answer
-      (isAccepted (urnRunResult s table urn tape wires board .answer))
+      → SizeStatus lastRunReason answer (urnRunResult s table urn tape wires board .answer)

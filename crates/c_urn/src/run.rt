@@ -1,6 +1,6 @@
 // Running a list on an urn, for C.
 use c_answers::array::SHORT_ANSWER;
-use c_answers::size::SIZE_ANSWER;
+use c_answers::array::SIZE_ANSWER;
 use c_answers::size::put_size;
 use jury::reason::Refusal;
 use jury::shape::Shape;
@@ -11,7 +11,7 @@ ghost use mathlib.Core.List.{[], _∷_};
 ghost use Rattle.c_answers.specs.Numbers.{shapeOf};
 ghost use Rattle.c_urn.specs.Calls.{runUrnCall};
 
-// Runs a list on the ballots in an urn, in chain order: reason, place, G and C. The urn is not changed.
+// Runs a list on the ballots in an urn, in chain order. Answers reason, place, G and C. The urn is not changed.
 #[no_mangle]
 pub extern "C" fn jugy_run_urn(
     candidates: usize,

@@ -1,12 +1,12 @@
 // Empty urns, admission, withdrawal and their previews, for C.
-use crate::answer::put_answer;
+use crate::answer::put_ballots;
 use c_answers::array::ONE_ANSWER;
 use c_answers::array::SHORT_ANSWER;
 ghost use mathlib.Core.Path.{_≡_};
 ghost use mathlib.Core.List.{[], _∷_};
 ghost use Rattle.c_urn.specs.Calls.{emptyCall, admitCall, withdrawCall, previewAdmitCall, previewWithdrawCall};
 
-// Makes a table into an empty urn: reason, place and the number of ballots, 0.
+// Turns a table into an empty urn. Answers reason, place and the number of ballots, 0.
 #[no_mangle]
 pub extern "C" fn jugy_empty_urn(
     candidates: usize,
@@ -21,10 +21,10 @@ pub extern "C" fn jugy_empty_urn(
         return SHORT_ANSWER;
     }
     let outcome = urn::empty::empty(candidates, grades, urn);
-    put_answer(outcome, answer)
+    put_ballots(outcome, answer)
 }
 
-// Admits a juror's ballot: reason, place and the new number of ballots.
+// Admits a juror's ballot. Answers reason, place and the new number of ballots.
 #[no_mangle]
 pub extern "C" fn jugy_admit(
     candidates: usize,
@@ -41,10 +41,10 @@ pub extern "C" fn jugy_admit(
         return SHORT_ANSWER;
     }
     let outcome = urn::admit::admit(candidates, grades, urn, juror, ballot);
-    put_answer(outcome, answer)
+    put_ballots(outcome, answer)
 }
 
-// Withdraws a juror's ballot: reason, place and the new number of ballots.
+// Withdraws a juror's ballot. Answers reason, place and the new number of ballots.
 #[no_mangle]
 pub extern "C" fn jugy_withdraw(
     candidates: usize,
@@ -60,10 +60,10 @@ pub extern "C" fn jugy_withdraw(
         return SHORT_ANSWER;
     }
     let outcome = urn::withdraw::withdraw(candidates, grades, urn, juror);
-    put_answer(outcome, answer)
+    put_ballots(outcome, answer)
 }
 
-// What an admission would answer. The urn is not changed.
+// Answers what an admission would. The urn is not changed.
 #[no_mangle]
 pub extern "C" fn jugy_preview_admit(
     candidates: usize,
@@ -80,10 +80,10 @@ pub extern "C" fn jugy_preview_admit(
         return SHORT_ANSWER;
     }
     let outcome = urn::admit::preview(candidates, grades, urn, juror, ballot);
-    put_answer(outcome, answer)
+    put_ballots(outcome, answer)
 }
 
-// What a withdrawal would answer. The urn is not changed.
+// Answers what a withdrawal would. The urn is not changed.
 #[no_mangle]
 pub extern "C" fn jugy_preview_withdraw(
     candidates: usize,
@@ -99,5 +99,5 @@ pub extern "C" fn jugy_preview_withdraw(
         return SHORT_ANSWER;
     }
     let outcome = urn::withdraw::preview(candidates, grades, urn, juror);
-    put_answer(outcome, answer)
+    put_ballots(outcome, answer)
 }

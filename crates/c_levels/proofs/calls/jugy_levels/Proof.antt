@@ -12,9 +12,9 @@ use Rattle.tally.proofs.TestReasons.{outside-list}
 use Rattle.levels.specs.Answer.{depthsOutcome, levelReasonOf}
 use Rattle.levels.specs.Levels.{LevelsResult, levelsResult}
 use Rattle.levels.proofs.Reasons.{of-list, call-refused}
-use Rattle.c_answers.specs.Numbers.{shapeOf}
+use Rattle.c_answers.specs.Numbers.{threeAnswer, shapeOf}
 use Rattle.c_answers.proofs.Answering.{short-call, put-call}
-use Rattle.c_levels.specs.Numbers.{depthAnswer, depthNumbers}
+use Rattle.c_levels.specs.Numbers.{depthNumbers}
 use Rattle.c_levels.proofs.calls.jugy_levels.Statement.{statement}
 use Rattle.c_levels.proofs.calls.jugy_levels.Tie as tie
 
@@ -23,7 +23,7 @@ unfolding shapeOf
 returns c =
     let a = c .before .before .before .before .args in
     let r = levelsResult (shapeOf (a .candidates) (a .grades) (a .ballots)) (a .table .now) (a .levels .now) in
-    short-call depthAnswer (a .answer .now) (c .if1 .taken) (depthNumbers (r .answer)) (a .levels .now ∷ []) (r .levels ∷ [])
+    short-call threeAnswer (a .answer .now) (c .if1 .taken) (depthNumbers (r .answer)) (a .levels .now ∷ []) (r .levels ∷ [])
 
 new-requires : tie.Need-new-requires
 new-requires c κs = search needs
@@ -52,7 +52,7 @@ returns-2 c =
     let r = levelsResult s (a .table .now) (a .levels .now) in
     let left = call-refused s (a .table .now) (a .levels .now) (reasonAt 1 0)
     (of-list s (a .table .now) (a .levels .now) (reasonAt 1 0) (outside-list s (a .table .now) outside)) in
-    put-call depthAnswer (a .answer .now) (long .if1 .left) (depthNumbers (r .answer)) _ _ _ (c .before .before .put-depths .ensures)
+    put-call threeAnswer (a .answer .now) (long .if1 .left) (depthNumbers (r .answer)) _ _ _ (c .before .before .put-depths .ensures)
     (ap (λ (z : LevelsResult). depthNumbers (z .answer)) left) (a .levels .now ∷ []) (r .levels ∷ []) _
     (ap (λ (z : LevelsResult). z .levels ∷ []) left)
 
@@ -80,7 +80,7 @@ returns-3 c =
     let same = shape-is (withinLimits s) s (known .shape .given .0 .0) (sym (made .new .ensures .result) ∙ known .shape .given .1) in
     let r = levelsResult s (a .table .now) (a .levels .now) in
     let left = outcome .write .ensures ∙ ap (λ (z : Shape). levelsResult z (a .table .now) (a .levels .now)) same in
-    put-call depthAnswer (a .answer .now) (long .if1 .left) (depthNumbers (r .answer)) _ _ _ (c .before .before .put-depths2 .ensures)
+    put-call threeAnswer (a .answer .now) (long .if1 .left) (depthNumbers (r .answer)) _ _ _ (c .before .before .put-depths2 .ensures)
     (ap (λ (z : LevelsResult). depthNumbers (z .answer)) left) (a .levels .now ∷ []) (r .levels ∷ []) _
     (ap (λ (z : LevelsResult). z .levels ∷ []) left)
 

@@ -12,7 +12,7 @@ use Rattle.jury.proofs.Constructed.{shape-is, outside-is}
 use Rattle.text.specs.Read.{readTextResult}
 use Rattle.text.proofs.Reasons.{shape-outside, read-refused}
 use Rattle.text.specs.Answer.{TextResult, textReasonOf, lengthOutcome}
-use Rattle.c_answers.specs.Numbers.{shapeOf, oneNumber}
+use Rattle.c_answers.specs.Numbers.{shapeOf, oneNumbers}
 use Rattle.c_answers.proofs.Answering.{short-call, put-call}
 use Rattle.c_text.proofs.calls.jugy_read_text.Statement.{statement}
 use Rattle.c_text.proofs.calls.jugy_read_text.Tie as tie
@@ -22,7 +22,7 @@ unfolding shapeOf
 returns c =
     let a = c .before .before .before .before .args in
     let r = readTextResult (shapeOf (a .candidates) (a .grades) (a .ballots)) (a .text .now) (a .output .now) in
-    short-call 3 (a .answer .now) (c .if1 .taken) (oneNumber (r .answer)) (a .output .now ∷ []) (r .output ∷ [])
+    short-call 3 (a .answer .now) (c .if1 .taken) (oneNumbers (r .answer)) (a .output .now ∷ []) (r .output ∷ [])
 
 new-requires : tie.Need-new-requires
 new-requires c κs = search needs
@@ -50,8 +50,8 @@ returns-2 c =
     let outside = outside-is (withinLimits s) s (sym (made .new .ensures .result) ∙ told .enum-told .given .1) in
     let r = readTextResult s (a .text .now) (a .output .now) in
     let left = read-refused s (a .text .now) (a .output .now) (reasonAt 1 0) (shape-outside s (a .text .now) (a .output .now) outside) in
-    put-call 3 (a .answer .now) (long .if1 .left) (oneNumber (r .answer)) _ _ _ (c .before .before .put-length .ensures)
-    (ap oneNumber (left .0)) (a .output .now ∷ []) (r .output ∷ []) _ (ap (λ (z : List ℕ). z ∷ []) (left .1))
+    put-call 3 (a .answer .now) (long .if1 .left) (oneNumbers (r .answer)) _ _ _ (c .before .before .put-length .ensures)
+    (ap oneNumbers (left .0)) (a .output .now ∷ []) (r .output ∷ []) _ (ap (λ (z : List ℕ). z ∷ []) (left .1))
 
 read-requires : tie.Need-read-requires
 read-requires c κs = search needs
@@ -77,8 +77,8 @@ returns-3 c =
     let same = shape-is (withinLimits s) s (known .shape .given .0 .0) (sym (made .new .ensures .result) ∙ known .shape .given .1) in
     let r = readTextResult s (a .text .now) (a .output .now) in
     let left = outcome .read .ensures ∙ ap (λ (z : Shape). readTextResult z (a .text .now) (a .output .now)) same in
-    put-call 3 (a .answer .now) (long .if1 .left) (oneNumber (r .answer)) _ _ _ (c .before .before .put-length2 .ensures)
-    (ap (λ (z : TextResult). oneNumber (z .answer)) left) (a .output .now ∷ []) (r .output ∷ []) _
+    put-call 3 (a .answer .now) (long .if1 .left) (oneNumbers (r .answer)) _ _ _ (c .before .before .put-length2 .ensures)
+    (ap (λ (z : TextResult). oneNumbers (z .answer)) left) (a .output .now ∷ []) (r .output ∷ []) _
     (ap (λ (z : TextResult). z .output ∷ []) left)
 
 pub jugy-read-text-spec : {M : Type 1} → statement M

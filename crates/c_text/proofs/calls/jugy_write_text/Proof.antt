@@ -13,7 +13,7 @@ use Rattle.tally.proofs.TestReasons.{outside-list}
 use Rattle.text.specs.Write.{writeTextResult}
 use Rattle.text.proofs.Reasons.{text-of-list, text-refused}
 use Rattle.text.specs.Answer.{TextResult, textReasonOf, lengthOutcome}
-use Rattle.c_answers.specs.Numbers.{shapeOf, oneNumber}
+use Rattle.c_answers.specs.Numbers.{shapeOf, oneNumbers}
 use Rattle.c_answers.proofs.Answering.{short-call, put-call}
 use Rattle.c_text.proofs.calls.jugy_write_text.Statement.{statement}
 use Rattle.c_text.proofs.calls.jugy_write_text.Tie as tie
@@ -23,7 +23,7 @@ unfolding shapeOf
 returns c =
     let a = c .before .before .before .before .args in
     let r = writeTextResult (shapeOf (a .candidates) (a .grades) (a .ballots)) (a .table .now) (a .output .now) in
-    short-call 3 (a .answer .now) (c .if1 .taken) (oneNumber (r .answer)) (a .output .now ∷ []) (r .output ∷ [])
+    short-call 3 (a .answer .now) (c .if1 .taken) (oneNumbers (r .answer)) (a .output .now ∷ []) (r .output ∷ [])
 
 new-requires : tie.Need-new-requires
 new-requires c κs = search needs
@@ -52,8 +52,8 @@ returns-2 c =
     let r = writeTextResult s (a .table .now) (a .output .now) in
     let left = text-refused s (a .table .now) (a .output .now) (reasonAt 1 0)
     (text-of-list s (a .table .now) (a .output .now) (reasonAt 1 0) (outside-list s (a .table .now) outside)) in
-    put-call 3 (a .answer .now) (long .if1 .left) (oneNumber (r .answer)) _ _ _ (c .before .before .put-length .ensures)
-    (ap oneNumber (left .0)) (a .output .now ∷ []) (r .output ∷ []) _ (ap (λ (z : List ℕ). z ∷ []) (left .1))
+    put-call 3 (a .answer .now) (long .if1 .left) (oneNumbers (r .answer)) _ _ _ (c .before .before .put-length .ensures)
+    (ap oneNumbers (left .0)) (a .output .now ∷ []) (r .output ∷ []) _ (ap (λ (z : List ℕ). z ∷ []) (left .1))
 
 write-requires : tie.Need-write-requires
 write-requires c κs = search needs
@@ -79,8 +79,8 @@ returns-3 c =
     let same = shape-is (withinLimits s) s (known .shape .given .0 .0) (sym (made .new .ensures .result) ∙ known .shape .given .1) in
     let r = writeTextResult s (a .table .now) (a .output .now) in
     let left = outcome .write .ensures ∙ ap (λ (z : Shape). writeTextResult z (a .table .now) (a .output .now)) same in
-    put-call 3 (a .answer .now) (long .if1 .left) (oneNumber (r .answer)) _ _ _ (c .before .before .put-length2 .ensures)
-    (ap (λ (z : TextResult). oneNumber (z .answer)) left) (a .output .now ∷ []) (r .output ∷ []) _
+    put-call 3 (a .answer .now) (long .if1 .left) (oneNumbers (r .answer)) _ _ _ (c .before .before .put-length2 .ensures)
+    (ap (λ (z : TextResult). oneNumbers (z .answer)) left) (a .output .now ∷ []) (r .output ∷ []) _
     (ap (λ (z : TextResult). z .output ∷ []) left)
 
 pub jugy-write-text-spec : {M : Type 1} → statement M

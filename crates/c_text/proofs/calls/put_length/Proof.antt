@@ -5,7 +5,7 @@ use mathlib.Core.List.{[], _∷_}
 use borrow.Author.Needs.{needs}
 use Rattle.text.specs.declared.answer.Answer.{Answer}
 use Rattle.text.specs.Answer.{textReasonOf, lengthOutcome}
-use Rattle.c_answers.specs.Numbers.{oneNumber}
+use Rattle.c_answers.specs.Numbers.{answerNumbers, oneTold, oneNumbers}
 use Rattle.c_answers.proofs.Answering.{puts-same, two}
 use Rattle.c_text.proofs.calls.put_length.Statement.{statement}
 use Rattle.c_text.proofs.calls.put_length.Tie as tie
@@ -13,8 +13,11 @@ use Rattle.c_text.proofs.calls.put_length.Tie as tie
 enum-known-outcome : tie.Need-enum-known-outcome
 enum-known-outcome c = search needs
 
-put-one-requires : tie.Need-put-one-requires
-put-one-requires c κs = search needs
+slice-aggregate-put-answer : tie.Need-slice-aggregate-put-answer
+slice-aggregate-put-answer c = search needs
+
+put-answer-requires : tie.Need-put-answer-requires
+put-answer-requires c κs = search needs
 
 enum-known-outcome-2 : tie.Need-enum-known-outcome-2
 enum-known-outcome-2 c = search needs
@@ -25,44 +28,51 @@ number-requires c κs = search needs
 place-requires : tie.Need-place-requires
 place-requires c κs = search needs
 
-put-one-requires-2 : tie.Need-put-one-requires-2
-put-one-requires-2 c κs = search needs
+slice-aggregate-put-answer-2 : tie.Need-slice-aggregate-put-answer-2
+slice-aggregate-put-answer-2 c = search needs
+
+put-answer-requires-2 : tie.Need-put-answer-requires-2
+put-answer-requires-2 c κs = search needs
 
 same-length : tie.Need-same-length
 same-length c = search needs
 
 returns : tie.Need-returns
-unfolding oneNumber lengthOutcome
+unfolding answerNumbers oneTold lengthOutcome
 returns c =
-    let told = c .before .before .before .before .before in
-    puts-same (sym (ap (λ (s : Answer). oneNumber (lengthOutcome s)) (told .outcome .given .1))) (c .before .before .put-one .ensures)
+    let put = c .before .before in
+    let told = put .before .before .before .before in
+    puts-same (sym (ap (λ (s : Answer). oneNumbers (lengthOutcome s)) (told .outcome .given .1))) (put .put-answer .ensures)
 
 same-length-2 : tie.Need-same-length-2
 same-length-2 c = search needs
 
 returns-2 : tie.Need-returns-2
-unfolding oneNumber lengthOutcome
+unfolding answerNumbers oneTold lengthOutcome
 returns-2 c =
-    let place = c .before .before .before .before in
+    let put = c .before .before in
+    let place = put .before .before .before in
     let number = place .before in
     let told = number .before .before in
     let why = textReasonOf (told .outcome2 .given .0 .0) in
     puts-same
-    (two (number .number .result) (place .place .result) (why .number) (why .place) (0 ∷ [])
-    (number .number .ensures) (place .place .ensures)
-    ∙ sym (ap (λ (s : Answer). oneNumber (lengthOutcome s)) (told .outcome2 .given .1)))
-    (c .before .before .put-one2 .ensures)
+    (two (number .number .result) (place .place .result) (why .number) (why .place) (0 ∷ []) (number .number .ensures)
+    (place .place .ensures)
+    ∙ sym (ap (λ (s : Answer). oneNumbers (lengthOutcome s)) (told .outcome2 .given .1)))
+    (put .put-answer2 .ensures)
 
 pub put-length-spec : {M : Type 1} → statement M
 put-length-spec =
     tie.close
     (tie.spec
     enum-known-outcome
-    put-one-requires
+    slice-aggregate-put-answer
+    put-answer-requires
     enum-known-outcome-2
     number-requires
     place-requires
-    put-one-requires-2
+    slice-aggregate-put-answer-2
+    put-answer-requires-2
     same-length
     returns
     same-length-2

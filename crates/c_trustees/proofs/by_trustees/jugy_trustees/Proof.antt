@@ -15,8 +15,8 @@ use Rattle.tally.proofs.TestReasons.{outside-list}
 use Rattle.trustees.specs.Call.{Call}
 use Rattle.trustees.specs.Result.{TrusteesResult, trusteesResultAfter, trusteesResult}
 use Rattle.trustees.proofs.Reasons.{by-test, result-by}
-use Rattle.c_answers.specs.Numbers.{shapeOf}
-use Rattle.c_trustees.specs.Numbers.{tallyNumbers, tallyAnswer}
+use Rattle.c_answers.specs.Numbers.{tallyAnswer, shapeOf}
+use Rattle.c_trustees.specs.Numbers.{tallyNumbers}
 use Rattle.c_answers.proofs.Answering.{short-call, put-call}
 use Rattle.c_trustees.proofs.by_trustees.jugy_trustees.Statement.{statement}
 use Rattle.c_trustees.proofs.by_trustees.jugy_trustees.Tie as tie

@@ -5,7 +5,7 @@ use mathlib.Core.Path.{ap}
 use mathlib.Core.List.{[], _∷_}
 use Rattle.urn.specs.Facts.{UrnResult}
 use Rattle.urn.specs.Empty.{emptying}
-use Rattle.c_answers.specs.Numbers.{oneNumber}
+use Rattle.c_answers.specs.Numbers.{oneNumbers}
 use Rattle.c_answers.proofs.Answering.{short-call, put-call}
 use borrow.Author.Needs.{needs}
 use Rattle.c_urn.proofs.urns.jugy_empty_urn.Statement.{statement}
@@ -15,13 +15,13 @@ returns : tie.Need-returns
 returns c =
     let a = c .before .before .before .args in
     let r = emptying (a .candidates) (a .grades) (a .urn .now) in
-    short-call 3 (a .answer .now) (c .if1 .taken) (oneNumber (r .answer)) (a .urn .now ∷ []) (r .urn ∷ [])
+    short-call 3 (a .answer .now) (c .if1 .taken) (oneNumbers (r .answer)) (a .urn .now ∷ []) (r .urn ∷ [])
 
 empty-requires : tie.Need-empty-requires
 empty-requires c κs = search needs
 
-put-answer-requires : tie.Need-put-answer-requires
-put-answer-requires c κs = search needs
+put-ballots-requires : tie.Need-put-ballots-requires
+put-ballots-requires c κs = search needs
 
 same-length : tie.Need-same-length
 same-length c = search needs
@@ -36,11 +36,11 @@ returns-2 c =
     let a = long .before .before .before .args in
     let r = emptying (a .candidates) (a .grades) (a .urn .now) in
     let left = called .empty .ensures in
-    put-call 3 (a .answer .now) (long .if1 .left) (oneNumber (r .answer)) _ _ _ (c .before .before .put-answer .ensures)
-    (ap (λ (z : UrnResult). oneNumber (z .answer)) left) (a .urn .now ∷ []) (r .urn ∷ []) _
+    put-call 3 (a .answer .now) (long .if1 .left) (oneNumbers (r .answer)) _ _ _ (c .before .before .put-ballots .ensures)
+    (ap (λ (z : UrnResult). oneNumbers (z .answer)) left) (a .urn .now ∷ []) (r .urn ∷ []) _
     (ap (λ (z : UrnResult). z .urn ∷ []) left)
 
 pub jugy-empty-urn-spec : {M : Type 1} → statement M
 jugy-empty-urn-spec =
     tie.close
-    (tie.spec returns empty-requires put-answer-requires same-length same-length-2 returns-2)
+    (tie.spec returns empty-requires put-ballots-requires same-length same-length-2 returns-2)

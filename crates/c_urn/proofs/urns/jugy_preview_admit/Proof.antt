@@ -6,7 +6,7 @@ use mathlib.Core.List.{[]}
 use Prim.Native.Nat.{ℕ}
 use Rattle.tally.specs.Answer.{Outcome}
 use Rattle.urn.specs.Admit.{admitOutcome}
-use Rattle.c_answers.specs.Numbers.{oneNumber}
+use Rattle.c_answers.specs.Numbers.{oneNumbers}
 use Rattle.c_answers.proofs.Answering.{short-call, put-call}
 use borrow.Author.Needs.{needs}
 use Rattle.c_urn.proofs.urns.jugy_preview_admit.Statement.{statement}
@@ -16,13 +16,13 @@ returns : tie.Need-returns
 returns c =
     let a = c .before .before .before .before .args in
     short-call 3 (a .answer .now) (c .if1 .taken)
-    (oneNumber (admitOutcome (a .candidates) (a .grades) (a .urn .now) (a .juror) (a .ballot .now))) [] []
+    (oneNumbers (admitOutcome (a .candidates) (a .grades) (a .urn .now) (a .juror) (a .ballot .now))) [] []
 
 preview-requires : tie.Need-preview-requires
 preview-requires c κs = search needs
 
-put-answer-requires : tie.Need-put-answer-requires
-put-answer-requires c κs = search needs
+put-ballots-requires : tie.Need-put-ballots-requires
+put-ballots-requires c κs = search needs
 
 same-length : tie.Need-same-length
 same-length c = search needs
@@ -33,11 +33,11 @@ returns-2 c =
     let long = called .before in
     let a = long .before .before .before .before .args in
     put-call 3 (a .answer .now) (long .if1 .left)
-    (oneNumber (admitOutcome (a .candidates) (a .grades) (a .urn .now) (a .juror) (a .ballot .now))) _ _ _
-    (c .before .before .put-answer .ensures)
-    (ap (λ (z : Outcome ℕ). oneNumber z) (called .preview .ensures)) [] [] [] refl
+    (oneNumbers (admitOutcome (a .candidates) (a .grades) (a .urn .now) (a .juror) (a .ballot .now))) _ _ _
+    (c .before .before .put-ballots .ensures)
+    (ap (λ (z : Outcome ℕ). oneNumbers z) (called .preview .ensures)) [] [] [] refl
 
 pub jugy-preview-admit-spec : {M : Type 1} → statement M
 jugy-preview-admit-spec =
     tie.close
-    (tie.spec returns preview-requires put-answer-requires same-length returns-2)
+    (tie.spec returns preview-requires put-ballots-requires same-length returns-2)
