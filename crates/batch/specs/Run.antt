@@ -1,29 +1,24 @@
 -- The entry point [lanes]: one list run on 64 juries of one shape; bit j of each number is jury j's (request 2.11).
 use mathlib.Core.Option.{Option, none, some}
-use mathlib.Core.List.{List, [], _∷_, _++_}
+use mathlib.Core.List.{List, _∷_, _++_}
 use Prim.Native.Nat.{ℕ, _+_}
-use lib.Dec.{eqb}
 use lib.ListN.{length, replicate}
 use Rattle.gates.specs.Gate.{gatesOf}
 use Rattle.gates.specs.Wires.{wiresOf}
 use Rattle.gates.specs.Board.{conditionalCount, boardOf}
 use Rattle.jury.specs.Shape.{ballotBytes}
-use Rattle.jury.specs.Reason.{Reason, unless, firstOf}
+use Rattle.jury.specs.Reason.{Reason, firstOf}
 use Rattle.tally.specs.Answer.{refused, accepted, Size, sizeOf}
 use Rattle.tally.specs.Test.{testReasons}
-use Rattle.tally.specs.Run.{RunResult}
+use Rattle.tally.specs.Run.{RunResult, tapeReason, tableReasons}
 use Rattle.batch_lanes.specs.Lane.{laneOf, wordsOf}
 use Rattle.batch.specs.Call.{Call}
 use Rattle.batch.specs.Ballots.{wordBallotReasons}
 
--- The reasons of tape, wire table and board, in the order 7, 9, 10, for a list with i inputs and k outputs. Each
--- has as many words as it has bytes in a single run. 8 never applies.
+-- The reasons of tape, wire table and board, in the order 7, 9, 10, for a list with i inputs and k outputs. Each has
+-- as many words as it has bytes in a single run. 8 never applies.
 unfoldable pub wordBufferReasons : ℕ → ℕ → Size → List ℕ → List ℕ → List ℕ → List (Option Reason)
-wordBufferReasons i k size tape wires board =
-    unless (eqb (length tape) (size .conditional)) 7
-    ∷ unless (eqb (length wires) (i + size .gates)) 9
-    ∷ unless (eqb (length board) (size .conditional + k)) 10
-    ∷ []
+wordBufferReasons i k size tape wires board = tapeReason size tape ∷ tableReasons i k size wires board
 
 -- All reasons, in the order of their tests: 1, 2, 3, 4, then 6 for grades or 11 and 12 for rankings, then 7, 9, 10.
 unfoldable pub batchReasons : Call → List (Option Reason)

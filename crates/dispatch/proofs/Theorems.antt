@@ -20,7 +20,7 @@ use Rattle.gates.specs.Board.{boardOf}
 use Rattle.jury.specs.Shape.{ballotBytes}
 use Rattle.jury.specs.Reason.{Reason, reasonAt, unless, firstOf}
 use Rattle.tally.specs.Answer.{refused, accepted, outcome, hasNumberIn, Size, sizeOf}
-use Rattle.tally.specs.Run.{RunResult, runResult, runResultAfter}
+use Rattle.tally.specs.Run.{RunResult, runResult, runResultAfter, runNumbers}
 use Rattle.tally.specs.Hiding.{closingBytes, RunsHide}
 use Rattle.tally.proofs.Hiding.{run-answer, run-board, board-tells-no-more}
 use Rattle.tally.specs.Write.{writeOutcome}
@@ -552,7 +552,7 @@ same-number r q e (n ∷ ns) h =
 
 -- the numbers of all reasons of a call
 abbrev numbers : List ℕ
-numbers = 19 ∷ 20 ∷ 1 ∷ 2 ∷ 3 ∷ 4 ∷ 5 ∷ 6 ∷ 11 ∷ 12 ∷ 7 ∷ 8 ∷ 9 ∷ 10 ∷ []
+numbers = 19 ∷ 20 ∷ runNumbers
 
 number : (c : Call) (r : Reason) → dispatchResult c .reason ≡ some r → T (hasNumberIn numbers r)
 unfolding hasNumberIn reasonAt
@@ -571,11 +571,11 @@ number c r e = ⊎-elim (λ x. own 19 tt (x .1)) (⊎-elim (λ x. own 20 tt (x .
             either true b h = tt
             either false b h = h
 
-        by-number : T (hasNumberIn (1 ∷ 2 ∷ 3 ∷ 4 ∷ 5 ∷ 6 ∷ 11 ∷ 12 ∷ 7 ∷ 8 ∷ 9 ∷ 10 ∷ []) (f .its)) → T (hasNumberIn numbers r)
+        by-number : T (hasNumberIn runNumbers (f .its)) → T (hasNumberIn numbers r)
         by-number h =
             same-number r (f .its) (f .number) numbers
-            (later 19 (20 ∷ 1 ∷ 2 ∷ 3 ∷ 4 ∷ 5 ∷ 6 ∷ 11 ∷ 12 ∷ 7 ∷ 8 ∷ 9 ∷ 10 ∷ []) (f .its)
-            (later 20 (1 ∷ 2 ∷ 3 ∷ 4 ∷ 5 ∷ 6 ∷ 11 ∷ 12 ∷ 7 ∷ 8 ∷ 9 ∷ 10 ∷ []) (f .its) h))
+            (later 19 (20 ∷ runNumbers) (f .its)
+            (later 20 runNumbers (f .its) h))
 
 memory : (c : Call) → DispatchMemory c
 unfolding Each

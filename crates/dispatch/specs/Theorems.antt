@@ -10,7 +10,7 @@ use Rattle.gates.specs.Gate.{gatesOf}
 use Rattle.jury.specs.Reason.{Reason, reasonAt}
 use Rattle.tally.specs.Answer.{refused, accepted, outcome, Size, sizeOf}
 use Rattle.tally.specs.Write.{writeOutcome}
-use Rattle.tally.specs.Run.{RunResult, runResult}
+use Rattle.tally.specs.Run.{RunResult, runNumbers, runResult}
 use Rattle.tally.specs.Hiding.{closingBytes, RunsHide}
 use Rattle.tally.specs.SaysWhoWins.{SaysWhoWins}
 use Rattle.tally.specs.Memory.{Lent, KeepsMemory}
@@ -149,8 +149,8 @@ abbrev pub DispatchMemory : Call → Type 0
 DispatchMemory c =
     let wires : Lent = record { before = c .tables .wires; after = dispatchResult c .wires } in
     let boards : Lent = record { before = c .tables .boards; after = dispatchResult c .boards } in
-    KeepsMemory (19 ∷ 20 ∷ 1 ∷ 2 ∷ 3 ∷ 4 ∷ 5 ∷ 6 ∷ 11 ∷ 12 ∷ 7 ∷ 8 ∷ 9 ∷ 10 ∷ [])
-    (outcome (dispatchResult c .reason) (dispatchResult c .rounds)) (wires ∷ boards ∷ []) []
+    KeepsMemory (19 ∷ 20 ∷ runNumbers) (outcome (dispatchResult c .reason) (dispatchResult c .rounds))
+    (wires ∷ boards ∷ []) []
 
 -- No call, accepted or refused, changes what follows the last jury's piece.
 pub record Untouched (c : Call) : Type 0 where

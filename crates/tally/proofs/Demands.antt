@@ -29,7 +29,7 @@ use Rattle.tally.specs.OwnList.{ownList}
 use Rattle.tally.specs.Count.{countReason, plainClosing, countOutcome}
 use Rattle.tally.specs.Test.{testReasons, testOutcome}
 use Rattle.tally.specs.Write.{writeReasons, writeOutcome}
-use Rattle.tally.specs.Run.{RunResult, bufferReasons, runReasons, runResultAfter, runResult}
+use Rattle.tally.specs.Run.{RunResult, bufferReasons, runReasons, runResultAfter, runResult, runNumbers}
 use Rattle.tally.specs.Hiding.{closingBytes}
 use Rattle.tally.specs.Demands.{TallyMemory, listIn, RunAccuracy, CountAccuracy, ThreeDemands}
 use Rattle.tally.proofs.Rules.{rule-says}
@@ -198,7 +198,7 @@ unfolding Each
 nothing-lent named = record { number = named; refusal = λ r e. tt; empties = λ values e. tt; lengths = tt }
 
 run-memory : (s : Shape) (table ballots tape wires board : List ℕ)
-    → BoardKeepsMemory (1 ∷ 2 ∷ 3 ∷ 4 ∷ 5 ∷ 6 ∷ 11 ∷ 12 ∷ 7 ∷ 8 ∷ 9 ∷ 10 ∷ []) wires board (runResult s table ballots tape wires board)
+    → BoardKeepsMemory runNumbers wires board (runResult s table ballots tape wires board)
 unfolding Each
 run-memory s table ballots tape wires board =
     let long = run-lengths s table ballots tape wires board in

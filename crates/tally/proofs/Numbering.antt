@@ -19,7 +19,7 @@ use Rattle.tally.specs.OwnList.{ownList}
 use Rattle.tally.specs.Answer.{Outcome, refused, accepted, outcome, hasNumberIn, Size, sizeOf}
 use Rattle.tally.specs.Count.{countReason}
 use Rattle.tally.specs.Measure.{measuresOf, measureOutcome}
-use Rattle.tally.specs.Run.{bufferReasons, runReasons, runResultAfter, runResult}
+use Rattle.tally.specs.Run.{bufferReasons, runReasons, runResultAfter, runResult, runNumbers}
 use Rattle.tally.specs.Test.{testReasons, testOutcome}
 use Rattle.tally.specs.Write.{writeReasons, writeOutcome}
 
@@ -85,10 +85,6 @@ module _ (ns : List ℕ) where
   kind-fine s xs true row clash notWeakOrder = (found-fine 11 _ clash, (found-fine 12 _ notWeakOrder, tt))
   kind-fine s xs false row clash notWeakOrder = (found-fine 6 _ row, tt)
 
--- every reason of a run
-all : List ℕ
-all = 1 ∷ 2 ∷ 3 ∷ 4 ∷ 5 ∷ 6 ∷ 11 ∷ 12 ∷ 7 ∷ 8 ∷ 9 ∷ 10 ∷ []
-
 pub measure-number : (s : Shape) (r : Reason) → measureOutcome s ≡ refused r → T (hasNumberIn (1 ∷ []) r)
 unfolding measureOutcome All hasNumberIn reasonAt
 measure-number s r e =
@@ -126,38 +122,38 @@ count-number s ballots r e =
       ),
     ))
 
-test-all : (s : Shape) (table : List ℕ) → All all (testReasons s table)
-unfolding All testReasons hasNumberIn reasonAt all
-test-all s table = (unless-fine all _ 1 tt, (list-fine all _ tt (λ g. tt), tt))
+test-all : (s : Shape) (table : List ℕ) → All runNumbers (testReasons s table)
+unfolding All testReasons hasNumberIn reasonAt
+test-all s table = (unless-fine runNumbers _ 1 tt, (list-fine runNumbers _ tt (λ g. tt), tt))
 
-ballots-all : (s : Shape) (xs : List ℕ) → All all (ballotReasons s xs)
-unfolding All ballotReasons hasNumberIn reasonAt all
-ballots-all s xs = (unless-fine all _ 4 tt, (found-fine all 5 _ (λ i. tt), kind-fine all s xs (isRanking s) (λ i. tt) (λ i. tt) (λ b. tt)))
+ballots-all : (s : Shape) (xs : List ℕ) → All runNumbers (ballotReasons s xs)
+unfolding All ballotReasons hasNumberIn reasonAt
+ballots-all s xs = (unless-fine runNumbers _ 4 tt, (found-fine runNumbers 5 _ (λ i. tt), kind-fine runNumbers s xs (isRanking s) (λ i. tt) (λ i. tt) (λ b. tt)))
 
-lent-all : (i k : ℕ) (size : Size) (tape wires board : List ℕ) → All all (bufferReasons i k size tape wires board)
-unfolding All bufferReasons hasNumberIn reasonAt all
+lent-all : (i k : ℕ) (size : Size) (tape wires board : List ℕ) → All runNumbers (bufferReasons i k size tape wires board)
+unfolding All bufferReasons hasNumberIn reasonAt
 lent-all i k size tape wires board =
-    (unless-fine all _ 7 tt, (found-fine all 8 _ (λ i. tt), (unless-fine all _ 9 tt, (unless-fine all _ 10 tt, tt))))
+    (unless-fine runNumbers _ 7 tt, (found-fine runNumbers 8 _ (λ i. tt), (unless-fine runNumbers _ 9 tt, (unless-fine runNumbers _ 10 tt, tt))))
 
-run-all : (s : Shape) (table ballots tape wires board : List ℕ) → All all (runReasons s table ballots tape wires board)
+run-all : (s : Shape) (table ballots tape wires board : List ℕ) → All runNumbers (runReasons s table ballots tape wires board)
 unfolding runReasons
 run-all s table ballots tape wires board =
-    both all (testReasons s table ++ ballotReasons s ballots)
+    both runNumbers (testReasons s table ++ ballotReasons s ballots)
     (bufferReasons (ballotBytes s) (s .candidates) (sizeOf (gatesOf table)) tape wires board)
-    (both all (testReasons s table) (ballotReasons s ballots) (test-all s table) (ballots-all s ballots))
+    (both runNumbers (testReasons s table) (ballotReasons s ballots) (test-all s table) (ballots-all s ballots))
     (lent-all (ballotBytes s) (s .candidates) (sizeOf (gatesOf table)) tape wires board)
 
-ran-fine : (o : Option Reason) (s : Shape) (gs : List Gate) (ballots tape wires board : List ℕ) → Fine all o
-    → FineSaid all (runResultAfter o s gs ballots tape wires board .answer)
+ran-fine : (o : Option Reason) (s : Shape) (gs : List Gate) (ballots tape wires board : List ℕ) → Fine runNumbers o
+    → FineSaid runNumbers (runResultAfter o s gs ballots tape wires board .answer)
 unfolding Fine FineSaid runResultAfter
 ran-fine none s gs ballots tape wires board f = tt
 ran-fine (some r) s gs ballots tape wires board f = f
 
 pub run-number : (s : Shape) (table ballots tape wires board : List ℕ) (r : Reason)
     → runResult s table ballots tape wires board .answer ≡ refused r
-    → T (hasNumberIn (1 ∷ 2 ∷ 3 ∷ 4 ∷ 5 ∷ 6 ∷ 11 ∷ 12 ∷ 7 ∷ 8 ∷ 9 ∷ 10 ∷ []) r)
-unfolding runResult all
+    → T (hasNumberIn runNumbers r)
+unfolding runResult
 run-number s table ballots tape wires board r e =
-    refused-fine all (runResult s table ballots tape wires board .answer) r
+    refused-fine runNumbers (runResult s table ballots tape wires board .answer) r
     (ran-fine _ s (gatesOf table) ballots tape wires board
-    (first-fine all (runReasons s table ballots tape wires board) (run-all s table ballots tape wires board))) e
+    (first-fine runNumbers (runReasons s table ballots tape wires board) (run-all s table ballots tape wires board))) e

@@ -19,7 +19,7 @@ use Rattle.tally.specs.Count.{countReason, plainClosing, countOutcome}
 use Rattle.tally.specs.Measure.{measureOutcome}
 use Rattle.tally.specs.Test.{testOutcome}
 use Rattle.tally.specs.Write.{writeOutcome, writeResult}
-use Rattle.tally.specs.Run.{BoardCall, runResult}
+use Rattle.tally.specs.Run.{BoardCall, runResult, runNumbers}
 use Rattle.tally.specs.Hiding.{closingBytes, RunTellsNoMore}
 
 -- Demand 1 for the five entry points. Measure, test and count are lent no table to write to.
@@ -29,7 +29,7 @@ pub record TallyMemory : Type 0 where
       → KeepsMemory (1 ∷ 2 ∷ []) (writeOutcome s table) (record { before = table; after = writeResult s table } ∷ []) []
   pub test : (s : Shape) (table : List ℕ) → KeepsMemory (1 ∷ 2 ∷ 3 ∷ []) (testOutcome s table) [] []
   pub run : (s : Shape) (table ballots tape wires board : List ℕ)
-      → BoardKeepsMemory (1 ∷ 2 ∷ 3 ∷ 4 ∷ 5 ∷ 6 ∷ 11 ∷ 12 ∷ 7 ∷ 8 ∷ 9 ∷ 10 ∷ []) wires board
+      → BoardKeepsMemory runNumbers wires board
       (runResult s table ballots tape wires board)
   pub count : (s : Shape) (ballots : List ℕ)
       → KeepsMemory (1 ∷ 4 ∷ 5 ∷ 6 ∷ 11 ∷ 12 ∷ []) (countOutcome s ballots) [] []

@@ -15,16 +15,22 @@ use Rattle.jury.specs.Ballots.{ballotReasons}
 use Rattle.tally.specs.Answer.{Outcome, refused, accepted, outcome, Size, sizeOf}
 use Rattle.tally.specs.Test.{testReasons}
 
--- The reasons of tape, wire table and board, in the order 7, 8, 9, 10, for a list with i inputs and k outputs. The
--- tape has a bit for each conditional gate, the wire table a byte for each input and gate, the board a byte for
--- each conditional gate and output.
-unfoldable pub bufferReasons : ℕ → ℕ → Size → List ℕ → List ℕ → List ℕ → List (Option Reason)
-bufferReasons i k size tape wires board =
-    unless (eqb (length tape) (size .conditional)) 7
-    ∷ foundAt 8 (firstAboveOne 0 tape)
-    ∷ unless (eqb (length wires) (i + size .gates)) 9
+-- The tape has a bit for each conditional gate.
+abbrev pub tapeReason : Size → List ℕ → Option Reason
+tapeReason size tape = unless (eqb (length tape) (size .conditional)) 7
+
+-- For a list with i inputs and k outputs, the wire table has a byte for each input and gate, and the board a byte
+-- for each conditional gate and output.
+abbrev pub tableReasons : ℕ → ℕ → Size → List ℕ → List ℕ → List (Option Reason)
+tableReasons i k size wires board =
+    unless (eqb (length wires) (i + size .gates)) 9
     ∷ unless (eqb (length board) (size .conditional + k)) 10
     ∷ []
+
+-- The reasons of tape, wire table and board, in the order 7, 8, 9, 10.
+unfoldable pub bufferReasons : ℕ → ℕ → Size → List ℕ → List ℕ → List ℕ → List (Option Reason)
+bufferReasons i k size tape wires board =
+    tapeReason size tape ∷ foundAt 8 (firstAboveOne 0 tape) ∷ tableReasons i k size wires board
 
 -- All reasons of a run, in the order of its tests: those of the list, of the ballots, and of tape, wire table and
 -- board.
@@ -33,6 +39,10 @@ runReasons s table ballots tape wires board =
     testReasons s table
     ++ ballotReasons s ballots
     ++ bufferReasons (ballotBytes s) (s .candidates) (sizeOf (gatesOf table)) tape wires board
+
+-- The numbers of these reasons.
+abbrev pub runNumbers : List ℕ
+runNumbers = 1 ∷ 2 ∷ 3 ∷ 4 ∷ 5 ∷ 6 ∷ 11 ∷ 12 ∷ 7 ∷ 8 ∷ 9 ∷ 10 ∷ []
 
 -- The answer of a run: the first reason, or the list's own G and C.
 abbrev pub runOutcome : Shape → List ℕ → List ℕ → List ℕ → List ℕ → List ℕ → Outcome Size
