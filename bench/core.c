@@ -346,9 +346,8 @@ static struct order merge(struct writer *w, const struct plan *p, struct group x
     uint32_t high = x.size + y.size > 2 ? p->digits / 2 : 0;
     struct order keys = contest(w, p, (struct words){x.key, y.key}, high);
     uint32_t x_first = emit(w, AND, keys.differ, keys.first, 0);
-    uint32_t y_first = emit(w, XOR, keys.differ, x_first, 0);
-    uint32_t x_stays = emit(w, NOT, y_first, 0, 0);
     uint32_t y_stays = emit(w, NOT, x_first, 0, 0);
+    uint32_t x_stays = emit(w, XOR, keys.differ, y_stays, 0);
     *both = (struct group){x.size + y.size, 0, (uint32_t)w->wire};
     keep_winners(w, x, x_stays);
     keep_winners(w, y, y_stays);
@@ -415,7 +414,7 @@ static size_t flag_gates(uint32_t size) {
 }
 
 static size_t list_gates(const struct plan *p) {
-    return p->k * candidate_gates(p) + (p->k - 1) * (contest_gates(p) + 4) + flag_gates(p->k)
+    return p->k * candidate_gates(p) + (p->k - 1) * (contest_gates(p) + 3) + flag_gates(p->k)
            + (p->k - 2) * key_gates(p);
 }
 

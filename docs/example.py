@@ -23,11 +23,10 @@ MEANINGS = {
     "2 6": "one blend loses",
     "2 5": "if one loses, it is blend 1",
     "4 7 8": "blend 1 loses",
-    "6 7 9": "blend 0 loses",
-    "3 10": "blend 0 wins",
     "3 9": "blend 1 wins",
+    "6 7 10": "blend 0 wins",
     "2 11": "blend 0 wins",
-    "2 12": "blend 1 wins",
+    "2 10": "blend 1 wins",
 }
 # The tape of the first jury: any bits would do.
 PATTERN = (1, 0, 0, 1, 1, 0, 1)

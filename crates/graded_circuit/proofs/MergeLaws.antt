@@ -3,7 +3,7 @@
 use mathlib.Core.Path.{_≡_, _∙_, refl, sym, ap, subst}
 use mathlib.Core.Logic.{_⊎_, inl, inr, ⊎-elim}
 use mathlib.Core.Bool.{Bool, true, false, cond}
-use mathlib.Core.List.{[], _∷_}
+use mathlib.Core.List.{[]}
 use Prim.Native.Nat.{ℕ, zero, suc, _+_, _-_, _*_, _/_, _%_, _≤_, _<_, min}
 use native.Mathlib.Nat.{suc-mul, add-zero, mul-le-mul-right}
 use native.Mathlib.Omega.{arith}
@@ -45,13 +45,12 @@ keep-winners-block n at stays zero h s = none-block n
 keep-winners-block n at stays (suc zero) h s = gate-block (good-copy n stays s) (none-block (suc n))
 keep-winners-block n at stays (suc (suc m)) h s = and-all-block n at stays (suc (suc m)) (h (omega arith)) s
 
-pub select-flags-block : (q : ℕ) → Block (q + 2) (selectFlags q) 4
+pub select-flags-block : (q : ℕ) → Block (q + 2) (selectFlags q) 3
 unfolding selectFlags
 select-flags-block q =
     gate-block (good-and (q + 2) q (q + 1) (omega arith) (omega arith))
-    (gate-block (good-xor (suc (q + 2)) q (q + 2) (omega arith) (omega arith))
-    (gate-block (good-not (suc (suc (q + 2))) (q + 3) (omega arith))
-    (gate-block (good-not (suc (suc (suc (q + 2)))) (q + 2) (omega arith)) (none-block (suc (suc (suc (suc (q + 2)))))))))
+    (gate-block (good-not (suc (q + 2)) (q + 2) (omega arith))
+    (gate-block (good-xor (suc (suc (q + 2))) q (q + 3) (omega arith) (omega arith)) (none-block (suc (suc (suc (q + 2)))))))
 
 pub high-leaves : (p : Plan) (both : ℕ) → Leaves (p .digits) (highDigits p both)
 unfolding highDigits
@@ -69,8 +68,8 @@ module _ (p : Plan) (f : Planned p) where
       let q = resultAt p n in
       both-block (both-block (both-block (contest-block p f n x y (highDigits p (l + m)) (high-leaves p (l + m)) hx hy) (omega arith)
       (select-flags-block q)) (omega arith)
-      (keep-winners-block (q + 6) u (leftStays p n) l (λ k. let h = hu k in omega arith) (omega arith))) (omega arith)
-      (keep-winners-block (q + 6 + l) v (rightStays p n) m (λ k. let h = hv k in omega arith) (omega arith))
+      (keep-winners-block (q + 5) u (leftStays p n) l (λ k. let h = hu k in omega arith) (omega arith))) (omega arith)
+      (keep-winners-block (q + 5 + l) v (rightStays p n) m (λ k. let h = hv k in omega arith) (omega arith))
 
   pub better-block : (at n x y : ℕ) → resultAt p n + 1 < at → x + keySpan p ≤ at → y + keySpan p
       ≤ at → Block at (betterKey p n x y) (keySpan p)
@@ -114,18 +113,15 @@ module _ (W : ℕ → ℕ) (b : Binary W) where
 
   -- what follows a contest: x is better, y is better, x's group stays, y's group stays
   select-flags-law : (q : ℕ) → Holds W (q + 2) (selectFlags q)
-      → (W (q + 2) ≡ min (W q) (W (q + 1))) × (W (q + 3) ≡ (W q + W (q + 2)) % 2) × (W (q + 4) ≡ 1 - W (q + 3))
-      × (W (q + 5) ≡ 1 - W (q + 2))
+      → (W (q + 2) ≡ min (W q) (W (q + 1))) × (W (q + 3) ≡ 1 - W (q + 2)) × (W (q + 4) ≡ (W q + W (q + 3)) % 2)
   unfolding selectFlags
   select-flags-law q h =
-      let g = holds-three W (q + 2) (andOf q (q + 1)) (xorOf q (q + 2)) (notOf (q + 3)) (notOf (q + 2) ∷ []) h in
+      let g = holds-three W (q + 2) (andOf q (q + 1)) (notOf (q + 2)) (xorOf q (q + 3)) [] h in
       let p₁ : q + 2 + 1 ≡ q + 3 = omega arith in
-      let p₂ : q + 2 + 2 ≡ q + 4 = omega arith in
-      let p₃ : q + 2 + 3 ≡ q + 5 = omega arith in (
+      let p₂ : q + 2 + 2 ≡ q + 4 = omega arith in (
         g .0 ∙ and-is W b q (q + 1),
-        sym (ap W p₁) ∙ g .1 ∙ xor-is W b q (q + 2),
-        sym (ap W p₂) ∙ g .2 ∙ not-is W b (q + 3),
-        sym (ap W p₃) ∙ holds-first W (q + 2 + 3) (notOf (q + 2)) [] (g .3) ∙ not-is W b (q + 2),
+        sym (ap W p₁) ∙ g .1 ∙ not-is W b (q + 2),
+        sym (ap W p₂) ∙ g .2 ∙ xor-is W b q (q + 3),
       )
 
   -- a choice, wire by wire
@@ -243,7 +239,7 @@ module _ (p : Plan) (f : Planned p) (S : ℕ → ℕ → ℕ) (Before : ℕ → 
       best : ℕ
       choice : ((W (q + 1) ≡ 1) × (best ≡ l)) ⊎ ((W (q + 1) ≡ 0) × (best ≡ r))
       left : Standing (W (q + 4)) l best
-      right : Standing (W (q + 5)) r best
+      right : Standing (W (q + 3)) r best
 
     met : (q l r : ℕ) → l < p .candidates → r < p .candidates → Holds W (q + 2) (selectFlags q)
         → Outcome (W q) (W (q + 1)) (p .ballots) (p .grades - 1) (S l) (S r) → Met q l r
@@ -252,7 +248,6 @@ module _ (p : Plan) (f : Planned p) (S : ℕ → ℕ → ℕ) (Before : ℕ → 
         let v₂ = v .0 in
         let v₃ = v .1 in
         let v₄ = v .2 in
-        let v₅ = v .3 in
         ⊎-elim
         (λ (t : (W q ≡ 0) × ((g : ℕ) → g < p .grades - 1 → S l g ≡ S r g)).
         let z = t .0 in
@@ -308,8 +303,8 @@ module _ (p : Plan) (f : Planned p) (S : ℕ → ℕ → ℕ) (Before : ℕ → 
 
     joined : (n c x y u v l m : ℕ) → c + (l + m) ≤ p .candidates → (a : Group c l x u) (d : Group (c + l) m y v)
         → Met (resultAt p n) (a .best) (d .best)
-        → Holds W (resultAt p n + 6) (keepWinners u (leftStays p n) l)
-        → Holds W (resultAt p n + 6 + l) (keepWinners v (rightStays p n) m)
+        → Holds W (resultAt p n + 5) (keepWinners u (leftStays p n) l)
+        → Holds W (resultAt p n + 5 + l) (keepWinners v (rightStays p n) m)
         → Joined c l m (resultAt p n) x y (wonAt p n)
     joined n c x y u v l m inside a d t one two =
         record {
@@ -333,17 +328,17 @@ module _ (p : Plan) (f : Planned p) (S : ℕ → ℕ → ℕ) (Before : ℕ → 
 
         first : (g : ℕ) → g < l → Standing (W (wonAt p n + g)) (c + g) (t .best)
         first g k =
-            subst (λ (w : ℕ). Standing w (c + g) (t .best)) (sym (keep-winners-law W b (resultAt p n + 6) u (leftStays p n) l g k one))
+            subst (λ (w : ℕ). Standing w (c + g) (t .best)) (sym (keep-winners-law W b (resultAt p n + 5) u (leftStays p n) l g k one))
             (next-standing (wonBit W u l g) (W (leftStays p n)) (c + g) (a .best) (t .best) (omega arith)
             (omega (arith, a .most)) (omega (arith, within .1)) (a .standing g k) (t .left))
 
         second : (g : ℕ) → l ≤ g → g < l + m → Standing (W (wonAt p n + g)) (c + g) (t .best)
         second g k z =
-            let at : resultAt p n + 6 + l + (g - l) ≡ wonAt p n + g = omega arith in
+            let at : resultAt p n + 5 + l + (g - l) ≡ wonAt p n + g = omega arith in
             let who : c + l + (g - l) ≡ c + g = omega arith in
             subst (λ (w : ℕ). Standing (W (wonAt p n + g)) w (t .best)) who
             (subst (λ (w : ℕ). Standing w (c + l + (g - l)) (t .best))
-            (sym (keep-winners-law W b (resultAt p n + 6 + l) v (rightStays p n) m (g - l) (omega arith) two)
+            (sym (keep-winners-law W b (resultAt p n + 5 + l) v (rightStays p n) m (g - l) (omega arith) two)
             ∙ ap W at)
             (next-standing (wonBit W v m (g - l)) (W (rightStays p n)) (c + l + (g - l)) (d .best) (t .best)
             (omega arith) (omega (arith, d .most)) (omega (arith, within .1)) (d .standing (g - l) (omega arith))
@@ -357,10 +352,10 @@ module _ (p : Plan) (f : Planned p) (S : ℕ → ℕ → ℕ) (Before : ℕ → 
     merge-law medians sums n c x y u v l m inside hx hy hu hv a d h =
         let q = resultAt p n in
         let o = cut4 W n (contest p n x y (highDigits p (l + m))) (selectFlags q) (keepWinners u (leftStays p n) l)
-        (keepWinners v (rightStays p n) m) (q + 2) (q + 6) (q + 6 + l)
+        (keepWinners v (rightStays p n) m) (q + 2) (q + 5) (q + 5 + l)
         (omega (arith, contest-block p f n x y (highDigits p (l + m)) (high-leaves p (l + m)) hx hy .long))
         (omega (arith, select-flags-block q .long))
-        (omega (arith, keep-winners-block (q + 6) u (leftStays p n) l (λ k. let z = hu k in omega arith) (omega arith) .long)) h in
+        (omega (arith, keep-winners-block (q + 5) u (leftStays p n) l (λ k. let z = hu k in omega arith) (omega arith) .long)) h in
         let hi : a .best < p .candidates = omega (arith, a .most) in
         let hj : d .best < p .candidates = omega (arith, d .most) in
         joined n c x y u v l m inside a d

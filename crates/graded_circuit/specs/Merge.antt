@@ -23,10 +23,10 @@ keepWinners at stays zero = []
 keepWinners at stays (suc zero) = copyOf stays ∷ []
 keepWinners at stays (suc (suc m)) = andAll at stays (suc (suc m))
 
--- Wires q and q + 1 say whether two keys differ and, if so, whether the left one is better. The four gates: the left
--- group is better; the right one is; the left one stays; the right one stays.
+-- Wires q and q + 1 say whether two keys differ and, if so, whether the left one is better. The three gates: the left
+-- group is better; the right one stays; the left one stays.
 unfoldable pub selectFlags : ℕ → List Gate
-selectFlags q = andOf q (q + 1) ∷ xorOf q (q + 2) ∷ notOf (q + 3) ∷ notOf (q + 2) ∷ []
+selectFlags q = andOf q (q + 1) ∷ notOf (q + 2) ∷ xorOf q (q + 3) ∷ []
 
 -- The wire that says whether the left group stays, after a contest from wire n on.
 abbrev pub leftStays : Plan → ℕ → ℕ
@@ -34,11 +34,11 @@ leftStays p n = resultAt p n + 4
 
 -- The wire that says whether the right group stays.
 abbrev pub rightStays : Plan → ℕ → ℕ
-rightStays p n = resultAt p n + 5
+rightStays p n = resultAt p n + 3
 
 -- The first of the wires of both groups together, after a merge from wire n on.
 abbrev pub wonAt : Plan → ℕ → ℕ
-wonAt p n = resultAt p n + 6
+wonAt p n = resultAt p n + 5
 
 -- How many digits of a word are the high half, if two groups of `both` candidates together are merged. Words of two
 -- single candidates come from the counters digit by digit, and are compared in one chain. A word that was chosen has
@@ -56,7 +56,7 @@ merge p n x y u v l m =
 
 -- The number of gates of a merge.
 abbrev pub mergeSpan : Plan → ℕ → ℕ → ℕ
-mergeSpan p l m = contestSpan p + 4 + l + m
+mergeSpan p l m = contestSpan p + 3 + l + m
 
 -- The better of the keys at x and y, after their merge from wire n on. If they are equal, either one may be taken.
 unfoldable pub betterKey : Plan → ℕ → ℕ → ℕ → List Gate

@@ -70,7 +70,7 @@ module _ (p : Plan) where
   pub pair-one : (m : ℕ) → m ≤ 1 → levelsSpan p 1 m ≡ 0
   pair-one m h = span-one p 0 m h
 
-  pub pair-two : (m : ℕ) → 1 < m → levelsSpan p 1 m ≡ contestSpan p + 4 + m + keySpan p
+  pub pair-two : (m : ℕ) → 1 < m → levelsSpan p 1 m ≡ contestSpan p + 3 + m + keySpan p
   pair-two m h = omega (arith, span-more p 0 m h, nothing (m / 2), nothing (m - m / 2))
     where
       nothing : (k : ℕ) → levelsSpan p 0 k ≡ 0
@@ -80,11 +80,11 @@ module _ (p : Plan) where
   four-one m h = span-one p 1 m h
 
   pub four-more : (m : ℕ) → 1 < m → levelsSpan p 2 m ≡ levelsSpan p 1 (m / 2) + levelsSpan p 1 (m - m / 2)
-      + contestSpan p + 4 + m + keySpan p
+      + contestSpan p + 3 + m + keySpan p
   four-more m h = omega (arith, span-more p 1 m h)
 
   module _ (f : Planned p) where
-    pub contest-small : contestSpan p + 12 + keySpan p ≤ 500
+    pub contest-small : contestSpan p + 11 + keySpan p ≤ 500
     contest-small = omega (arith, merge-few p f 4 4 (omega arith))
 
     pub pair-small : (m : ℕ) → m ≤ 2 → levelsSpan p 1 m ≤ 500

@@ -11,10 +11,10 @@ ghost use Rattle.graded_circuit.specs.OwnList.{levelsSpan, circuit, ownGrading}
 ghost use Rattle.graded_size.specs.inner.Ready.{GroupReady, CircuitReady};
 
 // The gates that follow a contest in a merge: which group is better, and which group stays.
-const SELECT_FLAGS: u32 = 4;
+const SELECT_FLAGS: u32 = 3;
 
 // The best of one or two candidates: if there are two, their merge and the better key. A merge is a contest, these
-// four gates and a wire for each candidate. `contest` and `key` are the spans of a contest and a key.
+// three gates and a wire for each candidate. `contest` and `key` are the spans of a contest and a key.
 fn pair_span(p: Plan, contest: u32, key: u32, count: u32) -> u32
     requires { ⌜ GroupReady p contest key count 2 ⌝ }
     ensures { λ r. ⌜ r ≡ levelsSpan p 1 count ⌝ }

@@ -80,7 +80,7 @@ fn pair(w: Writer, table: &mut [u32], p: Plan, span: u32, c: u32, count: u32) ->
     let x = key_at(p, span, c);
     let y = key_at(p, span, c + 1);
     let met = merge(w, table, p, x, y, 0, 0, 1, 1);
-    better(met, table, p, met.wire - 8, x, y)
+    better(met, table, p, met.wire - 7, x, y)
 }
 
 // Merges the best of the `first` candidates from candidate c on with the best of the `second` ones after them. Their
@@ -123,7 +123,7 @@ fn two_to_four(w: Writer, table: &mut [u32], p: Plan, span: u32, c: u32, count: 
     let met = halves(high, table, p, span, c, first, second, low.wire);
     let x = best_key(p, span, c, first, low.wire);
     let y = best_key(p, span, c + first, second, high.wire);
-    better(met, table, p, met.wire - count - 6, x, y)
+    better(met, table, p, met.wire - count - 5, x, y)
 }
 
 // The best of one to four candidates from candidate c on.

@@ -45,9 +45,8 @@ fn select_flags(w: Writer, table: &mut [u32], q: u32) -> Writer
     ensures { λ r. ⌜ Wrote w (now (table .entry)) (selectFlags q) (now (table .exit)) r ⌝ }
 {
     let first = w.emit(table, kind::AND, q, q + 1, 0);
-    let second = first.emit(table, kind::XOR, q, q + 2, 0);
-    let left = second.emit(table, kind::NOT, q + 3, 0, 0);
-    left.emit(table, kind::NOT, q + 2, 0, 0)
+    let right = first.emit(table, kind::NOT, q + 2, 0, 0);
+    right.emit(table, kind::XOR, q, q + 3, 0)
 }
 
 // How many digits of the keys' words are the high half, if two groups of `both` candidates together are merged: half
@@ -80,7 +79,7 @@ pub(crate) fn merge(
     let q = compared.wire - 2;
     let judged = select_flags(compared, table, q);
     let first = keep_winners(judged, table, u, q + 4, l);
-    keep_winners(first, table, v, q + 5, m)
+    keep_winners(first, table, v, q + 3, m)
 }
 
 // The better of the keys at x and y, by a contest with its result at wires q and q + 1.

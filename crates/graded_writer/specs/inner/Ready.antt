@@ -87,7 +87,7 @@ pub record KeepReady (w : Writer) (at count : ℕ) : Type 0 where
 
 -- For the gates after a contest with its result at wires q and q + 1.
 pub record SelectReady (w : Writer) (q : ℕ) : Type 0 where
-  pub room : Room w 4
+  pub room : Room w 3
   pub place : w .wire ≡ q + 2
 
 -- For the merge of groups of l and m candidates, with keys at x and y, whose wires start at u and v.

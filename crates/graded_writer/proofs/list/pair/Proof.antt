@@ -164,7 +164,7 @@ returns-2 c =
     let n = a .w .wire in
     let x = keyAt p (a .c) in
     let y = keyAt p (a .c + 1) in
-    let e : ((merge-from-better (c .before .before)) .merge) .result .wire - 8 + 1 ≡ resultAt p n + 1 =
+    let e : ((merge-from-better (c .before .before)) .merge) .result .wire - 7 + 1 ≡ resultAt p n + 1 =
     omega (arith, met (merge-from-better (c .before .before)) .place) in
     wrote-as (a .w) (a .table .now) _ _ _ _
     (sym (ap (levels p 1 n (a .c)) (two (else1-from-better (c .before .before))) ∙ pair-is p n (a .c)))

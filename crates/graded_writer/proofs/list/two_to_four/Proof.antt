@@ -299,7 +299,7 @@ returns c =
     let n = a .w .wire in
     let m = a .count in
     let x = cond (leb (m / 2) 1) (keyAt p (a .c)) (((pair-from-better (c .before .before)) .pair) .result .wire - keySpan p) in
-    let e : ((halves-from-better (c .before .before)) .halves) .result .wire - m - 6 + 1
+    let e : ((halves-from-better (c .before .before)) .halves) .result .wire - m - 5 + 1
     ≡ resultAt p (mergeAt p 1 n m) + 1 = omega (arith, met (halves-from-better (c .before .before)) .place) in
     wrote-as (a .w) (a .table .now) _ _ _ _ (sym (levels-more p 1 m n (a .c) ((start-from-better (c .before .before)) .pre .some)))
     (wrote-then (a .w) (a .table .now) _ (((halves-from-better (c .before .before)) .halves) .last .1 .0)
@@ -313,12 +313,12 @@ returns c =
     (ap (λ (k : ℕ). levels p 1 k (a .c + m / 2) (m - m / 2)) (low (pair-from-better (c .before .before)) .place)))
     (((halves-from-better (c .before .before)) .halves) .ensures) (sym (merge-wrote (halves-from-better (c .before .before)))))
     ((c .before .before .better) .ensures)
-    (ap (λ (k : ℕ). choose (((halves-from-better (c .before .before)) .halves) .result .wire - m - 6 + 1) k
+    (ap (λ (k : ℕ). choose (((halves-from-better (c .before .before)) .halves) .result .wire - m - 5 + 1) k
     (((best-key2-from-slice-known5 c) .best-key2) .result) (keySpan p))
     (((best-key-from-slice-known5 c) .best-key) .ensures)
-    ∙ ap (λ (k : ℕ). choose (((halves-from-better (c .before .before)) .halves) .result .wire - m - 6 + 1) x k
+    ∙ ap (λ (k : ℕ). choose (((halves-from-better (c .before .before)) .halves) .result .wire - m - 5 + 1) x k
     (keySpan p)) (((best-key2-from-slice-known5 c) .best-key2) .ensures)
-    ∙ better-same p 0 n (a .c) m (((halves-from-better (c .before .before)) .halves) .result .wire - m - 6 + 1)
+    ∙ better-same p 0 n (a .c) m (((halves-from-better (c .before .before)) .halves) .result .wire - m - 5 + 1)
     (((pair-from-better (c .before .before)) .pair) .result .wire)
     (((pair2-from-better (c .before .before)) .pair2) .result .wire) e
     (low (pair-from-better (c .before .before)) .place) (high (pair2-from-better (c .before .before)) .place)))

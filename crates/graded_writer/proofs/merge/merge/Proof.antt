@@ -29,7 +29,7 @@ contest-requires c κs =
 compared : (c : tie.After-contest)
     → Stands (c .contest .result) ((c .before .before .before .before) .args .w .wire
     + contestSpan ((c .before .before .before .before) .args .p))
-    (4 + ((c .before .before .before .before) .args .l + (c .before .before .before .before) .args .m))
+    (3 + ((c .before .before .before .before) .args .l + (c .before .before .before .before) .args .m))
 compared c =
     let s = (c .before .before .before .before) in
     let a = s .args in
@@ -88,7 +88,7 @@ keep-winners-from-slice-known5 c = c .before .before .before .before .before .be
 
 judged : (c : tie.After-select-flags)
     → Stands (c .select-flags .result)
-    ((start-from-select-flags c) .args .w .wire + contestSpan ((start-from-select-flags c) .args .p) + 4)
+    ((start-from-select-flags c) .args .w .wire + contestSpan ((start-from-select-flags c) .args .p) + 3)
     ((start-from-select-flags c) .args .l + (start-from-select-flags c) .args .m)
 judged c =
     stands-after (((contest-from-select-flags c) .contest) .result)
@@ -117,7 +117,7 @@ keep-winners-requires c κs =
 
 first : (c : tie.After-keep-winners)
     → Stands (c .keep-winners .result)
-    ((start-from-keep-winners c) .args .w .wire + contestSpan ((start-from-keep-winners c) .args .p) + 4
+    ((start-from-keep-winners c) .args .w .wire + contestSpan ((start-from-keep-winners c) .args .p) + 3
     + (start-from-keep-winners c) .args .l) ((start-from-keep-winners c) .args .m)
 first c =
     let a = (start-from-keep-winners c) .args in
@@ -170,7 +170,7 @@ returns c =
     (((contest-from-keep-winners2 (c .before .before)) .contest) .ensures))
     (((select-flags-from-keep-winners2 (c .before .before)) .select-flags) .ensures) (ap selectFlags e))
     (((keep-winners-from-slice-known5 c) .keep-winners) .ensures) (ap (λ (k : ℕ). keepWinners (a .u) (k + 4) (a .l)) e))
-    ((c .before .before .keep-winners2) .ensures) (ap (λ (k : ℕ). keepWinners (a .v) (k + 5) (a .m)) e)
+    ((c .before .before .keep-winners2) .ensures) (ap (λ (k : ℕ). keepWinners (a .v) (k + 3) (a .m)) e)
 
 same-length : tie.Need-same-length
 same-length c =
