@@ -124,7 +124,7 @@ def bad_juries(jury):
 
     yield "shape", but(k=9)
     yield "few gates", but(stated=jury.k - 1)
-    yield "gate", but(list=[8] + jury.list[1:])
+    yield "gate", but(list=[doc.NO_KIND] + jury.list[1:])
     yield "ballot byte", but(ballots=[2] + jury.ballots[1:])
     if jury.d:
         yield "row", but(ballots=[0] * len(jury.ballots))

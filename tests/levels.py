@@ -61,7 +61,7 @@ def main():
         "ballots": {"shape": (2, 3, 0)},
         "part of a gate": {"table": table[:-1]},
         "too few gates": {"table": table[:4]},
-        "kind": {"table": [8] + table[1:]},
+        "kind": {"table": [doc.NO_KIND] + table[1:]},
         "operand": {"table": table[:-3] + [12 + len(table) // 4] + table[-2:]},
         "one level less": {"more": -1},
         "one level more": {"more": 1},

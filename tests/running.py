@@ -257,7 +257,7 @@ FAULTS = {
     6: spoils("ballots", lambda voters: [0, 0, 0] + voters[3:], lambda voters: voters[:9] + [1, 0, 1]),
     5: spoils("ballots", lambda voters: changed(voters, 1, 2), lambda voters: changed(voters, 11, 255)),
     4: spoils("ballots", lambda voters: voters[:11], lambda voters: (voters * 2)[:13], []),
-    3: spoils("table", lambda table: changed(table, 0, 8), lambda table: changed(table, 13, 15),
+    3: spoils("table", lambda table: changed(table, 0, doc.NO_KIND), lambda table: changed(table, 13, 15),
               lambda table: changed(table, 11, 1)),
     2: spoils("table", lambda table: table + [0], lambda table: table[:4], []),
     1: [*spoils("k", 0, 9), *spoils("d", 1, 8), *spoils("n", 0, 256)],

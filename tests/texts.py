@@ -124,7 +124,7 @@ def faults_of_writing(tests, shape):
     ways = [
         [("shape", bad) for bad in BAD_SHAPES],
         [("table", bad) for bad in ([], table[:4], table[:-1], table + [0])],
-        [("table", bad) for bad in ([8] + table[1:], table[:1] + [1] + table[2:], table[:-1] + [1],
+        [("table", bad) for bad in ([doc.NO_KIND] + table[1:], table[:1] + [1] + table[2:], table[:-1] + [1],
                                     table[:-3] + [inputs + 3] + table[-2:],
                                     table[:4] + [4, LARGEST, 0, 0] + table[8:])],
         [("room", bad) for bad in (length - 1, 1, 0)],
@@ -142,8 +142,8 @@ def faults_of_reading(tests, shape):
     def but(place, line):
         return "".join([*lines[:place], line, *lines[place + 1:]])
 
-    forms = ["\n", "1 \n", " 1\n", "01\n", "8\n", "2  0\n", "2 00\n", "2\t0\n", "2 -1\n", "2 4294967296\n", "4 0\n",
-             "4 0 1 2\n", "1\r\n", "x\n", "2 0,\n"]
+    forms = ["\n", "1 \n", " 1\n", "01\n", f"{doc.NO_KIND}\n", "2  0\n", "2 00\n", "2\t0\n", "2 -1\n",
+             "2 4294967296\n", "4 0\n", "4 0 1 2\n", "1\r\n", "x\n", "2 0,\n"]
     ways = [
         [("shape", bad) for bad in BAD_SHAPES],
         [("text", bad) for bad in ("", lines[0], "1")],
@@ -171,7 +171,7 @@ def largest_numbers(tests):
                     words[1 + place] = number
                     said, _ = tests.read(shape, " ".join(map(str, words)) + "\n", 4)
                     assert said == ["refused", reason, 0], (words, said)
-        for kind in (8, 10, LARGEST, LARGEST + 1, 2 ** 32 + 2, 2 ** 64 + 2):
+        for kind in (doc.NO_KIND, 10, LARGEST, LARGEST + 1, 2 ** 32 + 2, 2 ** 64 + 2):
             assert tests.read(shape, f"{kind} 0\n", 4)[0] == ["refused", 23, 0]
 
 

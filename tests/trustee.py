@@ -144,7 +144,7 @@ def faults_of(call, name):
     changes = {
         "shape": {"shape": (9, d, n)},
         "part of a gate": {"table": table[:-1]},
-        "kind": {"table": [8] + table[1:]},
+        "kind": {"table": [doc.NO_KIND] + table[1:]},
         "fewer wires": {"wires": call["wires"][1:]},
         "more wires": {"wires": call["wires"] + [0]},
     }

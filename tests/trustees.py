@@ -252,7 +252,7 @@ def faults(call):
     return {
         "shape": {"shape": (9, d, n)},
         "table": {"table": call.table[:-1]},
-        "gate": {"table": changed(call.table, 0, 8)},
+        "gate": {"table": changed(call.table, 0, doc.NO_KIND)},
         "ballots": {"ballots": call.ballots + [0]},
         "byte": {"ballots": changed(call.ballots, len(call.ballots) - 1, 2)},
         **bad_ballots(call),

@@ -113,7 +113,8 @@ def faults():
               (2**63, 2**63, 2**63), (k, d, 1), (k, d, 3)]
     damaged = good[:1] + [good[0]] + good[2:]
     urns = [good, damaged, good[:-1], [], urn_of(k, d, 4, ballots), urn_of(k, d, 4, [])]
-    tables = [table, table[:-1], [], table[:4], [8, 0, 0, 0] + table[4:], table[:-4] + [2, n * k * d + 6, 0, 0]]
+    tables = [table, table[:-1], [], table[:4], [reference.NO_KIND, 0, 0, 0] + table[4:],
+              table[:-4] + [2, n * k * d + 6, 0, 0]]
     tapes = [tape, tape + [0], tape[:-1] + [2]]
     cases = itertools.product(shapes, tables, urns, tapes, (wires, wires[:-1], wires + [OLD]), (board, board[:-1]))
     found = {tuple(compare(*case)[:2]) for case in cases}

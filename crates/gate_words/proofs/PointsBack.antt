@@ -9,7 +9,7 @@ use native.Mathlib.Omega.{arith}
 use lib.Dec.{T, eqb}
 use lib.ListN.{length}
 use borrow.Author.Tests.{eq-eqb, ne-eqb}
-use Rattle.gates.specs.Kind.{operandsOf}
+use Rattle.gates.specs.Kind.{operandsOf, kindCount}
 use Rattle.gates.specs.Gate.{Gate}
 use Rattle.gates.specs.Test.{goodGate}
 use Rattle.gates.proofs.Laws.{AllGood, good-none, good-one, good-two, good-three, good-append, operand-counts}
@@ -90,7 +90,7 @@ unfolding masked
 masked-good n f x zero hf hx = tt
 masked-good n f x (suc w) hf hx = (good-and n f x hf (omega arith), masked-good (suc n) f (x + 1) w (omega arith) (omega arith))
 
-pub chain-good : (n kind s at d m : ℕ) → kind < 8 → operandsOf kind ≡ 2 → s < n → Below n at d m → AllGood n (chainOf kind n s at d m)
+pub chain-good : (n kind s at d m : ℕ) → kind < kindCount → operandsOf kind ≡ 2 → s < n → Below n at d m → AllGood n (chainOf kind n s at d m)
 unfolding chainOf
 chain-good n kind s at d zero k e hs bl = tt
 chain-good n kind s at d (suc m) k e hs bl = (
@@ -182,7 +182,7 @@ pub countable-some : (m x r : ℕ) → Countable m x r → 0 < m
 countable-some m x zero k = omega (arith, k .0)
 countable-some m x (suc r) k = k .0
 
-pub count-digits-good : (low top n at m x r q : ℕ) → low < 8 → operandsOf low ≡ 1 → top < 8 → operandsOf top ≡ 1
+pub count-digits-good : (low top n at m x r q : ℕ) → low < kindCount → operandsOf low ≡ 1 → top < kindCount → operandsOf top ≡ 1
     → at < q → n + countSize m x r ≤ q → Countable m x r
     → AllGood q (countDigitsAs low top n at m x r)
 unfolding countDigitsAs

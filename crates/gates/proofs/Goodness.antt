@@ -6,7 +6,7 @@ use Prim.Native.Nat.{ℕ, _<_, _≤_}
 use native.Mathlib.Omega.{arith}
 use lib.Dec.{T, ltb, ltb→lt, eqb→eq}
 use borrow.Author.Tests.{lt-ltb}
-use Rattle.gates.specs.Open.Kind.{operandsOf}
+use Rattle.gates.specs.Open.Kind.{kindCount, operandsOf}
 use Rattle.gates.specs.Open.Gate.{Gate}
 use Rattle.gates.specs.Open.Test.{goodOperand, goodGate}
 
@@ -29,7 +29,7 @@ unfolding goodOperand
 operand-below n i own x t h = ltb→lt x own (subst (λ (u : Bool). T (goodOperand u own x)) (lt-ltb i n h) t)
 
 pub record GoodGate (own : ℕ) (g : Gate) : Type 0 where
-  pub known : g .kind < 8
+  pub known : g .kind < kindCount
   pub a-most : g .a ≤ own
   pub b-most : g .b ≤ own
   pub c-most : g .c ≤ own
@@ -41,7 +41,7 @@ pub good-gate : (own : ℕ) (g : Gate) → T (goodGate own g) → GoodGate own g
 unfolding goodGate
 good-gate own g t =
     let n = operandsOf (g .kind) in
-    let k = ltb (g .kind) 8 in
+    let k = ltb (g .kind) kindCount in
     let x = goodOperand (ltb 0 n) own (g .a) in
     let y = goodOperand (ltb 1 n) own (g .b) in
     let z = goodOperand (ltb 2 n) own (g .c) in
@@ -51,7 +51,7 @@ good-gate own g t =
     let ty = and-right (k && x) y tkxy in
     let tz = and-right (k && x && y) z t in
     record {
-      known = ltb→lt (g .kind) 8 (and-left k x tkx);
+      known = ltb→lt (g .kind) kindCount (and-left k x tkx);
       a-most = operand-most (ltb 0 n) own (g .a) tx;
       b-most = operand-most (ltb 1 n) own (g .b) ty;
       c-most = operand-most (ltb 2 n) own (g .c) tz;

@@ -4,7 +4,7 @@
 use mathlib.Core.Path.{_≡_, refl, ap, ap₂}
 use Prim.Native.Nat.{ℕ, zero, suc, _-_, _<_, min, max}
 use native.Mathlib.Omega.{arith}
-use Rattle.gates.specs.Open.Kind.{operandsOf, valueOf, differ}
+use Rattle.gates.specs.Open.Kind.{kindCount, operandsOf, valueOf, differ}
 
 -- a proof for each kind is a proof for every kind below 8
 pub each-kind : (P : ℕ → Type 0) → P 0 → P 1 → P 2 → P 3 → P 4 → P 5 → P 6 → P 7 → (k : ℕ) → k < 8 → P k
@@ -23,7 +23,7 @@ Agree : ℕ → ℕ → ℕ → ℕ → ℕ → ℕ → ℕ → Type 0
 Agree n a b c a′ b′ c′ = (0 < n → a ≡ a′) × (1 < n → b ≡ b′) × (2 < n → c ≡ c′)
 
 -- a value depends only on the operands that its kind uses
-pub value-uses : (k a b c a′ b′ c′ : ℕ) → k < 8 → (0 < operandsOf k → a ≡ a′) → (1 < operandsOf k → b ≡ b′) → (2 < operandsOf k → c ≡ c′)
+pub value-uses : (k a b c a′ b′ c′ : ℕ) → k < kindCount → (0 < operandsOf k → a ≡ a′) → (1 < operandsOf k → b ≡ b′) → (2 < operandsOf k → c ≡ c′)
     → valueOf k a b c ≡ valueOf k a′ b′ c′
 unfolding Agree operandsOf valueOf
 value-uses k a b c a′ b′ c′ h ea eb ec =

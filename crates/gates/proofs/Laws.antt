@@ -9,7 +9,7 @@ use native.Mathlib.Omega.{arith}
 use lib.Dec.{T, ltb, eqb, lt→ltb}
 use lib.ListN.{length, getD, length-append, length-drop, List·getD-append}
 use lib.Seq.{getD-drop, getD-append-seam}
-use Rattle.gates.specs.Open.Kind.{operandsOf, conditionalOf, valueOf, differ, chosen}
+use Rattle.gates.specs.Open.Kind.{kindCount, operandsOf, conditionalOf, valueOf, differ, chosen}
 use Rattle.gates.specs.Open.Gate.{Gate, gatesOf, numbersOf}
 use Rattle.gates.specs.Open.Wires.{wire, value, wiresOf, outputsOf}
 use Rattle.gates.specs.Open.Board.{Bits}
@@ -83,7 +83,7 @@ AllGood n [] = Unit {0}
 AllGood n (g ∷ gs) = T (goodGate n g) × AllGood (suc n) gs
 
 -- a gate is good if its kind is known, its operands in use name earlier wires, and the others are 0
-pub is-good : (n : ℕ) (g : Gate) → g .kind < 8 → T (goodOperand (ltb 0 (operandsOf (g .kind))) n (g .a))
+pub is-good : (n : ℕ) (g : Gate) → g .kind < kindCount → T (goodOperand (ltb 0 (operandsOf (g .kind))) n (g .a))
     → T (goodOperand (ltb 1 (operandsOf (g .kind))) n (g .b))
     → T (goodOperand (ltb 2 (operandsOf (g .kind))) n (g .c)) → T (goodGate n g)
 unfolding goodGate
@@ -91,29 +91,29 @@ is-good n g k a b c =
     let m = operandsOf (g .kind) in
     let x = goodOperand (ltb 0 m) n (g .a) in
     let y = goodOperand (ltb 1 m) n (g .b) in
-    let h = ltb (g .kind) 8 in
-    both (h && x && y) (goodOperand (ltb 2 m) n (g .c)) (both (h && x) y (both h x (lt→ltb (g .kind) 8 k) a) b) c
+    let h = ltb (g .kind) kindCount in
+    both (h && x && y) (goodOperand (ltb 2 m) n (g .c)) (both (h && x) y (both h x (lt→ltb (g .kind) kindCount k) a) b) c
   where
     both : (x y : Bool) → T x → T y → T (x && y)
     both true y p q = q
     both false y p q = absurd p
 
 -- good gates by their number of operands
-pub good-none : (n kind : ℕ) → kind < 8 → operandsOf kind ≡ 0 → T (goodGate n (record { kind = kind; a = 0; b = 0; c = 0 }))
+pub good-none : (n kind : ℕ) → kind < kindCount → operandsOf kind ≡ 0 → T (goodGate n (record { kind = kind; a = 0; b = 0; c = 0 }))
 unfolding goodOperand
 good-none n kind k e = is-good n (record { kind = kind; a = 0; b = 0; c = 0 }) k (rw e tt) (rw e tt) (rw e tt)
 
-pub good-one : (n kind a : ℕ) → kind < 8 → operandsOf kind ≡ 1 → a < n → T (goodGate n (record { kind = kind; a = a; b = 0; c = 0 }))
+pub good-one : (n kind a : ℕ) → kind < kindCount → operandsOf kind ≡ 1 → a < n → T (goodGate n (record { kind = kind; a = a; b = 0; c = 0 }))
 unfolding goodOperand
 good-one n kind a k e ha = is-good n (record { kind = kind; a = a; b = 0; c = 0 }) k (rw e (lt→ltb a n ha)) (rw e tt) (rw e tt)
 
-pub good-two : (n kind a b : ℕ) → kind < 8 → operandsOf kind ≡ 2 → a < n → b < n
+pub good-two : (n kind a b : ℕ) → kind < kindCount → operandsOf kind ≡ 2 → a < n → b < n
     → T (goodGate n (record { kind = kind; a = a; b = b; c = 0 }))
 unfolding goodOperand
 good-two n kind a b k e ha hb =
     is-good n (record { kind = kind; a = a; b = b; c = 0 }) k (rw e (lt→ltb a n ha)) (rw e (lt→ltb b n hb)) (rw e tt)
 
-pub good-three : (n kind a b c : ℕ) → kind < 8 → operandsOf kind ≡ 3 → a < n → b < n → c < n
+pub good-three : (n kind a b c : ℕ) → kind < kindCount → operandsOf kind ≡ 3 → a < n → b < n → c < n
     → T (goodGate n (record { kind = kind; a = a; b = b; c = c }))
 unfolding goodOperand
 good-three n kind a b c k e ha hb hc =
@@ -188,7 +188,7 @@ unfolding outputsOf
 length-outputs k ws h = omega (arith, length-drop (length ws - k) ws)
 
 -- Wires are bits if the inputs are.
-bit-value : (k a b c : ℕ) → k < 8 → a ≤ 1 → b ≤ 1 → c ≤ 1 → valueOf k a b c ≤ 1
+bit-value : (k a b c : ℕ) → k < kindCount → a ≤ 1 → b ≤ 1 → c ≤ 1 → valueOf k a b c ≤ 1
 unfolding valueOf differ chosen
 bit-value k a b c h ha hb hc =
     each-kind (λ (k : ℕ). valueOf k a b c ≤ 1) (omega arith) (omega arith) ha (omega arith) (omega arith)

@@ -8,7 +8,7 @@ use native.Mathlib.Omega.{arith}
 use lib.Dec.{T, ltb, eqb→eq}
 use lib.ListN.{length, getD}
 use borrow.Author.Tests.{ltb-true, lt-ltb, eq-eqb}
-use Rattle.gates.specs.Open.Kind.{operandsOf}
+use Rattle.gates.specs.Open.Kind.{kindCount, operandsOf}
 use Rattle.gates.specs.Open.Gate.{Gate, gatesOf, numbersOf, gateAt}
 use Rattle.gates.specs.Open.Test.{goodOperand, goodGate, firstBad}
 use Rattle.gates.specs.declared.place.Place.the-variants.{At, Nowhere}
@@ -58,7 +58,7 @@ pub good-unused : (own : ℕ) (g : Gate) → T (goodGate own g) → Unused g
 unfolding goodGate
 good-unused own g t =
     let n = operandsOf (g .kind) in
-    let k = ltb (g .kind) 8 in
+    let k = ltb (g .kind) kindCount in
     let x = goodOperand (ltb 0 n) own (g .a) in
     let y = goodOperand (ltb 1 n) own (g .b) in
     let z = goodOperand (ltb 2 n) own (g .c) in
@@ -77,13 +77,13 @@ below-by false own x pos h =
     let z = h refl in
     eq-eqb x 0 z ∙ sym (lt-ltb x own (omega arith))
 
-pub good-by : (own : ℕ) (g : Gate) → 0 < own → g .kind < 8 → Unused g → goodGate own g
+pub good-by : (own : ℕ) (g : Gate) → 0 < own → g .kind < kindCount → Unused g → goodGate own g
     ≡ (ltb (g .a) own && ltb (g .b) own && ltb (g .c) own)
 unfolding goodGate
 good-by own g pos known u =
     let n = operandsOf (g .kind) in
     rw (
-      lt-ltb (g .kind) 8 known,
+      lt-ltb (g .kind) kindCount known,
       below-by (ltb 0 n) own (g .a) pos (u .a-zero),
       below-by (ltb 1 n) own (g .b) pos (u .b-zero),
       below-by (ltb 2 n) own (g .c) pos (u .c-zero),

@@ -10,7 +10,7 @@ use native.Mathlib.Omega.{arith}
 use lib.Dec.{T}
 use lib.ListN.{length, getD, take, drop, set, length-set, take-append-drop, List·getD-append}
 use lib.Seq.{take-suc-set, drop-set-lt, drop-cons, getD-take, sets, length-take-le}
-use Rattle.gates.specs.Open.Kind.{conditionalOf, operandsOf}
+use Rattle.gates.specs.Open.Kind.{kindCount, conditionalOf, operandsOf}
 use Rattle.gates.specs.Open.Gate.{Gate, gatesOf, gateAt}
 use Rattle.gates.specs.Open.Wires.{wire, value, wiresOf}
 use Rattle.gates.specs.Open.Board.{conditionals, conditionalCount, shownBit, shownBits}
@@ -63,7 +63,7 @@ wires-turn inputs t g to ws h l m good =
     ∙ sym (ap (λ (l : List Gate). wiresOf (take own ws) l ++ drop (inputs + to) ws) (range-from t g to h l))
 
 -- a conditional gate uses wire a
-pub uses-a : (k : ℕ) → k < 8 → conditionalOf k ≡ true → 0 < operandsOf k
+pub uses-a : (k : ℕ) → k < kindCount → conditionalOf k ≡ true → 0 < operandsOf k
 unfolding conditionalOf operandsOf
 uses-a k h e =
     each-kind (λ (k : ℕ). conditionalOf k ≡ true → 0 < operandsOf k)

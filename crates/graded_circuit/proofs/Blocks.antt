@@ -8,7 +8,7 @@ use lib.Dec.{T}
 use lib.ListN.{length, length-append}
 use Rattle.gates.specs.Gate.{Gate}
 use Rattle.gates.specs.Test.{goodGate}
-use Rattle.gates.specs.Kind.{operandsOf}
+use Rattle.gates.specs.Kind.{operandsOf, kindCount}
 use Rattle.gates.proofs.Laws.{AllGood, good-append, operand-counts}
 use Rattle.gate_words.specs.Word.{Below}
 use Rattle.gate_words.specs.Halves.{unequalCut, unequalSpan, compareCut, compareSpan}
@@ -71,7 +71,7 @@ rows-block n x dx y dy m hx hy = record { long = length-rows x dx y dy m; good =
 pub levels-block : (n at d m x r : ℕ) → Below n at d m → Countable m x r → Block n (countLevels n at d m x r) (countSize m x r)
 levels-block n at d m x r bl k = record { long = length-count n at d m x r; good = count-levels-good n at d m x r bl k }
 
-pub digits-block : (low top n at m x r q : ℕ) → low < 8 → operandsOf low ≡ 1 → top < 8 → operandsOf top ≡ 1 → at < q
+pub digits-block : (low top n at m x r q : ℕ) → low < kindCount → operandsOf low ≡ 1 → top < kindCount → operandsOf top ≡ 1 → at < q
     → n + countSize m x r ≤ q → Countable m x r
     → Block q (countDigitsAs low top n at m x r) (r + 1)
 digits-block low top n at m x r q l₁ l₂ t₁ t₂ ha h k =

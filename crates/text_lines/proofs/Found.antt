@@ -5,12 +5,11 @@ use mathlib.Core.Option.{Option, none, some, bind}
 use mathlib.Core.List.{List}
 use mathlib.Core.Bool.{true}
 use Prim.Native.Nat.{ℕ, suc, _≤_, _<_}
-use native.Mathlib.Omega.{arith}
 use lib.Dec.{ltb}
 use lib.ListN.{length, getD, drop, drop-of-length-le}
 use lib.Seq.{drop-cons}
 use borrow.Author.Tests.{lt-ltb, le-ltb, ne-eqb}
-use Rattle.gates.specs.Kind.{operandsOf}
+use Rattle.gates.specs.Kind.{operandsOf, kindCount}
 use Rattle.gates.specs.Gate.{Gate}
 use Rattle.text_lines.specs.Decimal.{Taken, taken, numberIn}
 use Rattle.text_lines.specs.Line.{knownKind, operandIn, endIn, gateIn}
@@ -116,10 +115,10 @@ module _ (cs : List ℕ) where
   unfolding gateIn bind
   kind-lost e = rw e
 
-  pub kind-unknown : (k : Taken ℕ) → numberIn cs ≡ some k → 7 < k .value → gateIn cs ≡ none
+  pub kind-unknown : (k : Taken ℕ) → numberIn cs ≡ some k → kindCount ≤ k .value → gateIn cs ≡ none
   unfolding gateIn bind knownKind
-  kind-unknown k e h = rw (e, le-ltb (k .value) 8 h)
+  kind-unknown k e h = rw (e, le-ltb (k .value) kindCount h)
 
-  pub kind-found : (k : Taken ℕ) → numberIn cs ≡ some k → k .value ≤ 7 → gateIn cs ≡ afterKind k
+  pub kind-found : (k : Taken ℕ) → numberIn cs ≡ some k → k .value < kindCount → gateIn cs ≡ afterKind k
   unfolding gateIn bind knownKind afterKind afterA afterB afterC
-  kind-found k e h = rw (e, lt-ltb (k .value) 8 (omega arith))
+  kind-found k e h = rw (e, lt-ltb (k .value) kindCount h)

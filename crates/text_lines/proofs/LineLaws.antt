@@ -8,7 +8,7 @@ use Prim.Native.Nat.{ℕ, _≤_, _<_}
 use native.Mathlib.Omega.{arith}
 use lib.Dec.{ltb, eqb}
 use borrow.Author.Tests.{lt-ltb, ltb-true, eqb-true}
-use Rattle.gates.specs.Kind.{operandsOf}
+use Rattle.gates.specs.Kind.{operandsOf, kindCount}
 use Rattle.gates.specs.Gate.{Gate}
 use Rattle.text_lines.specs.Decimal.{decimal, isDigit, Taken, taken, numberIn}
 use Rattle.text_lines.specs.Line.{operandText, lineOf, knownKind, operandIn, endIn, gateIn, only, gateOf}
@@ -27,7 +27,7 @@ pub record Holds (used : Bool) (x : ℕ) : Type 0 where
 
 -- a gate that a line can hold
 pub record Writable (g : Gate) : Type 0 where
-  pub known : g .kind < 8
+  pub known : g .kind < kindCount
   pub a-holds : Holds (ltb 0 (operandsOf (g .kind))) (g .a)
   pub b-holds : Holds (ltb 1 (operandsOf (g .kind))) (g .b)
   pub c-holds : Holds (ltb 2 (operandsOf (g .kind))) (g .c)
@@ -79,14 +79,14 @@ wrote-end (c ∷ cs) rest e = by (eqb c 10) refl e
     by true p e = ap (λ (x : ℕ). x ∷ cs) (eqb-true c 10 p) ∙ ap (λ (l : List ℕ). 10 ∷ l) (Option·some-injective cs rest e)
     by false p e = absurd (Option·none-ne-some rest e)
 
-wrote-kind : (n k : Taken ℕ) → knownKind n ≡ some k → (n ≡ k) × (k .value < 8)
+wrote-kind : (n k : Taken ℕ) → knownKind n ≡ some k → (n ≡ k) × (k .value < kindCount)
 unfolding knownKind
-wrote-kind n k e = by (ltb (n .value) 8) refl e
+wrote-kind n k e = by (ltb (n .value) kindCount) refl e
   where
-    by : (u : Bool) → ltb (n .value) 8 ≡ u → cond u (some n) none ≡ some k → (n ≡ k) × (k .value < 8)
+    by : (u : Bool) → ltb (n .value) kindCount ≡ u → cond u (some n) none ≡ some k → (n ≡ k) × (k .value < kindCount)
     by true p e =
         let q = Option·some-injective n k e in
-        let small = ltb-true (n .value) 8 p in
+        let small = ltb-true (n .value) kindCount p in
         let v = ap (λ (t : Taken ℕ). t .value) q in
         (q, omega arith)
     by false p e = absurd (Option·none-ne-some k e)
@@ -106,7 +106,7 @@ read-line g rest w =
     ap gateIn whole
     ∙ rw (
       read-decimal (g .kind) oa (omega (arith, w .known)) aa,
-      lt-ltb (g .kind) 8 (w .known),
+      lt-ltb (g .kind) kindCount (w .known),
       read-operand (ltb 0 n) (g .a) ob (w .a-holds) ab,
       read-operand (ltb 1 n) (g .b) oc (w .b-holds) ac,
       read-operand (ltb 2 n) (g .c) (10 ∷ rest) (w .c-holds) refl,
@@ -118,7 +118,7 @@ pub record WroteLine (cs : List ℕ) (t : Taken Gate) : Type 0 where
   pub is : cs ≡ lineOf (t .value) ++ t .rest
 
 -- if all parts of a line are read, the characters are the line of that gate and the rest
-together : (cs : List ℕ) (k a b c : Taken ℕ) (rest : List ℕ) → numberIn cs ≡ some k → k .value < 8
+together : (cs : List ℕ) (k a b c : Taken ℕ) (rest : List ℕ) → numberIn cs ≡ some k → k .value < kindCount
     → operandIn (ltb 0 (operandsOf (k .value))) (k .rest) ≡ some a
     → operandIn (ltb 1 (operandsOf (k .value))) (a .rest) ≡ some b
     → operandIn (ltb 2 (operandsOf (k .value))) (b .rest) ≡ some c

@@ -53,7 +53,7 @@ pub fn gate_at(text: &[u8], at: usize) -> Line
     else {
         return Line::Malformed;
     };
-    if 7 < kind {
+    if kind::KINDS <= kind {
         return Line::Malformed;
     }
     let counts = kind::OPERANDS;

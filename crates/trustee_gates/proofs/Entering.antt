@@ -4,7 +4,7 @@ use mathlib.Core.Path.{_≡_, _∙_, ap}
 use mathlib.Core.Bool.{false}
 use mathlib.Core.List.{List, [], _∷_}
 use Prim.Native.Nat.{ℕ, _<_}
-use Rattle.gates.specs.Kind.{conditionalOf}
+use Rattle.gates.specs.Kind.{conditionalOf, kindCount}
 use Rattle.gates.specs.Gate.{Gate}
 use Rattle.trustee_shares.specs.Shares.{part, productPart, partOfKind, Held, openedFirst, openedSecond, newPart}
 use Rattle.trustee_shares.specs.Views.{piece}
@@ -26,7 +26,7 @@ module _ (t size own i : ℕ) (g : Gate) (triples : Held) (ws after : List ℕ) 
       h ∙ ap (λ (x : ℕ). eachPuts t size own (λ p. bit p (productPart p (triples p) i x f) ∷ []) ws) he
       ∙ ap (λ (y : ℕ). eachPuts t size own (λ p. bit p (productPart p (triples p) i (openedFirst t triples (piece size ws) i g) y) ∷ []) ws) hf
 
-  pub free-entered : g .kind < 8 → conditionalOf (g .kind) ≡ false
+  pub free-entered : g .kind < kindCount → conditionalOf (g .kind) ≡ false
       → after ≡ eachPuts t size own (λ p. partOfKind p (g .kind) (part (piece size ws p) (g .a))
       (part (piece size ws p) (g .b)) (part (piece size ws p) (g .c)) 0 ∷ []) ws
       → after ≡ eachPuts t size own (λ p. newPart t triples (piece size ws) i g p ∷ []) ws

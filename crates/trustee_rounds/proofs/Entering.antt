@@ -10,7 +10,7 @@ use lib.Dec.{eqb, ltb}
 use lib.ListN.{length, getD, set, length-set}
 use lib.Seq.{getD-set-same, getD-set-other}
 use borrow.Author.Tests.{ltb-true, ltb-false, lt-ltb, le-ltb, eqb-true, eqb-false}
-use Rattle.gates.specs.Kind.{conditionalOf}
+use Rattle.gates.specs.Kind.{conditionalOf, kindCount}
 use Rattle.gates.specs.Gate.{Gate}
 use Rattle.gate_levels.specs.Levels.{wireLevel, gateLevel}
 use Rattle.gates.proofs.Reading.{Below}
@@ -24,7 +24,7 @@ module _ (t inputs : ℕ) (triples final : Held) (levels : List ℕ) where
   -- earlier wires and determine its level, and each trustee's final part of its wire follows from the final parts
   -- of the operands.
   pub record GateFits (g i : ℕ) (x : Gate) : Type 0 where
-    pub known : x .kind < 8
+    pub known : x .kind < kindCount
     pub below : Below (inputs + g) x
     pub level : getD levels g 0 ≡ gateLevel inputs levels x
     pub new : (p : ℕ) → p < t → part (final p) (inputs + g) ≡ newPart t triples final i x p

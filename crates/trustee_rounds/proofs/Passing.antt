@@ -10,7 +10,7 @@ use native.Mathlib.Omega.{arith}
 use lib.Dec.{eqb}
 use lib.ListN.{length, getD, drop, take, set, length-set, drop-of-length-le}
 use lib.Seq.{sets, length-sets, take-all}
-use Rattle.gates.specs.Kind.{conditionalOf}
+use Rattle.gates.specs.Kind.{conditionalOf, kindCount}
 use Rattle.gates.specs.Gate.{Gate, gatesOf, gateAt}
 use Rattle.gates.specs.Board.{conditionalCount}
 use Rattle.gates.specs.Test.{firstBad}
@@ -53,7 +53,7 @@ module _ (inputs : ℕ) (table : List ℕ) where
     good-here : AllGood (inputs + g) (gateAt table g ∷ drop (suc g) (gatesOf table))
     good-here = subst (AllGood (inputs + g)) starts (a .good)
 
-    pub known : gateAt table g .kind < 8
+    pub known : gateAt table g .kind < kindCount
     known = good-gate (inputs + g) (gateAt table g) (good-here .0) .known
 
     pub below : Below (inputs + g) (gateAt table g)

@@ -10,7 +10,7 @@ use lib.Dec.{T, eqb, ltb}
 use lib.ListN.{length, length-append, List·getD-append}
 use lib.Seq.{getD-append-seam}
 use borrow.Author.Tests.{ltb-true, ltb-false, eqb-true}
-use Rattle.gates.specs.Kind.{operandsOf, conditionalOf, valueOf}
+use Rattle.gates.specs.Kind.{operandsOf, conditionalOf, valueOf, kindCount}
 use Rattle.gates.specs.Gate.{Gate}
 use Rattle.gates.specs.Board.{conditionalCount}
 use Rattle.gates.specs.Test.{goodGate}
@@ -116,7 +116,7 @@ unfolding part
 part-new ws v n e = rw (sym e) (getD-append-seam ws v [] 0)
 
 -- a conditional gate has at least two operands
-pub conditional-operands : (kind : ℕ) → kind < 8 → conditionalOf kind ≡ true → 2 ≤ operandsOf kind
+pub conditional-operands : (kind : ℕ) → kind < kindCount → conditionalOf kind ≡ true → 2 ≤ operandsOf kind
 conditional-operands kind h = each-kind (λ k. conditionalOf k ≡ true → 2 ≤ operandsOf k) (none 0 (marks .0))
     (none 1 (marks .1)) (none 2 (marks .2)) (none 3 (marks .3))
     (λ e. omega (arith, operand-counts .4)) (λ e. omega (arith, operand-counts .5))

@@ -11,7 +11,7 @@ use native.Mathlib.Omega.{arith}
 use lib.Dec.{T, eqb, ltb}
 use lib.ListN.{length}
 use borrow.Author.Tests.{ltb-true, ltb-false, eqb-true, eqb-false}
-use Rattle.gates.specs.Kind.{operandsOf, conditionalOf, valueOf}
+use Rattle.gates.specs.Kind.{operandsOf, conditionalOf, valueOf, kindCount}
 use Rattle.gates.specs.Gate.{Gate}
 use Rattle.gates.specs.Board.{conditionalCount}
 use Rattle.gates.specs.Test.{goodGate}
@@ -45,7 +45,7 @@ nth-next g gs i = go (conditionalOf (g .kind))
     go false = let e : 0 + i ≡ i = omega arith in rw e
 
 -- the part of a free gate does not depend on the product
-pub ignores : (p kind a b c z y : ℕ) → kind < 8 → conditionalOf kind ≡ false → partOfKind p kind a b c z ≡ partOfKind p kind a b c y
+pub ignores : (p kind a b c z y : ℕ) → kind < kindCount → conditionalOf kind ≡ false → partOfKind p kind a b c z ≡ partOfKind p kind a b c y
 unfolding partOfKind
 ignores p kind a b c z y h =
     each-kind (λ k. conditionalOf k ≡ false → partOfKind p k a b c z ≡ partOfKind p k a b c y)
@@ -55,7 +55,7 @@ ignores p kind a b c z y h =
     never k e f = let s : true ≡ false = sym e ∙ f in let x : _≡_ {A = ℕ} 0 1 = cc in absurd (omega arith)
 
 -- the parts of a gate's wire are bits
-new-bit : (p kind a b c z : ℕ) → kind < 8 → (0 < operandsOf kind → a ≤ 1) → z ≤ 1 → partOfKind p kind a b c z ≤ 1
+new-bit : (p kind a b c z : ℕ) → kind < kindCount → (0 < operandsOf kind → a ≤ 1) → z ≤ 1 → partOfKind p kind a b c z ≤ 1
 unfolding partOfKind entered
 new-bit p kind a b c z h ha hz =
     each-kind (λ k. (0 < operandsOf k → a ≤ 1) → partOfKind p k a b c z ≤ 1)

@@ -7,7 +7,7 @@ use Prim.Native.Nat.{ℕ, _-_, min, max}
 use lib.Dec.{ltb}
 use lib.ListN.{List·getD-eq-default}
 use borrow.Author.Tests.{ltb-false}
-use Rattle.gates.specs.Open.Kind.{applied, valueOf, differ, chosen}
+use Rattle.gates.specs.Open.Kind.{kindCount, applied, valueOf, differ, chosen}
 use Rattle.gates.specs.declared.kind.GateValue.{GateValue}
 use Rattle.gates.specs.declared.kind.GateValue.the-variants.{Value, NoSuchKind}
 use borrow.Author.Needs.{needs}
@@ -21,9 +21,9 @@ taken NoSuchKind = 0
 
 taken-applied : (k a b c : ℕ) → taken (applied k a b c) ≡ valueOf k a b c
 unfolding taken applied valueOf
-taken-applied k a b c = go (ltb k 8) refl
+taken-applied k a b c = go (ltb k kindCount) refl
   where
-    go : (t : Bool) → ltb k 8 ≡ t → taken (applied k a b c) ≡ valueOf k a b c
+    go : (t : Bool) → ltb k kindCount ≡ t → taken (applied k a b c) ≡ valueOf k a b c
     go true e = ap (λ u. taken (cond u (Value (valueOf k a b c)) NoSuchKind)) e
     go false e =
         ap (λ u. taken (cond u (Value (valueOf k a b c)) NoSuchKind)) e

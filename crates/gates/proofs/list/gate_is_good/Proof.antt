@@ -7,7 +7,7 @@ use Prim.Native.Nat.{ℕ, _+_, _<_, _≤_}
 use native.Mathlib.Omega.{arith}
 use lib.Dec.{ltb, eqb}
 use borrow.Author.Tests.{lt-ltb, le-ltb}
-use Rattle.gates.specs.Open.Kind.{operandsOf}
+use Rattle.gates.specs.Open.Kind.{kindCount, operandsOf}
 use Rattle.gates.specs.Open.Test.{goodOperand, goodGate}
 use Rattle.gates.proofs.Applying.{has-value, has-no-value}
 use borrow.Author.Needs.{needs}
@@ -15,7 +15,7 @@ use Rattle.gates.proofs.list.gate_is_good.Statement.{statement}
 use Rattle.gates.proofs.list.gate_is_good.Tie as tie
 
 -- the test of a gate from the tests of its parts
-parts : (own kind a b c count : ℕ) (k x y z : Bool) → ltb kind 8 ≡ k → count ≡ operandsOf kind
+parts : (own kind a b c count : ℕ) (k x y z : Bool) → ltb kind kindCount ≡ k → count ≡ operandsOf kind
     → x ≡ goodOperand (ltb 0 count) own a → y ≡ goodOperand (ltb 1 count) own b → z ≡ goodOperand (ltb 2 count) own c
     → (k && x && y && z) ≡ goodGate own (record { kind = kind; a = a; b = b; c = c })
 unfolding goodGate
@@ -31,7 +31,7 @@ unfolding goodOperand
 unused i count own x h = sym (ap (λ (u : Bool). goodOperand u own x) (le-ltb i count h))
 
 -- after the first test the kind is known
-known : (c : tie.After-enum-told) → ltb (c .before .before .before .args .kind) 8 ≡ true
+known : (c : tie.After-enum-told) → ltb (c .before .before .before .args .kind) kindCount ≡ true
 known c = has-value (c .before .before .before .args .kind) 0 0 0 _ (sym (c .before .before .apply .ensures) ∙ c .enum-told .given .1)
 
 -- The stages of the function, seen from later ones.

@@ -13,8 +13,9 @@ use Rattle.trustee_gates.proofs.bits.part_of_kind.Statement.{statement}
 use Rattle.trustee_gates.proofs.bits.part_of_kind.Tie as tie
 use Rattle.basics.proofs.Arithmetic.{above-3}
 use Rattle.basics.proofs.Arithmetic.{above-7}
+use Rattle.gates.specs.Kind.{kindCount}
 
-no-kind : (p k a b c z : ℕ) → 8 ≤ k → 0 ≡ partOfKind p k a b c z
+no-kind : (p k a b c z : ℕ) → kindCount ≤ k → 0 ≡ partOfKind p k a b c z
 unfolding partOfKind
 no-kind p k a b c z h = sym (List·getD-eq-default
     (0 ∷ entered p 1 ∷ a ∷ (a + entered p 1) % 2 ∷ z ∷ (a + b + z) % 2 ∷ (a + b) % 2 ∷ (c + z) % 2 ∷ []) 0 {n = k} h)
