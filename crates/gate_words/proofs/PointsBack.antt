@@ -62,16 +62,17 @@ full-good n s u v hs hu hv = (
   ),
 )
 
+-- of two lists that point back, either one does
+pub good-either : (n : ℕ) (b : Bool) (xs ys : List Gate) → AllGood n xs → AllGood n ys → AllGood n (cond b xs ys)
+good-either n true xs ys p q = p
+good-either n false xs ys p q = q
+
 pub half-good : (n s u e : ℕ) → s < n → u < n → AllGood n (halfAdder n s u e)
 unfolding halfAdder
 half-good n s u e hs hu =
-    either (eqb e 0) (xorOf s u ∷ copyOf n ∷ andOf s u ∷ []) (xorOf s u ∷ notOf n ∷ orOf s u ∷ [])
+    good-either n (eqb e 0) (xorOf s u ∷ copyOf n ∷ andOf s u ∷ []) (xorOf s u ∷ notOf n ∷ orOf s u ∷ [])
     (good-xor n s u hs hu, (good-copy (suc n) n (omega arith), (good-and (suc (suc n)) s u (omega arith) (omega arith), tt)))
     (good-xor n s u hs hu, (good-not (suc n) n (omega arith), (good-or (suc (suc n)) s u (omega arith) (omega arith), tt)))
-  where
-    either : (b : Bool) (xs ys : List Gate) → AllGood n xs → AllGood n ys → AllGood n (cond b xs ys)
-    either true xs ys p q = p
-    either false xs ys p q = q
 
 pub increment-good : (n s : ℕ) → s < n → AllGood n (increment n s)
 unfolding increment

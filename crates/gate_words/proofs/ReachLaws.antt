@@ -24,7 +24,7 @@ use Rattle.gate_words.proofs.ChoiceSteps.{length-chain, chain-next, lef
 use Rattle.gate_words.proofs.WordSteps.{length-differences}
 use Rattle.gate_words.proofs.Ends.{chain-below}
 use Rattle.gate_words.proofs.HalvesLaws.{beside}
-use Rattle.gate_words.proofs.PointsBack.{behind, good-and, good-or, good-xor, good-mux, chain-good, differences-good}
+use Rattle.gate_words.proofs.PointsBack.{behind, good-either, good-and, good-or, good-xor, good-mux, chain-good, differences-good}
 use Rattle.basics.proofs.Arithmetic.{bit-cases}
 
 -- lengths
@@ -128,11 +128,8 @@ reach-last-most (suc r) = omega arith
 
 pub carry-bit-good : (n x y e : ℕ) → x < n → y < n → AllGood n (carryBit x y e)
 unfolding carryBit
-carry-bit-good n x y e hx hy = either (eqb e 0) (andOf x y ∷ []) (orOf x y ∷ []) (good-and n x y hx hy, tt) (good-or n x y hx hy, tt)
-  where
-    either : (b : Bool) (xs ys : List Gate) → AllGood n xs → AllGood n ys → AllGood n (cond b xs ys)
-    either true xs ys p q = p
-    either false xs ys p q = q
+carry-bit-good n x y e hx hy =
+    good-either n (eqb e 0) (andOf x y ∷ []) (orOf x y ∷ []) (good-and n x y hx hy, tt) (good-or n x y hx hy, tt)
 
 pub carries-good : (n x y c w : ℕ) → x + w ≤ n → y + w ≤ n → c < n → AllGood n (carries n x y c w)
 unfolding carries

@@ -4,7 +4,7 @@
 use mathlib.Core.Path.{_≡_, _∙_, refl, sym, ap, subst}
 use mathlib.Core.Bool.{true, false}
 use mathlib.Core.List.{List}
-use Prim.Native.Nat.{ℕ, zero, suc, _/_, _%_, _≤_, _<_}
+use Prim.Native.Nat.{ℕ, zero, suc, _/_, _%_, _≤_, _<_, _*_}
 use native.Mathlib.Nat.{add-zero}
 use native.Mathlib.Omega.{arith}
 use lib.Dec.{eqb}
@@ -13,7 +13,7 @@ use borrow.Author.Tests.{eq-eqb, eqb-true, le-ltb, lt-ltb}
 use Rattle.gates.specs.Open.Kind.{operandsOf, conditionalOf}
 use Rattle.gates.specs.Open.Gate.{Gate, gatesOf, numbersOf}
 use Rattle.gates.specs.Open.Board.{conditionals, conditionalCount}
-use Rattle.gates.specs.Open.Test.{firstBad, judged, tested}
+use Rattle.gates.specs.Open.Test.{mostGates, firstBad, judged, tested}
 use Rattle.gates.specs.declared.place.Place.the-variants.{Nowhere}
 use Rattle.gates.specs.declared.list.ListCheck.the-variants.{Accepted, PartOfAGate, TooManyGates}
 use Rattle.gates.proofs.Laws.{AllGood, good-none, none-bad, length-numbers, read-whole}
@@ -58,9 +58,9 @@ unfolding tested
 part-of-a-gate inputs k table e = rw e
 
 -- a list of too many gates
-pub too-many : (inputs k : ℕ) (table : List ℕ) → eqb (length table % 4) 0 ≡ true → k ≤ 8 → 4194304 < length table
+pub too-many : (inputs k : ℕ) (table : List ℕ) → eqb (length table % 4) 0 ≡ true → k ≤ mostGates → 4 * mostGates < length table
     → tested inputs k table ≡ TooManyGates
 unfolding tested
 too-many inputs k table e few long =
     let whole = eqb-true (length table % 4) 0 e in
-    rw (e, le-ltb (length table / 4) k (omega arith), lt-ltb 1048576 (length table / 4) (omega arith))
+    rw (e, le-ltb (length table / 4) k (omega arith), lt-ltb mostGates (length table / 4) (omega arith))

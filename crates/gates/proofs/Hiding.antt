@@ -6,8 +6,8 @@ use mathlib.Core.List.{List, [], _∷_, _++_, zipWith}
 use Prim.Native.Nat.{ℕ, zero, suc, _+_, _%_, _≤_, _<_}
 use native.Mathlib.Omega.{arith}
 use lib.Dec.{ltb}
-use lib.ListN.{length, getD, take, length-append, List·getD-append}
-use lib.Seq.{take-at, drop-at}
+use lib.ListN.{length, getD, take, drop, length-append, List·getD-append}
+use lib.Seq.{take-at, drop-at, getD-drop}
 use borrow.Author.Tests.{ltb-false, le-ltb}
 use Rattle.gates.specs.Open.Gate.{Gate}
 use Rattle.gates.specs.Open.Wires.{wire, wiresOf, outputsOf}
@@ -28,6 +28,16 @@ none-above i (x ∷ xs) b = rw (le-ltb 1 x (b 0)) (none-above (suc i) xs (λ (j 
 bits-cons : (x : ℕ) (xs : List ℕ) → x ≤ 1 → Bits xs → Bits (x ∷ xs)
 bits-cons x xs h b zero = h
 bits-cons x xs h b (suc j) = b j
+
+-- every part of a list of bits has bits
+pub bits-take : (n : ℕ) (xs : List ℕ) → Bits xs → Bits (take n xs)
+bits-take zero xs b i = omega arith
+bits-take (suc n) [] b i = omega arith
+bits-take (suc n) (x ∷ xs) b zero = b 0
+bits-take (suc n) (x ∷ xs) b (suc i) = bits-take n xs (λ (j : ℕ). b (suc j)) i
+
+pub bits-drop : (n : ℕ) (xs : List ℕ) → Bits xs → Bits (drop n xs)
+bits-drop n xs b i = omega (arith, getD-drop n xs i 0, b (n + i))
 
 pub all-bits : (i : ℕ) (xs : List ℕ) → firstAboveOne i xs ≡ Nowhere → Bits xs
 unfolding firstAboveOne

@@ -6,10 +6,12 @@ use mathlib.Core.List.{List, [], _++_, map}
 use Prim.Native.Nat.{ℕ, _+_, _-_, _≤_, _<_}
 use native.Mathlib.Omega.{arith}
 use lib.ListN.{length, getD, take, replicate, length-take, length-map, length-append, List·getD-map, List·getD-append, List·getD-eq-default}
-use lib.Seq.{getD-take, getD-append-add, take-nil, length-take-le}
+use lib.Seq.{ext-getD, getD-take, getD-append-add, take-nil, length-take-le}
 use Rattle.jury.specs.ClosingBytes.{eightBytes}
 use Rattle.jury.specs.inner.Counts.{rowsIn}
+use Rattle.basics.specs.Lists.{tabulate}
 use Rattle.basics.proofs.Tables.{zeros-at}
+use Rattle.basics.proofs.Tabulate.{upTo, upTo-new, upTo-old, length-tabulate, getD-tabulate}
 use Rattle.basics.proofs.Cases.{below-or-not}
 
 pub rows-length : (k d : ℕ) (counts : List (List ℕ)) → k ≤ length counts → length (rowsIn k d counts) ≡ k
@@ -41,3 +43,22 @@ eight-at bytes j h = getD-take 8 (bytes ++ replicate 8 0) j 0 h ∙ ⊎-elim wit
 pub eight-length : (bytes : List ℕ) → length (eightBytes bytes) ≡ 8
 unfolding eightBytes
 eight-length bytes = omega (arith, length-take 8 (bytes ++ replicate 8 0), length-append bytes (replicate 8 0))
+
+-- eight bytes: the first k are a table's, the others 0
+pub eight-table : (k : ℕ) (f : ℕ → ℕ) → tabulate 8 (upTo k f (λ j. 0)) ≡ eightBytes (tabulate k f)
+eight-table k f =
+    ext-getD 0 (tabulate 8 bytes) (eightBytes (tabulate k f)) (length-tabulate 8 bytes ∙ sym (eight-length (tabulate k f)))
+    (λ j l. at j (omega (arith, length-tabulate 8 bytes)))
+  where
+    bytes : ℕ → ℕ
+    bytes = upTo k f (λ j. 0)
+
+    byte : (j : ℕ) → bytes j ≡ getD (tabulate k f) j 0
+    byte j =
+        ⊎-elim (λ l. upTo-new k j f (λ m. 0) l ∙ sym (getD-tabulate k j f 0 l))
+        (λ l. upTo-old k j f (λ m. 0) l
+        ∙ sym (List·getD-eq-default (tabulate k f) 0 {n = j} (omega (arith, length-tabulate k f))))
+        (below-or-not j k)
+
+    at : (j : ℕ) → j < 8 → getD (tabulate 8 bytes) j 0 ≡ getD (eightBytes (tabulate k f)) j 0
+    at j l = getD-tabulate 8 j bytes 0 l ∙ byte j ∙ sym (eight-at (tabulate k f) j l)

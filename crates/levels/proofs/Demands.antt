@@ -29,23 +29,23 @@ use Rattle.tally.proofs.RunReasons.{outcome-refused, accepted-values}
 use Rattle.levels.proofs.Reasons.{ListFacts, list-facts, both-passed, call-refused, call-accepted}
 use Rattle.tally.proofs.Numbering.{All, first-fine, both, unless-fine, list-fine, outcome-fine, refused-fine}
 
-numbers : List ℕ
-numbers = 1 ∷ 2 ∷ 3 ∷ 200 ∷ []
+levelNumbers : List ℕ
+levelNumbers = 1 ∷ 2 ∷ 3 ∷ 200 ∷ []
 
-test-numbers : (s : Shape) (table : List ℕ) → All numbers (testReasons s table)
-unfolding All testReasons hasNumberIn reasonAt numbers
-test-numbers s table = (unless-fine numbers _ 1 tt, (list-fine numbers _ tt (λ g. tt), tt))
+test-numbers : (s : Shape) (table : List ℕ) → All levelNumbers (testReasons s table)
+unfolding All testReasons hasNumberIn reasonAt levelNumbers
+test-numbers s table = (unless-fine levelNumbers _ 1 tt, (list-fine levelNumbers _ tt (λ g. tt), tt))
 
-all-numbers : (s : Shape) (table levels : List ℕ) → All numbers (levelsReasons s table levels)
-unfolding All levelsReasons hasNumberIn reasonAt numbers
-all-numbers s table levels = both numbers (testReasons s table) _ (test-numbers s table) (unless-fine numbers _ 200 tt, tt)
+all-numbers : (s : Shape) (table levels : List ℕ) → All levelNumbers (levelsReasons s table levels)
+unfolding All levelsReasons hasNumberIn reasonAt levelNumbers
+all-numbers s table levels = both levelNumbers (testReasons s table) _ (test-numbers s table) (unless-fine levelNumbers _ 200 tt, tt)
 
 pub levels-number : (s : Shape) (table levels : List ℕ) (r : Reason) → levelsOutcome s table levels ≡ refused r
     → T (hasNumberIn (1 ∷ 2 ∷ 3 ∷ 200 ∷ []) r)
-unfolding levelsOutcome numbers
+unfolding levelsOutcome levelNumbers
 levels-number s table levels r e =
-    refused-fine numbers (levelsOutcome s table levels) r
-    (outcome-fine numbers _ _ (first-fine numbers (levelsReasons s table levels) (all-numbers s table levels))) e
+    refused-fine levelNumbers (levelsOutcome s table levels) r
+    (outcome-fine levelNumbers _ _ (first-fine levelNumbers (levelsReasons s table levels) (all-numbers s table levels))) e
 
 -- the reasons, from the answer
 refused-by : (s : Shape) (table levels : List ℕ) (r : Reason) → levelsOutcome s table levels ≡ refused r

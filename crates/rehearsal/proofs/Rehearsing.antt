@@ -3,14 +3,15 @@
 use mathlib.Core.Path.{_≡_, _∙_, refl, sym, ap}
 use mathlib.Core.Bool.{false}
 use mathlib.Core.Option.{Option, none}
-use mathlib.Core.List.{List, [], _∷_, _++_}
-use Prim.Native.Nat.{ℕ, zero, suc, _+_, _-_, _*_, _≤_, _<_}
+use mathlib.Core.List.{List, [], _++_}
+use Prim.Native.Nat.{ℕ, _+_, _-_, _*_, _≤_, _<_}
 use native.Mathlib.Omega.{arith}
 use lib.ListN.{length, take, drop, length-take, length-drop, length-append, drop-of-length-le}
 use lib.Seq.{drop-append-le, take-at, take-all}
 use Rattle.gates.specs.Gate.{numbersOf}
-use Rattle.gates.specs.Board.{conditionalCount, Bits, MaskTape}
+use Rattle.gates.specs.Board.{conditionalCount, MaskTape}
 use Rattle.gates.proofs.Counting.{count-most}
+use Rattle.gates.proofs.Hiding.{bits-take}
 use Rattle.jury.specs.declared.shape.Shape.{Shape}
 use Rattle.jury.specs.Shape.{withinLimits, ballotBytes}
 use Rattle.jury.specs.Reason.{Reason, reasonOf, reasonAt, firstOf}
@@ -34,12 +35,6 @@ use Rattle.tally.proofs.OwnRun.{own-answer, own-closing}
 use Rattle.rehearsal.specs.Rehearsal.{shapeOfInput, ballotsOfInput, rehearsalReasons, printedOf, rehearsalOutcome}
 use Rattle.rehearsal.specs.inner.Buffers.{Buffers, Cut}
 use Rattle.rehearsal.specs.inner.Rehearses.{ballotsOutcome}
-
-bits-take : (n : ℕ) (xs : List ℕ) → Bits xs → Bits (take n xs)
-bits-take zero xs b i = omega arith
-bits-take (suc n) [] b i = omega arith
-bits-take (suc n) (x ∷ xs) b zero = b 0
-bits-take (suc n) (x ∷ xs) b (suc i) = bits-take n xs (λ (j : ℕ). b (suc j)) i
 
 -- a buffer that is long enough, cut to its first n bytes
 pub cut-long : (n : ℕ) (xs : List ℕ) → n ≤ length xs → n ≡ length (take n xs)

@@ -7,14 +7,10 @@ use mathlib.Core.List.{List, [], _∷_, List·Memᴰ·head, List·Memᴰ·tail}
 use Prim.Native.Nat.{ℕ, _<_}
 use native.Mathlib.Omega.{arith}
 use lib.Dec.{leb, eqb}
-use lib.ListN.{getD, List·getD-eq-default}
-use lib.Seq.{ext-getD}
 use borrow.Author.Tests.{eq-eqb}
-use Rattle.basics.specs.Lists.{tabulate, all}
-use Rattle.jury.specs.ClosingBytes.{eightBytes}
-use Rattle.basics.proofs.Cases.{same-or-not, below-or-not}
-use Rattle.jury.proofs.Rows.{eight-at, eight-length}
-use Rattle.basics.proofs.Tabulate.{upTo, upTo-new, upTo-old, length-tabulate, getD-tabulate, tabulate-cong}
+use Rattle.basics.specs.Lists.{all}
+use Rattle.basics.proofs.Cases.{same-or-not}
+use Rattle.basics.proofs.Tabulate.{tabulate-cong}
 use Rattle.rule_schulze.specs.Schulze.{link, strongest, allCandidates, wins, schulzeOf}
 use Rattle.rule_schulze.specs.Closure.{closure}
 use Rattle.rule_schulze.specs.Winner.{On}
@@ -67,22 +63,3 @@ table-wins k v links paths hl hp i h =
     (λ a b ha hb ne.
     hp a b ha hb ne ∙ closure-agree k k (entry links) (link v) (omega arith) (λ c d hc hd n. hl c d hc hd) a b ha hb
     ne ∙ closure-strongest (link v) k a b ne)
-
--- eight bytes: the first k are a table's, the others 0
-pub eight-table : (k : ℕ) (f : ℕ → ℕ) → tabulate 8 (upTo k f (λ j. 0)) ≡ eightBytes (tabulate k f)
-eight-table k f =
-    ext-getD 0 (tabulate 8 bytes) (eightBytes (tabulate k f)) (length-tabulate 8 bytes ∙ sym (eight-length (tabulate k f)))
-    (λ j l. at j (omega (arith, length-tabulate 8 bytes)))
-  where
-    bytes : ℕ → ℕ
-    bytes = upTo k f (λ j. 0)
-
-    byte : (j : ℕ) → bytes j ≡ getD (tabulate k f) j 0
-    byte j =
-        ⊎-elim (λ l. upTo-new k j f (λ m. 0) l ∙ sym (getD-tabulate k j f 0 l))
-        (λ l. upTo-old k j f (λ m. 0) l
-        ∙ sym (List·getD-eq-default (tabulate k f) 0 {n = j} (omega (arith, length-tabulate k f))))
-        (below-or-not j k)
-
-    at : (j : ℕ) → j < 8 → getD (tabulate 8 bytes) j 0 ≡ getD (eightBytes (tabulate k f)) j 0
-    at j l = getD-tabulate 8 j bytes 0 l ∙ byte j ∙ sym (eight-at (tabulate k f) j l)

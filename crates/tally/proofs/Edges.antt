@@ -121,4 +121,4 @@ one-gate-more s table w long = by (eqb (length table % 4) 0) refl
     by false e = list-refused s table w PartOfAGate (reasonAt 2 0)
         (part-of-a-gate (ballotBytes s) (s .candidates) table e) (unfold listReason in refl)
     by true e = list-refused s table w TooManyGates (reasonAt 2 0)
-        (too-many (ballotBytes s) (s .candidates) table e (bounds s w .k-most) long) (unfold listReason in refl)
+        (too-many (ballotBytes s) (s .candidates) table e (omega (arith, bounds s w .k-most)) long) (unfold listReason in refl)

@@ -4,11 +4,10 @@
 use mathlib.Core.Path.{_≡_, _∙_, refl, sym, ap}
 use mathlib.Core.Bool.{true}
 use mathlib.Core.Option.{none}
-use mathlib.Core.List.{List, [], _∷_}
+use mathlib.Core.List.{List, []}
 use Prim.Native.Nat.{ℕ, zero, suc, _+_, _*_, _≤_, _<_}
 use native.Mathlib.Omega.{arith}
-use lib.ListN.{length, take, drop, replicate, length-append, length-replicate}
-use lib.Seq.{getD-drop}
+use lib.ListN.{length, replicate, length-append, length-replicate}
 use borrow.Author.Tests.{eq-eqb, le-leb, lt-ltb}
 use Rattle.gates.specs.Gate.{gatesOf}
 use Rattle.gates.specs.Board.{conditionalCount, Bits}
@@ -21,6 +20,7 @@ use Rattle.levels.specs.Answer.{depthsOf}
 use Rattle.trustee_shares.specs.Shares.{part, Held}
 use Rattle.trustee_shares.specs.Views.{piece, ballotsOf, triplesOf, GoodDealing}
 use Rattle.trustee_shares.proofs.Tables.{length-piece}
+use Rattle.trustee_shares.proofs.Hiding.{bits-piece}
 use Rattle.trustee_gates.specs.Dealing.{onlyBits}
 use Rattle.trustee_gates.proofs.Parity.{opened-bit}
 use Rattle.trustee_gates.proofs.Dealt.{only-bits-back}
@@ -37,20 +37,6 @@ use Rattle.trustee_alone.specs.Demands.{heardBefore, CallsOf}
 use Rattle.trustee_alone.proofs.Memory.{length-closes}
 use Rattle.basics.proofs.Same.{same-refl}
 use Rattle.trustee_alone.proofs.Tests.{pass, end, behind, and-both, outcome-none, left-new}
-
--- pieces of bits are bits
-take-bits : (n : ℕ) (xs : List ℕ) → Bits xs → Bits (take n xs)
-take-bits zero xs b i = omega arith
-take-bits (suc n) [] b i = omega arith
-take-bits (suc n) (x ∷ xs) b zero = b 0
-take-bits (suc n) (x ∷ xs) b (suc i) = take-bits n xs (λ (j : ℕ). b (suc j)) i
-
-drop-bits : (n : ℕ) (xs : List ℕ) → Bits xs → Bits (drop n xs)
-drop-bits n xs b i = omega (arith, getD-drop n xs i 0, b (n + i))
-
-piece-bits : (size : ℕ) (xs : List ℕ) (p : ℕ) → Bits xs → Bits (piece size xs p)
-unfolding piece
-piece-bits size xs p b = take-bits size (drop (p * size) xs) (drop-bits (p * size) xs b)
 
 sums-bits : (t n j : ℕ) (published : Held) → Bits (sumsFrom t n j published)
 unfolding sumsFrom
@@ -79,12 +65,12 @@ module _ (c : Call) (passed : CallPassed c) (p : ℕ) (l : p < c .trustees) wher
   parts-bits : onlyBits (ballotsOf (ballotBytes (c .shape)) (c .lent .dealing) p) ≡ true
   unfolding ballotsOf
   parts-bits = only-bits-back (piece (ballotBytes (c .shape)) (c .lent .dealing .ballotParts) p)
-      (piece-bits (ballotBytes (c .shape)) (c .lent .dealing .ballotParts) p (good .ballot-bits))
+      (bits-piece (ballotBytes (c .shape)) (c .lent .dealing .ballotParts) p (good .ballot-bits))
 
   triples-bits : onlyBits (triplesOf (gatesOf (c .table)) (c .lent .dealing) p) ≡ true
   unfolding triplesOf
   triples-bits = only-bits-back (piece (3 * conditionalCount (gatesOf (c .table))) (c .lent .dealing .dealerParts) p)
-      (piece-bits (3 * conditionalCount (gatesOf (c .table))) (c .lent .dealing .dealerParts) p (good .dealer-bits))
+      (bits-piece (3 * conditionalCount (gatesOf (c .table))) (c .lent .dealing .dealerParts) p (good .dealer-bits))
 
   fits : (ws published : List ℕ) → length ws ≡ ballotBytes (c .shape) + length (gatesOf (c .table))
       → length published ≡ 2 * conditionalCount (gatesOf (c .table)) + c .shape .candidates

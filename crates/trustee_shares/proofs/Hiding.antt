@@ -20,6 +20,7 @@ use Rattle.gates.specs.Test.{firstBad}
 use Rattle.gates.specs.Hiding.{ExactlyOne}
 use Rattle.gates.specs.declared.place.Place.the-variants.{Nowhere}
 use Rattle.gates.proofs.Goodness.{GoodGate}
+use Rattle.gates.proofs.Hiding.{bits-take, bits-drop}
 use Rattle.gates.proofs.WireLaws.{length-wires}
 use Rattle.gates.proofs.Laws.{AllGood, Holds, all-good, wires-hold, wires-start, wires-bits, wire-bit, output-is}
 use Rattle.trustee_shares.specs.Shares.{sumOf, opened, part, uOf, vOf, productOf, firstFactor, secondFactor, maskedFirst, maskedSecond, Held}
@@ -50,21 +51,12 @@ opened-left t q f g h e s = left (sumOf t f) (sumOf t g) (f q) (g q) (sum-change
     left a b x y e s = omega arith
 
 -- every part of a list of bits has bits
-bits-take : (n : ℕ) (xs : List ℕ) → Bits xs → Bits (take n xs)
-bits-take zero xs b i = omega arith
-bits-take (suc n) [] b i = omega arith
-bits-take (suc n) (x ∷ xs) b zero = b 0
-bits-take (suc n) (x ∷ xs) b (suc i) = bits-take n xs (λ j. b (suc j)) i
-
-bits-drop : (n : ℕ) (xs : List ℕ) → Bits xs → Bits (drop n xs)
-bits-drop n xs b i = rw (getD-drop n xs i 0) (b (n + i))
-
 bits-append : (xs ys : List ℕ) → Bits xs → Bits ys → Bits (xs ++ ys)
 bits-append [] ys b c i = c i
 bits-append (x ∷ xs) ys b c zero = b 0
 bits-append (x ∷ xs) ys b c (suc i) = bits-append xs ys (λ j. b (suc j)) c i
 
-bits-piece : (size : ℕ) (table : List ℕ) (p : ℕ) → Bits table → Bits (piece size table p)
+pub bits-piece : (size : ℕ) (table : List ℕ) (p : ℕ) → Bits table → Bits (piece size table p)
 unfolding piece
 bits-piece size table p b = bits-take size (drop (p * size) table) (bits-drop (p * size) table b)
 

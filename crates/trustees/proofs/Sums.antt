@@ -1,12 +1,11 @@
 -- The opened closing bits, and that an accepted call has what the evaluation requires.
 -- Assumes nothing.
 use mathlib.Core.Path.{_≡_, _∙_, refl, sym, ap}
-use mathlib.Core.Logic.{⊎-elim}
 use mathlib.Core.List.{List, _++_}
 use Prim.Native.Nat.{ℕ, _+_, _-_, _*_, _≤_, _<_}
 use native.Mathlib.Omega.{arith}
-use lib.ListN.{length, getD, length-append, length-drop, List·getD-eq-default}
-use lib.Seq.{ext-getD, getD-append-add}
+use lib.ListN.{length, getD, length-append, length-drop}
+use lib.Seq.{getD-append-add}
 use Rattle.gates.specs.Gate.{gatesOf}
 use Rattle.gates.specs.Board.{conditionalCount}
 use Rattle.gates.specs.Test.{firstBad}
@@ -15,10 +14,8 @@ use Rattle.gates.proofs.Evaluating.{accepted-list}
 use Rattle.jury.specs.Shape.{ballotBytes}
 use Rattle.basics.specs.Lists.{tabulate}
 use Rattle.jury.specs.ClosingBytes.{eightBytes}
-use Rattle.basics.proofs.Cases.{below-or-not}
 use Rattle.jury.proofs.Limits.{some-bytes, bounds, inputs-bound}
-use Rattle.jury.proofs.Rows.{eight-at, eight-length}
-use Rattle.basics.proofs.Tabulate.{length-tabulate, getD-tabulate, tabulate-cong, upTo, upTo-new, upTo-old}
+use Rattle.basics.proofs.Tabulate.{tabulate-cong}
 use Rattle.tally.specs.Answer.{Size, sizeOf}
 use Rattle.trustee_shares.specs.Shares.{opened, part, Held}
 use Rattle.trustee_shares.specs.Views.{piece, joined, ballotsOf, triplesOf, wirePartsOf, maskedFactors, closingParts, publishedOf}
@@ -30,23 +27,6 @@ use Rattle.trustee_gates.proofs.Running.{length-parts}
 use Rattle.trustees.specs.Call.{Call, wirePartsIn, publishedIn}
 use Rattle.trustees.specs.Result.{closingSums}
 use Rattle.trustees.proofs.Reasons.{CallPassed}
-
--- the eight bytes: those of a table below k, then 0
-pub eight-tabulated : (k : ℕ) (f : ℕ → ℕ) → tabulate 8 (upTo k f (λ i. 0)) ≡ eightBytes (tabulate k f)
-eight-tabulated k f =
-    ext-getD 0 (tabulate 8 (upTo k f (λ i. 0))) (eightBytes (tabulate k f))
-    (length-tabulate 8 (upTo k f (λ i. 0)) ∙ sym (eight-length (tabulate k f)))
-    (λ j l. at j (omega (arith, length-tabulate 8 (upTo k f (λ i. 0)))))
-  where
-    entry : (j : ℕ) → upTo k f (λ i. 0) j ≡ getD (tabulate k f) j 0
-    entry j =
-        ⊎-elim (λ l. upTo-new k j f (λ i. 0) l ∙ sym (getD-tabulate k j f 0 l))
-        (λ l. upTo-old k j f (λ i. 0) l
-        ∙ sym (List·getD-eq-default (tabulate k f) 0 {n = j} (omega (arith, length-tabulate k f))))
-        (below-or-not j k)
-
-    at : (j : ℕ) → j < 8 → getD (tabulate 8 (upTo k f (λ i. 0))) j 0 ≡ getD (eightBytes (tabulate k f)) j 0
-    at j l = getD-tabulate 8 j (upTo k f (λ i. 0)) 0 l ∙ entry j ∙ sym (eight-at (tabulate k f) j l)
 
 -- facts about an accepted call
 pub record Ready (c : Call) (size : Size) : Type 0 where

@@ -13,9 +13,10 @@ use lib.ListN.{set}
 use Rattle.basics.specs.Lists.{tabulate}
 use Rattle.jury.specs.ClosingBytes.{eightBytes}
 use Rattle.basics.proofs.Tabulate.{upTo, fill-start, fill-step, fill-skip, tabulate-cong}
+use Rattle.jury.proofs.Rows.{eight-table}
 use Rattle.rule_schulze.specs.Schulze as spec
 use Rattle.rule_schulze.specs.inner.Tables.{entry, unbeatenIn}
-use Rattle.rule_schulze.proofs.Counting.{table-wins, eight-table}
+use Rattle.rule_schulze.proofs.Counting.{table-wins}
 use Rattle.rule_schulze.proofs.rule.winners.Statement.{statement}
 use Rattle.rule_schulze.proofs.rule.winners.Tie as tie
 

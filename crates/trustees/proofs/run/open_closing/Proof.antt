@@ -10,7 +10,7 @@ use Rattle.basics.specs.Lists.{tabulate}
 use Rattle.basics.proofs.Tabulate.{upTo, fill-start, fill-step}
 use Rattle.trustee_shares.specs.Shares.{opened, part}
 use Rattle.trustee_shares.specs.Views.{piece}
-use Rattle.trustees.proofs.Sums.{eight-tabulated}
+use Rattle.jury.proofs.Rows.{eight-table}
 use Rattle.trustees.proofs.run.open_closing.Statement.{statement}
 use Rattle.trustees.proofs.run.open_closing.Tie as tie
 
@@ -68,7 +68,7 @@ returns c =
     let a = s .args in
     let f : ℕ → ℕ = bit (a .t) (a .size) (a .first) (a .published .now) in
     let e : l .j ≡ a .k = omega arith in
-    l .inv .1 ∙ ap (λ (n : ℕ). tabulate 8 (upTo n f (λ i. 0))) e ∙ eight-tabulated (a .k) f
+    l .inv .1 ∙ ap (λ (n : ℕ). tabulate 8 (upTo n f (λ i. 0))) e ∙ eight-table (a .k) f
 
 pub open-closing-spec : {M : Type 1} → statement M
 open-closing-spec =
