@@ -1,6 +1,6 @@
 -- The reasons of a run for 64 juries: which of them is the first, and what holds if none applies.
 -- Assumes nothing.
-use mathlib.Core.Path.{_≡_, _∙_, refl, sym, ap}
+use mathlib.Core.Path.{_≡_, _∙_, refl, sym, ap, subst}
 use mathlib.Core.Bool.{Bool, true, false, cond}
 use mathlib.Core.Option.{Option, none, some}
 use mathlib.Core.List.{List, [], _∷_, _++_}
@@ -9,6 +9,7 @@ use native.Mathlib.Omega.{arith}
 use lib.Dec.{eqb}
 use lib.ListN.{length}
 use borrow.Author.Tests.{eqb-true, eq-eqb}
+use Rattle.basics.proofs.Flags.{either}
 use Rattle.gates.specs.Gate.{gatesOf}
 use Rattle.gates.specs.Board.{conditionalCount}
 use Rattle.gates.specs.inner.Step.{RunReady}
@@ -18,39 +19,35 @@ use Rattle.gates.specs.declared.place.Place.the-variants.{At, Nowhere}
 use Rattle.gates.proofs.Evaluating.{accepted-list}
 use Rattle.jury.specs.declared.shape.Shape.{Shape}
 use Rattle.jury.specs.Shape.{isRanking, ballotBytes}
-use Rattle.jury.specs.Reason.{Reason, unless, foundAt, firstOf}
-use Rattle.jury.specs.Ballots.{rowsOf, firstBadRow, gradedReasons, rankedReasons}
+use Rattle.jury.specs.Reason.{Reason, reasonAt, unless, foundAt, firstOf}
+use Rattle.jury.specs.Ballots.{rowsOf, firstBadRow, gradedReasons, rankedReasons, kindReasons, kindReasonNumbers}
 use Rattle.jury.specs.Rankings.{firstOver, firstNotAsymmetric, firstNotWeakOrder}
-use Rattle.jury.proofs.BallotLaws.{kindReason}
 use Rattle.jury.proofs.Searches.{none-first, first-none}
-use Rattle.tally.specs.Answer.{refused, outcome, Size, sizeOf}
+use Rattle.tally.specs.Answer.{refused, outcome, hasNumberIn, Size, sizeOf}
 use Rattle.tally.specs.Run.{RunResult}
 use Rattle.tally.specs.Test.{testReasons, testOutcome}
 use Rattle.tally.proofs.TestReasons.{orElse, first-append, TestPassed, test-passed}
-use Rattle.tally.proofs.RunReasons.{firstOfThree, outcome-refused}
+use Rattle.tally.proofs.RunReasons.{lentFound, passed-by, firstOfThree, outcome-refused}
+use Rattle.tally.proofs.Numbering.{All, unless-fine, found-fine}
 use Rattle.batch_lanes.specs.Lane.{laneCount, laneOf}
 use Rattle.batch.specs.Call.{Call}
-use Rattle.batch.specs.Ballots.{inJury, firstJury, wordGradedReasons, wordRankedReasons, wordBallotReasons}
-use Rattle.batch.specs.Run.{wordBufferReasons, batchReasons, batchResultAfter, batchResult}
+use Rattle.batch.specs.Ballots.{inJury, firstJury, wordGradedReasons, wordRankedReasons, wordKindReasons, wordBallotReasons}
+use Rattle.batch.specs.Run.{wordBufferReasons, wordBufferReasonNumbers, batchReasons, batchResultAfter, batchResult}
 use Rattle.tally.proofs.RunReasons.{three-passed}
-
--- the first reason of the tests 7, 9 and 10, from their outcomes
-unfoldable pub lentFound : Bool → Bool → Bool → Option Reason
-lentFound tape wires board = firstOf (unless tape 7 ∷ unless wires 9 ∷ unless board 10 ∷ [])
-
-lent-outcome : (t u v : Bool) → lentFound t u v ≡ none → (t ≡ true) × (u ≡ true) × (v ≡ true)
-unfolding lentFound unless firstOf
-lent-outcome false u v e = let z : _≡_ {A = ℕ} 0 1 = cc in absurd (omega arith)
-lent-outcome true false v e = let z : _≡_ {A = ℕ} 0 1 = cc in absurd (omega arith)
-lent-outcome true true false e = let z : _≡_ {A = ℕ} 0 1 = cc in absurd (omega arith)
-lent-outcome true true true e = (refl, refl, refl)
 
 module _ (i k : ℕ) (size : Size) (tape wires board : List ℕ) where
   pub lent-by : (t u v : Bool) → eqb (length tape) (size .conditional) ≡ t → eqb (length wires) (i + size .gates)
       ≡ u → eqb (length board) (size .conditional + k) ≡ v
-      → firstOf (wordBufferReasons i k size tape wires board) ≡ lentFound t u v
-  unfolding wordBufferReasons lentFound
-  lent-by t u v e f g = rw (e, f, g)
+      → firstOf (wordBufferReasons i k size tape wires board) ≡ lentFound t Nowhere u v
+  unfolding wordBufferReasons lentFound unless foundAt firstOf
+  lent-by true u v e f g = rw (e, f, g)
+  lent-by false u v e f g = rw e
+
+  pub buffers-all : All wordBufferReasonNumbers (wordBufferReasons i k size tape wires board)
+  unfolding All wordBufferReasons hasNumberIn reasonAt
+  buffers-all =
+      let ns = wordBufferReasonNumbers in
+      (unless-fine ns _ 7 tt, (unless-fine ns _ 9 tt, (unless-fine ns _ 10 tt, tt)))
 
   pub record LentPassed : Type 0 where
     pub tapeLength : length tape ≡ size .conditional
@@ -62,15 +59,15 @@ module _ (i k : ℕ) (size : Size) (tape wires board : List ℕ) where
       let t = eqb (length tape) (size .conditional) in
       let u = eqb (length wires) (i + size .gates) in
       let v = eqb (length board) (size .conditional + k) in
-      let q = lent-outcome t u v (sym (lent-by t u v refl refl refl) ∙ e) in
+      let q = passed-by t Nowhere u v (sym (lent-by t u v refl refl refl) ∙ e) in
       record {
         tapeLength = eqb-true (length tape) (size .conditional) (q .0);
-        wiresLength = eqb-true (length wires) (i + size .gates) (q .1);
-        boardLength = eqb-true (length board) (size .conditional + k) (q .2);
+        wiresLength = eqb-true (length wires) (i + size .gates) (q .2);
+        boardLength = eqb-true (length board) (size .conditional + k) (q .3);
       }
 
   lent-passed-back : LentPassed → firstOf (wordBufferReasons i k size tape wires board) ≡ none
-  unfolding lentFound unless firstOf
+  unfolding lentFound unless foundAt firstOf
   lent-passed-back l =
       lent-by true true true (eq-eqb (length tape) (size .conditional) (l .tapeLength))
       (eq-eqb (length wires) (i + size .gates) (l .wiresLength))
@@ -169,42 +166,53 @@ first-last true (none ∷ os) = first-last true os
 first-last true (some r ∷ os) = refl
 
 -- what the tests of the kind answer for one jury
-pub alone-kind : (s : Shape) (xs : List ℕ) → kindReason s xs ≡ kindFound (isRanking s) (badRow s xs) (clash s xs) (notWeakOrder s xs)
-unfolding kindReason kindFound gradedReasons rankedReasons
+pub alone-kind : (s : Shape) (xs : List ℕ) → firstOf (kindReasons s xs) ≡ kindFound (isRanking s) (badRow s xs) (clash s xs) (notWeakOrder s xs)
+unfolding kindReasons kindFound gradedReasons rankedReasons
 alone-kind s xs = refl
 
 module _ (s : Shape) (words : List ℕ) where
   -- what the tests of the kind answer over all juries
-  pub wordKind : Option Reason
-  wordKind = firstOf (cond (isRanking s) (wordRankedReasons s words) (wordGradedReasons s words))
-
-  pub word-kind : wordKind ≡ kindFound (isRanking s) (over (λ j. badRow s (laneOf j words)))
+  pub word-kind : firstOf (wordKindReasons s words) ≡ kindFound (isRanking s) (over (λ j. badRow s (laneOf j words)))
       (over (λ j. clash s (laneOf j words))) (over (λ j. notWeakOrder s (laneOf j words)))
-  unfolding wordKind kindFound wordGradedReasons wordRankedReasons firstJury
+  unfolding wordKindReasons kindFound wordGradedReasons wordRankedReasons firstJury
   word-kind = refl
 
-  pub graded-kind : isRanking s ≡ false → wordKind ≡ firstOf (wordGradedReasons s words)
-  unfolding wordKind
-  graded-kind e = ap (λ (t : Bool). firstOf (cond t (wordRankedReasons s words) (wordGradedReasons s words))) e
+  pub graded-words : isRanking s ≡ false → wordKindReasons s words ≡ wordGradedReasons s words
+  unfolding wordKindReasons
+  graded-words e = ap (λ (t : Bool). cond t (wordRankedReasons s words) (wordGradedReasons s words)) e
 
-  pub ranked-kind : isRanking s ≡ true → wordKind ≡ firstOf (wordRankedReasons s words)
-  unfolding wordKind
-  ranked-kind e = ap (λ (t : Bool). firstOf (cond t (wordRankedReasons s words) (wordGradedReasons s words))) e
+  pub ranked-words : isRanking s ≡ true → wordKindReasons s words ≡ wordRankedReasons s words
+  unfolding wordKindReasons
+  ranked-words e = ap (λ (t : Bool). cond t (wordRankedReasons s words) (wordGradedReasons s words)) e
 
-  pub ballots-by : (t : Bool) → eqb (length words) (ballotBytes s) ≡ t → firstOf (wordBallotReasons s words) ≡ ballotsFound t wordKind
-  unfolding wordBallotReasons wordKind
+  graded-all : All kindReasonNumbers (wordGradedReasons s words)
+  unfolding All wordGradedReasons hasNumberIn reasonAt
+  graded-all = (found-fine kindReasonNumbers 6 _ (λ j. tt), tt)
+
+  ranked-all : All kindReasonNumbers (wordRankedReasons s words)
+  unfolding All wordRankedReasons hasNumberIn reasonAt
+  ranked-all = (found-fine kindReasonNumbers 11 _ (λ j. tt), (found-fine kindReasonNumbers 12 _ (λ j. tt), tt))
+
+  pub kind-all : All kindReasonNumbers (wordKindReasons s words)
+  kind-all = either (isRanking s)
+      (λ e. subst (All kindReasonNumbers) (sym (ranked-words e)) ranked-all)
+      (λ e. subst (All kindReasonNumbers) (sym (graded-words e)) graded-all)
+
+  pub ballots-by : (t : Bool) → eqb (length words) (ballotBytes s) ≡ t
+      → firstOf (wordBallotReasons s words) ≡ ballotsFound t (firstOf (wordKindReasons s words))
+  unfolding wordBallotReasons
   ballots-by t e =
-      first-last (eqb (length words) (ballotBytes s)) (cond (isRanking s) (wordRankedReasons s words) (wordGradedReasons s words))
-      ∙ ap (λ (b : Bool). ballotsFound b (firstOf (cond (isRanking s) (wordRankedReasons s words) (wordGradedReasons s words)))) e
+      first-last (eqb (length words) (ballotBytes s)) (wordKindReasons s words)
+      ∙ ap (λ (b : Bool). ballotsFound b (firstOf (wordKindReasons s words))) e
 
   pub record BallotsPassed : Type 0 where
     pub size : length words ≡ ballotBytes s
-    pub kinds : (j : ℕ) → j < laneCount → kindReason s (laneOf j words) ≡ none
+    pub kinds : (j : ℕ) → j < laneCount → firstOf (kindReasons s (laneOf j words)) ≡ none
 
   ballots-passed : firstOf (wordBallotReasons s words) ≡ none → BallotsPassed
   ballots-passed e =
       let t = eqb (length words) (ballotBytes s) in
-      let q = ballots-outcome t wordKind (sym (ballots-by t refl) ∙ e) in
+      let q = ballots-outcome t (firstOf (wordKindReasons s words)) (sym (ballots-by t refl) ∙ e) in
       record {
         size = eqb-true (length words) (ballotBytes s) (q .0);
         kinds = λ j h.

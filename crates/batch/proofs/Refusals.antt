@@ -1,7 +1,7 @@
 -- A refused call for 64 juries, compared with their single runs.
 -- Assumes nothing.
 use mathlib.Core.Path.{_≡_, _∙_, refl, sym, ap, subst}
-use mathlib.Core.Bool.{Bool, true, false, _||_, true≢false}
+use mathlib.Core.Bool.{Bool, true, false, not, true≢false}
 use mathlib.Core.Logic.{_≢_}
 use mathlib.Core.Option.{Option, none, some}
 use mathlib.Core.List.{List}
@@ -9,7 +9,8 @@ use Prim.Native.Nat.{ℕ, zero, suc, _+_, _<_}
 use native.Mathlib.Omega.{arith}
 use lib.Dec.{T, eqb}
 use lib.ListN.{length}
-use borrow.Author.Tests.{eqb-true}
+use Rattle.basics.specs.Lists.{all}
+use Rattle.basics.proofs.Flags.{T-true, true-T, never-true}
 use Rattle.gates.specs.Gate.{gatesOf}
 use Rattle.gates.specs.declared.place.Place.{Place}
 use Rattle.gates.specs.declared.place.Place.the-variants.{At, Nowhere}
@@ -18,27 +19,23 @@ use Rattle.jury.specs.declared.shape.Shape.{Shape}
 use Rattle.jury.specs.Shape.{isRanking, ballotBytes}
 use Rattle.jury.specs.Reason.{Reason, reasonAt, unless, foundAt, firstOf}
 use Rattle.jury.specs.Rankings.{firstOver, orElse}
-use Rattle.jury.proofs.BallotLaws.{judged, kindReason, judged-by}
+use Rattle.jury.specs.Ballots.{kindReasons, kindReasonNumbers}
+use Rattle.jury.proofs.BallotLaws.{judged, judged-by}
 use Rattle.jury.proofs.Searches.{none-first}
-use Rattle.tally.specs.Answer.{refused, outcome, hasNumberIn, sizeOf}
-use Rattle.tally.specs.Test.{testReasons, testOutcome}
+use Rattle.tally.specs.Answer.{refused, hasNumberIn, sizeOf}
+use Rattle.tally.specs.Test.{testReasons, testReasonNumbers}
 use Rattle.tally.specs.Run.{RunResult, bufferReasons, runReasons, runResultAfter}
 use Rattle.tally.proofs.TestReasons as test
 use Rattle.tally.proofs.RunReasons as single
-use Rattle.tally.proofs.Numbering as numbering
+use Rattle.tally.proofs.RunReasons.{lentFound}
+use Rattle.tally.proofs.Numbering.{first-number, number-passes, test-all}
 use Rattle.batch_lanes.specs.Lane.{laneCount, laneOf}
 use Rattle.batch_lanes.proofs.ListLaws.{lanes-length, lanes-bits}
 use Rattle.batch.specs.Call.{Call}
-use Rattle.batch.specs.Ballots.{inJury}
-use Rattle.batch.specs.Run.{wordBufferReasons, batchReasons, batchResultAfter, batchResult}
+use Rattle.batch.specs.Ballots.{inJury, wordKindReasons}
+use Rattle.batch.specs.Run.{wordBufferReasons, wordBufferReasonNumbers, batchReasons, batchResultAfter, batchResult}
 use Rattle.batch.specs.Theorems.{runAlone, isOfBallots, RefusedAsAlone, FaultAsAlone}
-use Rattle.batch.proofs.Reasons.{in-no-jury, none-over, over, lentFound, lent-by, badRow, clash, notWeakOrder, kindFound, none-in-juries, ballotsFound, alone-kind, wordKind, word-kind, ballots-by, batch-first, result-by}
-
--- the tests of the buffers, if no tape byte is above 1
-lent-bits : (t u v : Bool) → single.lentFound t Nowhere u v ≡ lentFound t u v
-unfolding single.lentFound lentFound unless foundAt firstOf
-lent-bits true u v = refl
-lent-bits false u v = refl
+use Rattle.batch.proofs.Reasons.{in-no-jury, none-over, over, lent-by, buffers-all, badRow, clash, notWeakOrder, kindFound, none-in-juries, ballotsFound, alone-kind, word-kind, kind-all, ballots-by, batch-first, result-by}
 
 -- equal reasons have equal numbers
 number-is : (n place : ℕ) (r : Reason) → some (reasonAt n place) ≡ some r → n ≡ r .number
@@ -49,32 +46,17 @@ place-is : (n place : ℕ) (r : Reason) → some (reasonAt n place) ≡ some r �
 unfolding reasonAt
 place-is n place r e = let same : reasonAt n place ≡ r = cc in ap (λ (x : Reason). At (x .place)) same
 
--- no reason of buffers or of a list is about the contents of ballots
-other : (n place : ℕ) (r : Reason) → isOfBallots (reasonAt n 0) ≡ false → some (reasonAt n place) ≡ some r → isOfBallots r ≡ false
+-- a reason with one of these numbers is not about the contents of ballots
+other : (ns : List ℕ) → T (all (λ n. not (hasNumberIn kindReasonNumbers (reasonAt n 0))) ns) → (r : Reason) → T (hasNumberIn ns r)
+    → isOfBallots r ≡ false
 unfolding isOfBallots hasNumberIn reasonAt
-other n place r f e = ap (λ (m : ℕ). eqb m 6 || (eqb m 11 || (eqb m 12 || false))) (sym (number-is n place r e)) ∙ f
-
-lent-other : (t u v : Bool) (r : Reason) → lentFound t u v ≡ some r → isOfBallots r ≡ false
-unfolding lentFound unless firstOf isOfBallots hasNumberIn reasonAt
-lent-other false u v r e = other 7 0 r refl e
-lent-other true false v r e = other 9 0 r refl e
-lent-other true true false r e = other 10 0 r refl e
-lent-other true true true r e = let z : _≡_ {A = ℕ} 0 1 = cc in absurd (omega arith)
-
-abbrev OneToThree : ℕ → Type 0
-OneToThree m = T (eqb m 1 || (eqb m 2 || (eqb m 3 || false)))
-
-small-other : (m : ℕ) (a b c : Bool) → eqb m 6 ≡ a → eqb m 11 ≡ b → eqb m 12 ≡ c → OneToThree m → (a || (b || (c || false))) ≡ false
-small-other m true b c e f g h = absurd (subst (λ (m : ℕ). OneToThree m) (eqb-true m 6 e) h)
-small-other m false true c e f g h = absurd (subst (λ (m : ℕ). OneToThree m) (eqb-true m 11 f) h)
-small-other m false false true e f g h = absurd (subst (λ (m : ℕ). OneToThree m) (eqb-true m 12 g) h)
-small-other m false false false e f g h = refl
+other ns none-of-them r h =
+    let its-number = number-passes (λ n. not (hasNumberIn kindReasonNumbers (reasonAt n 0))) ns r none-of-them h in
+    never-true (isOfBallots r) (λ e. subst (λ (t : Bool). T (not t)) e its-number)
 
 test-other : (s : Shape) (table : List ℕ) (r : Reason) → firstOf (testReasons s table) ≡ some r → isOfBallots r ≡ false
-unfolding testOutcome outcome isOfBallots hasNumberIn
-test-other s table r e =
-    small-other (r .number) (eqb (r .number) 6) (eqb (r .number) 11) (eqb (r .number) 12) refl refl refl
-    (numbering.test-number s table r (ap (λ (o : Option Reason). outcome o (sizeOf (gatesOf table))) e))
+unfolding all hasNumberIn reasonAt
+test-other s table r e = other testReasonNumbers tt r (first-number testReasonNumbers (testReasons s table) (test-all s table) r e)
 
 -- p is the first of m juries in which something is found
 abbrev Found : ℕ → ℕ → (ℕ → Place) → Type 0
@@ -121,13 +103,10 @@ unfolding single.firstOfThree test.orElse ballotsFound unless firstOf
 kind-alone k l r e = ap (λ (x : Option Reason). single.firstOfThree none (ballotsFound true x) l) e
 
 -- the reasons of the shape's kind are about the contents of ballots
-kind-number : (t : Bool) (p c g : Place) (r : Reason) → kindFound t p c g ≡ some r → isOfBallots r ≡ true
-unfolding kindFound foundAt firstOf isOfBallots hasNumberIn
-kind-number true p (At i) g r e = ap (λ (m : ℕ). eqb m 6 || (eqb m 11 || (eqb m 12 || false))) (sym (number-is 11 i r e))
-kind-number true p Nowhere (At i) r e = ap (λ (m : ℕ). eqb m 6 || (eqb m 11 || (eqb m 12 || false))) (sym (number-is 12 i r e))
-kind-number true p Nowhere Nowhere r e = let z : _≡_ {A = ℕ} 0 1 = cc in absurd (omega arith)
-kind-number false (At i) c g r e = ap (λ (m : ℕ). eqb m 6 || (eqb m 11 || (eqb m 12 || false))) (sym (number-is 6 i r e))
-kind-number false Nowhere c g r e = let z : _≡_ {A = ℕ} 0 1 = cc in absurd (omega arith)
+kind-number : (s : Shape) (words : List ℕ) (r : Reason) → firstOf (wordKindReasons s words) ≡ some r → isOfBallots r ≡ true
+unfolding isOfBallots
+kind-number s words r e =
+    T-true (hasNumberIn kindReasonNumbers r) (first-number kindReasonNumbers (wordKindReasons s words) (kind-all s words) r e)
 
 -- a fault over all juries is one of jury j₀, and no jury before has a fault with the same number; if the number is
 -- 12, no jury has 11
@@ -219,14 +198,14 @@ module _ (c : Call) where
 
   batch-reason : firstOf (batchReasons c)
       ≡ single.firstOfThree (firstOf (testReasons (c .shape) (c .table)))
-      (ballotsFound sizeRight (wordKind (c .shape) (c .ballots))) (lentFound tapeRight wiresRight boardRight)
+      (ballotsFound sizeRight (firstOf (wordKindReasons (c .shape) (c .ballots)))) (lentFound tapeRight Nowhere wiresRight boardRight)
   batch-reason =
       batch-first c
       ∙ ap (λ (o : Option Reason). single.firstOfThree (firstOf (testReasons (c .shape) (c .table))) o
       (firstOf (wordBufferReasons (ballotBytes (c .shape)) (c .shape .candidates) (sizeOf (gatesOf (c .table)))
       (c .tape) (c .wires) (c .board))))
       (ballots-by (c .shape) (c .ballots) sizeRight refl)
-      ∙ ap (single.firstOfThree (firstOf (testReasons (c .shape) (c .table))) (ballotsFound sizeRight (wordKind (c .shape) (c .ballots))))
+      ∙ ap (single.firstOfThree (firstOf (testReasons (c .shape) (c .table))) (ballotsFound sizeRight (firstOf (wordKindReasons (c .shape) (c .ballots)))))
       (lent-by (ballotBytes (c .shape)) (c .shape .candidates) (sizeOf (gatesOf (c .table))) (c .tape) (c .wires)
       (c .board) tapeRight wiresRight boardRight refl refl refl)
 
@@ -234,27 +213,38 @@ module _ (c : Call) where
       (runReasons (c .shape) (c .table) (laneOf j (c .ballots)) (laneOf j (c .tape)) (laneOf j (c .wires))
       (laneOf j (c .board)))
       ≡ single.firstOfThree (firstOf (testReasons (c .shape) (c .table)))
-      (ballotsFound sizeRight (kindReason (c .shape) (laneOf j (c .ballots))))
-      (lentFound tapeRight wiresRight boardRight)
+      (ballotsFound sizeRight (firstOf (kindReasons (c .shape) (laneOf j (c .ballots)))))
+      (lentFound tapeRight Nowhere wiresRight boardRight)
   alone-reason j =
       single.run-first (c .shape) (c .table) (laneOf j (c .ballots)) (laneOf j (c .tape)) (laneOf j (c .wires)) (laneOf j (c .board))
       ∙ ap (λ (o : Option Reason). single.firstOfThree (firstOf (testReasons (c .shape) (c .table))) o
       (firstOf (bufferReasons (ballotBytes (c .shape)) (c .shape .candidates) (sizeOf (gatesOf (c .table)))
       (laneOf j (c .tape)) (laneOf j (c .wires)) (laneOf j (c .board)))))
       (judged-by (c .shape) (laneOf j (c .ballots)) sizeRight Nowhere
-      (kindReason (c .shape) (laneOf j (c .ballots)))
+      (firstOf (kindReasons (c .shape) (laneOf j (c .ballots))))
       (ap (λ (n : ℕ). eqb n (ballotBytes (c .shape))) (lanes-length j (c .ballots)))
       (none-above 0 (laneOf j (c .ballots)) (lanes-bits j (c .ballots))) refl
-      ∙ judged-bits sizeRight (kindReason (c .shape) (laneOf j (c .ballots))))
+      ∙ judged-bits sizeRight (firstOf (kindReasons (c .shape) (laneOf j (c .ballots)))))
       ∙ ap (single.firstOfThree (firstOf (testReasons (c .shape) (c .table)))
-      (ballotsFound sizeRight (kindReason (c .shape) (laneOf j (c .ballots)))))
+      (ballotsFound sizeRight (firstOf (kindReasons (c .shape) (laneOf j (c .ballots))))))
       (single.lent-by (ballotBytes (c .shape)) (c .shape .candidates) (sizeOf (gatesOf (c .table)))
       (laneOf j (c .tape)) (laneOf j (c .wires)) (laneOf j (c .board)) tapeRight Nowhere wiresRight boardRight
       (ap (λ (n : ℕ). eqb n (sizeOf (gatesOf (c .table)) .conditional)) (lanes-length j (c .tape)))
       (none-above 0 (laneOf j (c .tape)) (lanes-bits j (c .tape)))
       (ap (λ (n : ℕ). eqb n (ballotBytes (c .shape) + sizeOf (gatesOf (c .table)) .gates)) (lanes-length j (c .wires)))
-      (ap (λ (n : ℕ). eqb n (sizeOf (gatesOf (c .table)) .conditional + c .shape .candidates)) (lanes-length j (c .board)))
-      ∙ lent-bits tapeRight wiresRight boardRight)
+      (ap (λ (n : ℕ). eqb n (sizeOf (gatesOf (c .table)) .conditional + c .shape .candidates)) (lanes-length j (c .board))))
+
+  -- no reason of the buffers is about the contents of ballots
+  lent-other : (r : Reason) → lentFound tapeRight Nowhere wiresRight boardRight ≡ some r → isOfBallots r ≡ false
+  unfolding all hasNumberIn reasonAt
+  lent-other r e =
+      let size = sizeOf (gatesOf (c .table)) in
+      other wordBufferReasonNumbers tt r
+      (first-number wordBufferReasonNumbers
+      (wordBufferReasons (ballotBytes (c .shape)) (c .shape .candidates) size (c .tape) (c .wires) (c .board))
+      (buffers-all (ballotBytes (c .shape)) (c .shape .candidates) size (c .tape) (c .wires) (c .board)) r
+      (lent-by (ballotBytes (c .shape)) (c .shape .candidates) size (c .tape) (c .wires) (c .board) tapeRight wiresRight
+      boardRight refl refl refl ∙ e))
 
   -- the reason of a refused call, and of a refused single run
   batch-after : (o : Option Reason) (r : Reason) → batchResultAfter o c .answer ≡ refused r → o ≡ some r
@@ -299,33 +289,31 @@ module _ (c : Call) where
 abbrev rows : Shape → List ℕ → ℕ → Place
 rows s ballots j = badRow s (laneOf j ballots)
 
-abbrev not_asymmetric : Shape → List ℕ → ℕ → Place
-not_asymmetric s ballots j = clash s (laneOf j ballots)
+abbrev clashes : Shape → List ℕ → ℕ → Place
+clashes s ballots j = clash s (laneOf j ballots)
 
-abbrev not_weak_order : Shape → List ℕ → ℕ → Place
-not_weak_order s ballots j = notWeakOrder s (laneOf j ballots)
+abbrev disorders : Shape → List ℕ → ℕ → Place
+disorders s ballots j = notWeakOrder s (laneOf j ballots)
 
 pub refused-as-alone : RefusedAsAlone
 refused-as-alone c r e n j h =
     refused-alone c j r
     (alone-reason c j
-    ∙ same-otherwise (firstOf (testReasons (c .shape) (c .table))) _ (wordKind (c .shape) (c .ballots))
-    (kindReason (c .shape) (laneOf j (c .ballots))) _ r
+    ∙ same-otherwise (firstOf (testReasons (c .shape) (c .table))) _ (firstOf (wordKindReasons (c .shape) (c .ballots)))
+    (firstOf (kindReasons (c .shape) (laneOf j (c .ballots)))) _ r
     (λ none. alone-kind (c .shape) (laneOf j (c .ballots))
-    ∙ none-in-juries (isRanking (c .shape)) (rows (c .shape) (c .ballots)) (not_asymmetric (c .shape) (c .ballots))
-    (not_weak_order (c .shape) (c .ballots)) (sym (word-kind (c .shape) (c .ballots)) ∙ none) j h)
-    (λ k. true≢false
-    (sym (kind-number (isRanking (c .shape)) (over (rows (c .shape) (c .ballots)))
-    (over (not_asymmetric (c .shape) (c .ballots))) (over (not_weak_order (c .shape) (c .ballots))) r
-    (sym (word-kind (c .shape) (c .ballots)) ∙ k)) ∙ n))
+    ∙ none-in-juries (isRanking (c .shape)) (rows (c .shape) (c .ballots)) (clashes (c .shape) (c .ballots))
+    (disorders (c .shape) (c .ballots)) (sym (word-kind (c .shape) (c .ballots)) ∙ none) j h)
+    (λ k. true≢false (sym (kind-number (c .shape) (c .ballots) r k) ∙ n))
     (sym (batch-reason c) ∙ batch-refused c r e))
 
 no-reason : (q : Reason) → none ≡ some q → ⊥
 no-reason q z = let o : _≡_ {A = ℕ} 0 1 = cc in omega arith
 
 not-4 : (q : Reason) → isOfBallots q ≡ true → q .number ≢ 4
-unfolding isOfBallots hasNumberIn
-not-4 q h m = true≢false (sym h ∙ ap (λ (m : ℕ). eqb m 6 || (eqb m 11 || (eqb m 12 || false))) m)
+unfolding all isOfBallots
+not-4 q h m = subst (λ (n : ℕ). T (not (eqb n 4))) m
+    (number-passes (λ n. not (eqb n 4)) kindReasonNumbers q tt (true-T (hasNumberIn kindReasonNumbers q) h))
 
 same-number : (r : Reason) (place : ℕ) → isOfBallots r ≡ true → isOfBallots (reasonAt (r .number) place) ≡ true
 unfolding isOfBallots hasNumberIn reasonAt
@@ -337,20 +325,20 @@ clash-of-ballots place = refl
 
 pub fault-as-alone : FaultAsAlone
 fault-as-alone c r e n =
-    let l = lentFound (tapeRight c) (wiresRight c) (boardRight c) in
+    let l = lentFound (tapeRight c) Nowhere (wiresRight c) (boardRight c) in
     let o = is-of-kind (firstOf (testReasons (c .shape) (c .table))) (sizeRight c)
-    (wordKind (c .shape) (c .ballots)) l r (λ t. true≢false (sym n ∙ test-other (c .shape) (c .table) r t))
-    (λ t. true≢false (sym n ∙ lent-other _ _ _ r t)) (not-4 r n) (sym (batch-reason c) ∙ batch-refused c r e) in
-    let f = faulty (isRanking (c .shape)) (rows (c .shape) (c .ballots)) (not_asymmetric (c .shape) (c .ballots))
-    (not_weak_order (c .shape) (c .ballots)) (over (rows (c .shape) (c .ballots)))
-    (over (not_asymmetric (c .shape) (c .ballots))) (over (not_weak_order (c .shape) (c .ballots))) r refl refl
+    (firstOf (wordKindReasons (c .shape) (c .ballots))) l r (λ t. true≢false (sym n ∙ test-other (c .shape) (c .table) r t))
+    (λ t. true≢false (sym n ∙ lent-other c r t)) (not-4 r n) (sym (batch-reason c) ∙ batch-refused c r e) in
+    let f = faulty (isRanking (c .shape)) (rows (c .shape) (c .ballots)) (clashes (c .shape) (c .ballots))
+    (disorders (c .shape) (c .ballots)) (over (rows (c .shape) (c .ballots)))
+    (over (clashes (c .shape) (c .ballots))) (over (disorders (c .shape) (c .ballots))) r refl refl
     refl (sym (word-kind (c .shape) (c .ballots)) ∙ o .2) in (
       f .0,
       (
         f .1 .0,
         refused-alone c (r .place) (reasonAt (r .number) (f .1 .0))
             (passed (o .0) (o .1) (r .place)
-            ∙ kind-alone (kindReason (c .shape) (laneOf (r .place) (c .ballots))) l (reasonAt (r .number) (f .1 .0))
+            ∙ kind-alone (firstOf (kindReasons (c .shape) (laneOf (r .place) (c .ballots)))) l (reasonAt (r .number) (f .1 .0))
             (alone-kind (c .shape) (laneOf (r .place) (c .ballots)) ∙ f .1 .1)),
       ),
       λ j place h x. f .2 j place h (its-kind (o .0) (o .1) j (reasonAt (r .number) place) (same-number r place n) x),
@@ -360,16 +348,16 @@ fault-as-alone c r e n =
     passed : firstOf (testReasons (c .shape) (c .table)) ≡ none → sizeRight c ≡ true → (j : ℕ)
         → firstOf (runReasons (c .shape) (c .table) (laneOf j (c .ballots)) (laneOf j (c .tape))
         (laneOf j (c .wires)) (laneOf j (c .board)))
-        ≡ single.firstOfThree none (ballotsFound true (kindReason (c .shape) (laneOf j (c .ballots))))
-        (lentFound (tapeRight c) (wiresRight c) (boardRight c))
+        ≡ single.firstOfThree none (ballotsFound true (firstOf (kindReasons (c .shape) (laneOf j (c .ballots)))))
+        (lentFound (tapeRight c) Nowhere (wiresRight c) (boardRight c))
     passed a b j = alone-reason c j ∙ rw (a, b)
 
     -- a single run that is refused for the contents of its ballots
     its-kind : firstOf (testReasons (c .shape) (c .table)) ≡ none → sizeRight c ≡ true → (j : ℕ) (q : Reason) → isOfBallots q ≡ true
         → runAlone j c .answer ≡ refused q
         → kindFound (isRanking (c .shape)) (rows (c .shape) (c .ballots) j)
-        (not_asymmetric (c .shape) (c .ballots) j) (not_weak_order (c .shape) (c .ballots) j) ≡ some q
+        (clashes (c .shape) (c .ballots) j) (disorders (c .shape) (c .ballots) j) ≡ some q
     its-kind a b j q m x =
         sym (alone-kind (c .shape) (laneOf j (c .ballots)))
-        ∙ is-of-kind none true (kindReason (c .shape) (laneOf j (c .ballots))) (lentFound (tapeRight c) (wiresRight c) (boardRight c)) q
-        (λ z. no-reason q z) (λ t. true≢false (sym m ∙ lent-other _ _ _ q t)) (not-4 q m) (sym (passed a b j) ∙ alone-refused c j q x) .2
+        ∙ is-of-kind none true (firstOf (kindReasons (c .shape) (laneOf j (c .ballots)))) (lentFound (tapeRight c) Nowhere (wiresRight c) (boardRight c)) q
+        (λ z. no-reason q z) (λ t. true≢false (sym m ∙ lent-other c q t)) (not-4 q m) (sym (passed a b j) ∙ alone-refused c j q x) .2

@@ -1,10 +1,10 @@
 -- Each jury's bits in a run for 64 are those of its single run, so the three demands hold for it.
 -- Assumes nothing.
 use mathlib.Core.Path.{_≡_, _∙_, refl, sym, ap, subst}
-use mathlib.Core.Bool.{Bool, true, false, cond}
+use mathlib.Core.Bool.{true}
 use mathlib.Core.Option.{Option, none, some}
 use mathlib.Core.Logic.{⊎-elim}
-use mathlib.Core.List.{List, [], _∷_, _++_}
+use mathlib.Core.List.{List, _++_}
 use Prim.Native.Nat.{ℕ, _+_, _-_, _%_, _≤_, _<_}
 use native.Mathlib.Nat.{add-zero, mod-lt, zero-lt-suc}
 use native.Mathlib.Omega.{arith}
@@ -21,15 +21,16 @@ use Rattle.gates.proofs.Laws.{AllGood, all-good, wires-bits, wire-bit, output-i
 use Rattle.gates.specs.declared.place.Place.the-variants.{Nowhere}
 use Rattle.gates.proofs.Hiding.{board-finished, none-above}
 use Rattle.jury.specs.declared.shape.Shape.{Shape}
-use Rattle.jury.specs.Shape.{isRanking, ballotBytes}
+use Rattle.jury.specs.Shape.{ballotBytes}
 use Rattle.jury.specs.Reason.{Reason, reasonAt, firstOf}
-use Rattle.jury.specs.Ballots.{ballotReasons}
-use Rattle.jury.proofs.BallotLaws.{kindReason, judged-by, judged-kind}
+use Rattle.jury.specs.Ballots.{kindReasons, kindReasonNumbers, ballotReasons}
+use Rattle.jury.proofs.BallotLaws.{judged-by, judged-kind}
 use Rattle.jury.proofs.AcceptedLaws.{accepted-back}
 use Rattle.jury.proofs.AcceptedLaws as ballots-laws
+use Rattle.basics.specs.Lists.{all}
 use Rattle.basics.proofs.Cases.{below-or-not}
 use Rattle.tally.specs.Answer.{refused, accepted, hasNumberIn, Size, sizeOf}
-use Rattle.tally.specs.Test.{testReasons}
+use Rattle.tally.specs.Test.{testReasons, testReasonNumbers}
 use Rattle.tally.specs.SaysWhoWins.{SaysWhoWins}
 use Rattle.tally.specs.Memory.{Each}
 use Rattle.tally.specs.Run.{RunResult, runResult}
@@ -39,14 +40,14 @@ use Rattle.tally.proofs.TestReasons.{never}
 use Rattle.tally.proofs.RunReasons.{RunPassed, run-passed}
 use Rattle.tally.proofs.Hiding.{ran-accepted, run-answer, run-wires, run-board, board-tells-no-more}
 use Rattle.tally.proofs.Demands.{three-demands}
-use Rattle.tally.proofs.Numbering.{Fine, All, FineSaid, first-fine, both, unless-fine, found-fine, list-fine, refused-fine}
+use Rattle.tally.proofs.Numbering.{All, first-number, both, unless-fine, wider, test-all}
 use Rattle.batch_lanes.specs.Lane.{laneCount, laneOf, wordsOf}
 use Rattle.batch_lanes.proofs.ListLaws.{lanes-length, lanes-bits, lanes-zeros, lanes-of-words, length-words}
-use Rattle.batch.specs.Ballots.{wordGradedReasons, wordRankedReasons, wordBallotReasons}
+use Rattle.batch.specs.Ballots.{wordKindReasons, wordBallotReasons}
 use Rattle.batch.specs.Call.{Call}
-use Rattle.batch.specs.Run.{wordBufferReasons, batchReasons, boardAlone, batchResultAfter, batchResult}
+use Rattle.batch.specs.Run.{wordBufferReasons, wordBufferReasonNumbers, batchReasons, batchReasonNumbers, boardAlone, batchResultAfter, batchResult}
 use Rattle.batch.specs.Theorems.{runAlone, EachAsAlone, AcceptedIfAll, BatchMemory, BatchAccuracy, BatchHiding}
-use Rattle.batch.proofs.Reasons.{BatchPassed, batch-passed, batch-passed-back, result-by}
+use Rattle.batch.proofs.Reasons.{buffers-all, kind-all, BatchPassed, batch-passed, batch-passed-back, result-by}
 
 -- every byte of a finished board of good gates on bits is a bit
 board-bits : (ws : List ℕ) (gs : List Gate) (k : ℕ) (tape : List ℕ) → AllGood (length ws) gs → Bits ws → k
@@ -79,10 +80,10 @@ board-bits ws gs k tape good bits enough l x = ⊎-elim shown closing (below-or-
 
 -- for bits of the right length, only the tests of the shape's kind decide
 by-kind : (s : Shape) (xs : List ℕ) → length xs ≡ ballotBytes s → ((i : ℕ) → getD xs i 0 ≤ 1)
-    → firstOf (ballotReasons s xs) ≡ kindReason s xs
+    → firstOf (ballotReasons s xs) ≡ firstOf (kindReasons s xs)
 by-kind s xs size bits =
-    judged-by s xs true Nowhere (kindReason s xs) (eq-eqb (length xs) (ballotBytes s) size) (none-above 0 xs bits)
-    refl ∙ judged-kind (kindReason s xs)
+    judged-by s xs true Nowhere (firstOf (kindReasons s xs)) (eq-eqb (length xs) (ballotBytes s) size) (none-above 0 xs bits)
+    refl ∙ judged-kind (firstOf (kindReasons s xs))
 
 module _ (c : Call) where
   -- if a call answers G and C, no reason applies, and both numbers are the list's
@@ -213,37 +214,25 @@ accepted-as-all c size e =
         }
 
 -- the numbers of the call's reasons
-concerned : List ℕ
-concerned = 1 ∷ 2 ∷ 3 ∷ 4 ∷ 6 ∷ 11 ∷ 12 ∷ 7 ∷ 9 ∷ 10 ∷ []
-
-kinds-concern : (s : Shape) (words : List ℕ) (ranking : Bool)
-    → All concerned (cond ranking (wordRankedReasons s words) (wordGradedReasons s words))
-unfolding All wordRankedReasons wordGradedReasons hasNumberIn reasonAt concerned
-kinds-concern s words true = (found-fine concerned 11 _ (λ i. tt), (found-fine concerned 12 _ (λ i. tt), tt))
-kinds-concern s words false = (found-fine concerned 6 _ (λ i. tt), tt)
-
-all-concern : (c : Call) → All concerned (batchReasons c)
-unfolding batchReasons All testReasons wordBallotReasons wordBufferReasons hasNumberIn reasonAt concerned
-all-concern c =
-    both concerned (testReasons (c .shape) (c .table) ++ wordBallotReasons (c .shape) (c .ballots))
-    (wordBufferReasons (ballotBytes (c .shape)) (c .shape .candidates) (sizeOf (gatesOf (c .table))) (c .tape)
-    (c .wires) (c .board))
-    (both concerned (testReasons (c .shape) (c .table)) (wordBallotReasons (c .shape) (c .ballots))
-    (unless-fine concerned _ 1 tt, (list-fine concerned _ tt (λ g. tt), tt))
-    (unless-fine concerned _ 4 tt, kinds-concern (c .shape) (c .ballots) (isRanking (c .shape))))
-    (unless-fine concerned _ 7 tt, (unless-fine concerned _ 9 tt, (unless-fine concerned _ 10 tt, tt)))
-
-after-fine : (o : Option Reason) (c : Call) → Fine concerned o → FineSaid concerned (batchResultAfter o c .answer)
-unfolding Fine FineSaid batchResultAfter
-after-fine none c f = tt
-after-fine (some r) c f = f
+batch-all : (c : Call) → All batchReasonNumbers (batchReasons c)
+unfolding batchReasons wordBallotReasons All all hasNumberIn reasonAt
+batch-all c =
+    let ns = batchReasonNumbers in
+    let size = sizeOf (gatesOf (c .table)) in
+    let test = testReasons (c .shape) (c .table) in
+    let ballots = wordBallotReasons (c .shape) (c .ballots) in
+    let buffers = wordBufferReasons (ballotBytes (c .shape)) (c .shape .candidates) size (c .tape) (c .wires) (c .board) in
+    both ns (test ++ ballots) buffers
+    (both ns test ballots (wider testReasonNumbers ns tt test (test-all (c .shape) (c .table)))
+    (unless-fine ns _ 4 tt, wider kindReasonNumbers ns tt (wordKindReasons (c .shape) (c .ballots)) (kind-all (c .shape) (c .ballots))))
+    (wider wordBufferReasonNumbers ns tt buffers (buffers-all (ballotBytes (c .shape)) (c .shape .candidates) size (c .tape) (c .wires) (c .board)))
 
 module _ (c : Call) where
   after-refusal : (o : Option Reason) (r : Reason) → batchResultAfter o c .answer ≡ refused r
-      → (batchResultAfter o c .wires ≡ (c .wires)) × (batchResultAfter o c .board ≡ (c .board))
+      → (o ≡ some r) × (batchResultAfter o c .wires ≡ c .wires) × (batchResultAfter o c .board ≡ c .board)
   unfolding batchResultAfter
   after-refusal none r e = never (sizeOf (gatesOf (c .table))) r (sym e)
-  after-refusal (some q) r e = (refl, refl)
+  after-refusal (some q) r e = let same : q ≡ r = cc in (ap some same, refl, refl)
 
   after-lengths : (o : Option Reason) → firstOf (batchReasons c) ≡ o
       → (length (batchResultAfter o c .wires) ≡ length (c .wires)) × (length (batchResultAfter o c .board) ≡ length (c .board))
@@ -256,14 +245,13 @@ module _ (c : Call) where
   after-lengths (some r) e = (refl, refl)
 
 pub batch-memory : BatchMemory
-unfolding batchResult concerned batchResultAfter Each
+unfolding batchResult batchResultAfter Each
 batch-memory c =
     let long = after-lengths c (firstOf (batchReasons c)) refl in
     record {
       number = λ r e.
-          refused-fine concerned (batchResult c .answer) r
-          (after-fine (firstOf (batchReasons c)) c (first-fine concerned (batchReasons c) (all-concern c))) e;
-      refusal = λ r e. let q = after-refusal c (firstOf (batchReasons c)) r e in (q .0, (q .1, tt));
+          first-number batchReasonNumbers (batchReasons c) (batch-all c) r (after-refusal c (firstOf (batchReasons c)) r e .0);
+      refusal = λ r e. let q = after-refusal c (firstOf (batchReasons c)) r e in (q .1, (q .2, tt));
       empties = λ size e. (ap (λ (r : RunResult). r .wires) (result-by c none (batch-accepted c size e .0)), tt);
       lengths = (long .0, (long .1, tt));
     }

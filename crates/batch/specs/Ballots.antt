@@ -33,9 +33,12 @@ unfoldable pub wordRankedReasons : Shape → List ℕ → List (Option Reason)
 wordRankedReasons s words = foundAt 11 (firstJury (firstNotAsymmetric (s .candidates) (s .ballots)) words)
     ∷ foundAt 12 (firstJury (firstNotWeakOrder (s .candidates) (s .ballots)) words) ∷ []
 
+-- The reasons of the shape's kind of ballots.
+unfoldable pub wordKindReasons : Shape → List ℕ → List (Option Reason)
+wordKindReasons s words = cond (isRanking s) (wordRankedReasons s words) (wordGradedReasons s words)
+
 -- The reasons of ballots, in the order of their tests: 4, which counts words, then those of the shape's kind. A bit
 -- is never above 1, so 5 never applies (request 2.11).
 unfoldable pub wordBallotReasons : Shape → List ℕ → List (Option Reason)
 wordBallotReasons s words =
-    unless (eqb (length words) (ballotBytes s)) 4
-    ∷ cond (isRanking s) (wordRankedReasons s words) (wordGradedReasons s words)
+    unless (eqb (length words) (ballotBytes s)) 4 ∷ wordKindReasons s words

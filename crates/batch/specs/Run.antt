@@ -1,6 +1,6 @@
 -- The entry point [lanes]: one list run on 64 juries of one shape; bit j of each number is jury j's (request 2.11).
 use mathlib.Core.Option.{Option, none, some}
-use mathlib.Core.List.{List, _∷_, _++_}
+use mathlib.Core.List.{List, [], _∷_, _++_}
 use Prim.Native.Nat.{ℕ, _+_}
 use lib.ListN.{length, replicate}
 use Rattle.gates.specs.Gate.{gatesOf}
@@ -8,9 +8,10 @@ use Rattle.gates.specs.Wires.{wiresOf}
 use Rattle.gates.specs.Board.{conditionalCount, boardOf}
 use Rattle.jury.specs.Shape.{ballotBytes}
 use Rattle.jury.specs.Reason.{Reason, firstOf}
+use Rattle.jury.specs.Ballots.{kindReasonNumbers}
 use Rattle.tally.specs.Answer.{refused, accepted, Size, sizeOf}
-use Rattle.tally.specs.Test.{testReasons}
-use Rattle.tally.specs.Run.{RunResult, tapeReason, tableReasons}
+use Rattle.tally.specs.Test.{testReasons, testReasonNumbers}
+use Rattle.tally.specs.Run.{RunResult, tapeReason, wiresAndBoardReasons}
 use Rattle.batch_lanes.specs.Lane.{laneOf, wordsOf}
 use Rattle.batch.specs.Call.{Call}
 use Rattle.batch.specs.Ballots.{wordBallotReasons}
@@ -18,7 +19,10 @@ use Rattle.batch.specs.Ballots.{wordBallotReasons}
 -- The reasons of tape, wire table and board, in the order 7, 9, 10, for a list with i inputs and k outputs. Each has
 -- as many words as it has bytes in a single run. 8 never applies.
 unfoldable pub wordBufferReasons : ℕ → ℕ → Size → List ℕ → List ℕ → List ℕ → List (Option Reason)
-wordBufferReasons i k size tape wires board = tapeReason size tape ∷ tableReasons i k size wires board
+wordBufferReasons i k size tape wires board = tapeReason size tape ∷ wiresAndBoardReasons i k size wires board
+
+abbrev pub wordBufferReasonNumbers : List ℕ
+wordBufferReasonNumbers = 7 ∷ 9 ∷ 10 ∷ []
 
 -- All reasons, in the order of their tests: 1, 2, 3, 4, then 6 for grades or 11 and 12 for rankings, then 7, 9, 10.
 unfoldable pub batchReasons : Call → List (Option Reason)
@@ -28,6 +32,9 @@ batchReasons c =
     ++ wordBufferReasons (ballotBytes (c .shape)) (c .shape .candidates) (sizeOf (gatesOf (c .table))) (c .tape)
     (c .wires)
     (c .board)
+
+abbrev pub batchReasonNumbers : List ℕ
+batchReasonNumbers = testReasonNumbers ++ 4 ∷ kindReasonNumbers ++ wordBufferReasonNumbers
 
 -- The board of jury j by itself, from its own ballots and tape.
 abbrev pub boardAlone : Call → ℕ → List ℕ

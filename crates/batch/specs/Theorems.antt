@@ -2,10 +2,11 @@
 -- each.
 use mathlib.Core.Path.{_≡_}
 use mathlib.Core.Bool.{Bool, true, false}
-use mathlib.Core.List.{List, [], _∷_}
+use mathlib.Core.List.{List}
 use Prim.Native.Nat.{ℕ, _<_}
 use lib.ListN.{take}
 use Rattle.jury.specs.Reason.{Reason, reasonAt}
+use Rattle.jury.specs.Ballots.{kindReasonNumbers}
 use Rattle.tally.specs.Answer.{refused, accepted, hasNumberIn, Size}
 use Rattle.tally.specs.SaysWhoWins.{SaysWhoWins}
 use Rattle.tally.specs.Memory.{BoardKeepsMemory}
@@ -16,7 +17,7 @@ use Rattle.tally.specs.Hiding.{closingBytes, RunsHide}
 use Rattle.tally.specs.Demands.{listIn}
 use Rattle.batch_lanes.specs.Lane.{laneCount, laneOf}
 use Rattle.batch.specs.Call.{Call}
-use Rattle.batch.specs.Run.{batchResult}
+use Rattle.batch.specs.Run.{batchReasonNumbers, batchResult}
 
 -- The single run of jury j: on its bits of the ballots, the tape, the wire table and the board.
 abbrev pub runAlone : ℕ → Call → RunResult
@@ -42,7 +43,7 @@ AcceptedIfAll =
 
 -- The reasons that are about the contents of ballots: their place is a jury.
 unfoldable pub isOfBallots : Reason → Bool
-isOfBallots = hasNumberIn (6 ∷ 11 ∷ 12 ∷ [])
+isOfBallots = hasNumberIn kindReasonNumbers
 
 -- If a call is refused for any other reason, every single run is refused for the same reason.
 abbrev pub RefusedAsAlone : Type 0
@@ -63,7 +64,7 @@ FaultAsAlone =
 -- Demand 1, as for every call that leaves a board. 5 and 8 never apply.
 abbrev pub BatchMemory : Type 0
 BatchMemory =
-    (c : Call) → BoardKeepsMemory (1 ∷ 2 ∷ 3 ∷ 4 ∷ 6 ∷ 11 ∷ 12 ∷ 7 ∷ 9 ∷ 10 ∷ []) (c .wires) (c .board) (batchResult c)
+    (c : Call) → BoardKeepsMemory batchReasonNumbers (c .wires) (c .board) (batchResult c)
 
 -- Demand 2: with the own list of a shape, a jury's closing bytes are those of its plain count, and say who wins in
 -- that jury.

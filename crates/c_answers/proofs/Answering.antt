@@ -8,7 +8,7 @@ use Prim.Native.Nat.{ℕ, _<_, _≤_}
 use lib.ListN.{length, drop}
 use borrow.Author.Tests.{lt-ltb, le-ltb}
 use Rattle.jury.specs.Reason.{Reason}
-use Rattle.c_answers.specs.Numbers.{eightNumbers, statusOf, shortAnswer, status, answered, CallResult, callResult}
+use Rattle.c_answers.specs.Numbers.{toldNumbers, statusOf, shortAnswer, status, answered, CallResult, callResult}
 use Rattle.c_answers.specs.inner.Puts.{Puts}
 
 -- lists that differ at most in the first two numbers
@@ -16,8 +16,8 @@ pub two : (a b c d : ℕ) (rest : List ℕ) → a ≡ c → b ≡ d → a ∷ b 
 two a b c d rest e f = ap (λ (n : ℕ). n ∷ b ∷ rest) e ∙ ap (λ (n : ℕ). c ∷ n ∷ rest) f
 
 -- equal parts make equal numbers
-pub counted : (o q : Option Reason) (bytes closing : List ℕ) → o ≡ q → bytes ≡ closing → eightNumbers o bytes ≡ eightNumbers q closing
-counted o q bytes closing e f = ap (λ (r : Option Reason). eightNumbers r bytes) e ∙ ap (λ (l : List ℕ). eightNumbers q l) f
+pub counted : (o q : Option Reason) (bytes closing : List ℕ) → o ≡ q → bytes ≡ closing → toldNumbers o bytes ≡ toldNumbers q closing
+counted o q bytes closing e f = ap (λ (r : Option Reason). toldNumbers r bytes) e ∙ ap (λ (l : List ℕ). toldNumbers q l) f
 
 -- the same answer, its numbers given by another expression
 pub puts-same : {needed result : ℕ} {numbers others before after : List ℕ} → numbers ≡ others

@@ -2,10 +2,11 @@
 use mathlib.Core.Option.{Option}
 use mathlib.Core.Bool.{cond}
 use mathlib.Core.List.{List, [], _∷_, _++_}
-use Prim.Native.Nat.{ℕ}
+use Prim.Native.Nat.{ℕ, _+_}
 use lib.Dec.{ltb}
 use lib.ListN.{length, getD, drop}
 use Rattle.jury.specs.declared.shape.Shape.{Shape}
+use Rattle.jury.specs.Shape.{mostCandidates}
 use Rattle.jury.specs.Reason.{Reason}
 use Rattle.tally.specs.Answer.{Outcome, refused, accepted, outcome, Size}
 use Rattle.tally.specs.Measure.{Measures}
@@ -44,12 +45,13 @@ sizeNumbers o = answerNumbers o (sizeTold o)
 abbrev pub measureNumbers : Outcome Measures → List ℕ
 measureNumbers o = answerNumbers o (measureTold o)
 
--- Some calls tell eight numbers, such as the closing bytes of a count. These are zeros on a refusal already.
-abbrev pub eightNumbers : Option Reason → (told : List ℕ) → List ℕ
-eightNumbers reason told = answerNumbers (outcome reason told) told
+-- Some calls give what they tell beside their reason, such as a count its closing bytes. These are zeros on a refusal
+-- already.
+abbrev pub toldNumbers : Option Reason → (told : List ℕ) → List ℕ
+toldNumbers reason told = answerNumbers (outcome reason told) told
 
 -- How many numbers an answer has. Reason and place come first; after them one number, or G and C, or G, C and a
--- third, or eight numbers, or G, C and eight bytes.
+-- third, or all closing bytes, or G, C and all closing bytes.
 abbrev pub oneAnswer : ℕ
 oneAnswer = 3
 
@@ -59,11 +61,11 @@ sizeAnswer = 4
 abbrev pub threeAnswer : ℕ
 threeAnswer = 5
 
-abbrev pub eightAnswer : ℕ
-eightAnswer = 10
+abbrev pub countAnswer : ℕ
+countAnswer = 2 + mostCandidates
 
 abbrev pub tallyAnswer : ℕ
-tallyAnswer = 12
+tallyAnswer = sizeAnswer + mostCandidates
 
 -- The first of the numbers: the reason, 0 if the call is accepted.
 unfoldable pub statusOf : List ℕ → ℕ

@@ -8,9 +8,9 @@ use lib.Dec.{T}
 use lib.ListN.{length}
 use mathlib.Core.Option.{Option}
 use Rattle.jury.specs.Reason.{Reason}
-use Rattle.tally.specs.Answer.{Outcome, refused, accepted, outcome, Size}
+use Rattle.tally.specs.Answer.{Outcome, refused, accepted, outcome, hasNumberIn, Size}
 use Rattle.tally.specs.Measure.{Measures}
-use Rattle.c_answers.specs.Numbers.{oneAnswer, sizeAnswer, threeAnswer, eightAnswer, shortAnswer}
+use Rattle.c_answers.specs.Numbers.{oneAnswer, sizeAnswer, threeAnswer, shortAnswer}
 use Rattle.c_answers.specs.Numbers.{answerNumbers, oneTold, sizeTold, measureTold, status}
 
 -- Whether a call is accepted.
@@ -19,21 +19,24 @@ isAccepted (refused r) = false
 isAccepted (accepted values) = true
 
 -- The status of a call with an answer of this length: 255 exactly if the answer array is too short; else 0 exactly if
--- the call is accepted; else at most the largest number of its reasons.
-pub record StatusReads {Values : Type 0} (last needed : ℕ) (o : Outcome Values) (told answer : List ℕ) : Type 0 where
+-- the call is accepted; else the number of its reason, which is one of `numbers`.
+pub record StatusReads {Values : Type 0} (numbers : List ℕ) (needed : ℕ) (o : Outcome Values) (told answer : List ℕ)
+    : Type 0 where
   pub short : (status needed (answerNumbers o told) answer ≡ shortAnswer) ↔ (length answer < needed)
   pub zero-accepted : needed ≤ length answer → (status needed (answerNumbers o told) answer ≡ 0) ↔ T (isAccepted o)
-  pub reason : needed ≤ length answer → status needed (answerNumbers o told) answer ≤ last
+  pub reason : needed ≤ length answer → (r : Reason) → o ≡ refused r
+      → (status needed (answerNumbers o told) answer ≡ r .number) × T (hasNumberIn numbers r)
 
--- For each kind of answer: the largest number of a reason, the answer array, and the outcome of the call.
-abbrev pub OneStatus : (last : ℕ) (answer : List ℕ) → Outcome ℕ → Type 0
-OneStatus last answer o = StatusReads last oneAnswer o (oneTold o) answer
+-- For each kind of answer: the numbers of the call's reasons, the answer array, and the outcome of the call.
+abbrev pub OneStatus : (numbers answer : List ℕ) → Outcome ℕ → Type 0
+OneStatus numbers answer o = StatusReads numbers oneAnswer o (oneTold o) answer
 
-abbrev pub SizeStatus : (last : ℕ) (answer : List ℕ) → Outcome Size → Type 0
-SizeStatus last answer o = StatusReads last sizeAnswer o (sizeTold o) answer
+abbrev pub SizeStatus : (numbers answer : List ℕ) → Outcome Size → Type 0
+SizeStatus numbers answer o = StatusReads numbers sizeAnswer o (sizeTold o) answer
 
-abbrev pub MeasureStatus : (last : ℕ) (answer : List ℕ) → Outcome Measures → Type 0
-MeasureStatus last answer o = StatusReads last threeAnswer o (measureTold o) answer
+abbrev pub MeasureStatus : (numbers answer : List ℕ) → Outcome Measures → Type 0
+MeasureStatus numbers answer o = StatusReads numbers threeAnswer o (measureTold o) answer
 
-abbrev pub EightStatus : (last : ℕ) (answer : List ℕ) → Option Reason → (told : List ℕ) → Type 0
-EightStatus last answer reason told = StatusReads last eightAnswer (outcome reason told) told answer
+-- The same for a call that gives what it tells beside its reason.
+abbrev pub ToldStatus : (numbers : List ℕ) (needed : ℕ) (answer : List ℕ) → Option Reason → (told : List ℕ) → Type 0
+ToldStatus numbers needed answer reason told = StatusReads numbers needed (outcome reason told) told answer

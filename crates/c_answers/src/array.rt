@@ -1,4 +1,5 @@
 // The lent array in which a call leaves its answer.
+use jury::shape::Shape;
 ghost use mathlib.Core.List.{_∷_};
 ghost use Prim.Native.Nat.{_+_, _≤_};
 ghost use lib.ListN.{length};
@@ -8,16 +9,16 @@ ghost use Rattle.c_answers.specs.inner.Puts.{Puts};
 pub const SHORT_ANSWER: usize = 255;
 
 // How long an answer is. Reason and place come first; after them one number, or G and C, or G, C and a third, or
-// eight numbers, or G, C and eight bytes.
+// all closing bytes, or G, C and all closing bytes.
 pub const ONE_ANSWER: usize = 3;
 
 pub const SIZE_ANSWER: usize = 4;
 
 pub const THREE_ANSWER: usize = 5;
 
-pub const EIGHT_ANSWER: usize = 10;
+pub const COUNT_ANSWER: usize = 2 + Shape::MOST_CANDIDATES;
 
-pub const TALLY_ANSWER: usize = 12;
+pub const TALLY_ANSWER: usize = SIZE_ANSWER + Shape::MOST_CANDIDATES;
 
 // Writes reason, place and the numbers told to the start of the array. The rest of the array stays. The reason is
 // returned, because it is the status of the call.

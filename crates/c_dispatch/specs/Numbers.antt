@@ -3,9 +3,10 @@ use mathlib.Core.List.{List, [], _∷_}
 use Prim.Native.Nat.{ℕ, _+_, _*_}
 use lib.ListN.{getD}
 use Rattle.dispatch_rounds.specs.declared.header.JuryHeader.{JuryHeader}
+use Rattle.dispatch_rounds.specs.Rounds.{mostJuries}
 use Rattle.dispatch.specs.Call.{Call}
 use Rattle.dispatch.specs.Result.{DispatchResult, dispatchResult}
-use Rattle.c_answers.specs.Numbers.{eightAnswer, eightNumbers, CallResult, callResult}
+use Rattle.c_answers.specs.Numbers.{toldNumbers, CallResult, callResult}
 
 -- Four numbers for each jury: k, d, n and G. A number past the end of the array is 0; a header with k = 0 is refused
 -- for reason 1.
@@ -26,11 +27,14 @@ headersIn numbers =
 
 -- The reason, 0 if accepted; the place; then the juries' eight numbers of rounds, 0 on a refusal.
 abbrev pub dispatchNumbers : DispatchResult → List ℕ
-dispatchNumbers d = eightNumbers (d .reason) (d .rounds)
+dispatchNumbers d = toldNumbers (d .reason) (d .rounds)
+
+abbrev pub dispatchAnswer : ℕ
+dispatchAnswer = 2 + mostJuries
 
 -- What a call from C leaves: the entry point's result, if the answer array has room for it.
 abbrev pub dispatchCall : Call → (answer : List ℕ) → CallResult
 dispatchCall c answer =
     let r = dispatchResult c in
-    callResult eightAnswer (dispatchNumbers r) answer (c .tables .wires ∷ c .tables .boards ∷ [])
+    callResult dispatchAnswer (dispatchNumbers r) answer (c .tables .wires ∷ c .tables .boards ∷ [])
     (r .wires ∷ r .boards ∷ [])

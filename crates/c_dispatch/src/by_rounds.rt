@@ -1,21 +1,24 @@
 // The dispatcher, for C.
-use c_answers::array::EIGHT_ANSWER;
 use c_answers::array::SHORT_ANSWER;
 use c_answers::array::put_answer;
 use dispatch::verdict::JuriesVerdict;
 use dispatch_rounds::header::Headers;
 use dispatch_rounds::header::JuryHeader;
 use dispatch_rounds::header::JuryNumbers;
+use dispatch_rounds::header::MOST_JURIES;
 ghost use mathlib.Core.Path.{_≡_};
 ghost use mathlib.Core.List.{[], _∷_};
 ghost use Prim.Native.Nat.{_≤_, _<_};
 ghost use lib.ListN.{length, getD};
 ghost use Rattle.dispatch_rounds.specs.Tables.{tablesOf};
 ghost use Rattle.dispatch.specs.Reasons.{verdictReason};
-ghost use Rattle.c_answers.specs.Numbers.{eightAnswer, eightNumbers};
+ghost use Rattle.c_answers.specs.Numbers.{toldNumbers};
 ghost use Rattle.c_answers.specs.inner.Puts.{Puts};
 ghost use Rattle.dispatch_rounds.specs.Rounds.{mostJuries};
-ghost use Rattle.c_dispatch.specs.Numbers.{headerAt, headersIn, dispatchCall};
+ghost use Rattle.c_dispatch.specs.Numbers.{headerAt, headersIn, dispatchAnswer, dispatchCall};
+
+// How long an answer is: reason, place, and a number of rounds for each jury.
+const DISPATCH_ANSWER: usize = 2 + MOST_JURIES;
 
 // Number i of an array, or 0 past its end.
 fn number_at(numbers: &[usize], i: usize) -> usize
@@ -57,9 +60,9 @@ fn headers_in(numbers: &[usize]) -> Headers
 
 // Puts reason, jury and the eight numbers of rounds, and returns the status.
 fn put_rounds(verdict: JuriesVerdict, rounds: JuryNumbers, answer: &mut [usize]) -> usize
-    requires { ⌜ eightAnswer ≤ length (now answer) ⌝ }
+    requires { ⌜ dispatchAnswer ≤ length (now answer) ⌝ }
     ensures { λ r.
-        ⌜ Puts eightAnswer (eightNumbers (verdictReason verdict) rounds) (now (answer .entry))
+        ⌜ Puts dispatchAnswer (toldNumbers (verdictReason verdict) rounds) (now (answer .entry))
         (now (answer .exit)) r ⌝ }
 {
     match verdict {
@@ -99,7 +102,7 @@ pub extern "C" fn jugy_dispatch(
               (now (boards .entry));
         }) (now (answer .entry)) ⌝ }
 {
-    if answer.len() < EIGHT_ANSWER {
+    if answer.len() < DISPATCH_ANSWER {
         return SHORT_ANSWER;
     }
     let stated = headers_in(headers);

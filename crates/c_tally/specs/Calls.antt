@@ -8,7 +8,7 @@ use Rattle.tally.specs.Measure.{measureOutcome}
 use Rattle.tally.specs.Run.{runResult}
 use Rattle.tally.specs.Test.{testOutcome}
 use Rattle.tally.specs.Write.{writeOutcome, writeResult, HoldsWithin}
-use Rattle.c_answers.specs.Numbers.{sizeAnswer, threeAnswer, eightAnswer, sizeNumbers, measureNumbers, eightNumbers}
+use Rattle.c_answers.specs.Numbers.{sizeAnswer, threeAnswer, countAnswer, sizeNumbers, measureNumbers, toldNumbers}
 use Rattle.c_answers.specs.Numbers.{CallResult, callResult, boardCall}
 
 abbrev pub measureCall : (s : Shape) (answer : List ℕ) → CallResult
@@ -32,4 +32,4 @@ runCall s table ballots tape wires board answer =
 
 abbrev pub countCall : (s : Shape) (ballots answer : List ℕ) → CallResult
 countCall s ballots answer =
-    callResult eightAnswer (eightNumbers (countReason s ballots) (plainClosing s ballots)) answer [] []
+    callResult countAnswer (toldNumbers (countReason s ballots) (plainClosing s ballots)) answer [] []

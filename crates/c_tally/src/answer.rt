@@ -8,7 +8,7 @@ ghost use Prim.Native.Nat.{_≤_};
 ghost use lib.ListN.{length};
 ghost use Rattle.jury.specs.Reason.{refusedFor};
 ghost use Rattle.tally.specs.Measure.{measuredBy};
-ghost use Rattle.c_answers.specs.Numbers.{threeAnswer, eightAnswer, measureNumbers, eightNumbers};
+ghost use Rattle.c_answers.specs.Numbers.{threeAnswer, countAnswer, measureNumbers, toldNumbers};
 ghost use Rattle.c_answers.specs.inner.Puts.{Puts};
 
 // Puts reason, place, G, C and I, and returns the status.
@@ -32,11 +32,11 @@ pub(crate) fn put_measures(outcome: Measured, answer: &mut [usize]) -> usize
     }
 }
 
-// Puts reason, place and the eight closing bytes, and returns the status.
+// Puts reason, place and all closing bytes, and returns the status.
 pub(crate) fn put_count(counted: Counted, answer: &mut [usize]) -> usize
-    requires { ⌜ eightAnswer ≤ length (now answer) ⌝ }
+    requires { ⌜ countAnswer ≤ length (now answer) ⌝ }
     ensures { λ r.
-        ⌜ Puts eightAnswer (eightNumbers (refusedFor (counted .verdict)) (counted .closing)) (now (answer .entry))
+        ⌜ Puts countAnswer (toldNumbers (refusedFor (counted .verdict)) (counted .closing)) (now (answer .entry))
         (now (answer .exit)) r ⌝ }
 {
     let verdict = counted.verdict;

@@ -1,6 +1,6 @@
 // The plain count, for C.
 use crate::answer::put_count;
-use c_answers::array::EIGHT_ANSWER;
+use c_answers::array::COUNT_ANSWER;
 use c_answers::array::SHORT_ANSWER;
 use jury::reason::Refusal;
 use jury::reason::Verdict;
@@ -25,7 +25,7 @@ pub extern "C" fn jugy_count(
         ⌜ record { returned = r; answer = now (answer .exit); lent = [] }
         ≡ countCall (shapeOf candidates grades ballots) (now (bytes .entry)) (now (answer .entry)) ⌝ }
 {
-    if answer.len() < EIGHT_ANSWER {
+    if answer.len() < COUNT_ANSWER {
         return SHORT_ANSWER;
     }
     let ShapeResult::Within(shape) = Shape::new(candidates, grades, ballots) else {

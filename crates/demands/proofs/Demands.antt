@@ -1,7 +1,5 @@
 -- `AllDemands` holds: each field is what a layer has proved.
 -- Assumes nothing.
-use mathlib.Core.List.{List, [], _∷_}
-use Prim.Native.Nat.{ℕ}
 use Rattle.jury.specs.Shape.{withinLimits}
 use Rattle.jury.specs.Reason.{reasonAt}
 use Rattle.basics.proofs.Flags.{T-true}
@@ -9,10 +7,10 @@ use Rattle.rule_judgment.proofs.Theorems.{bytes-say, somebody, shared-win, gaug
 use Rattle.rule_schulze.proofs.Theorems.{schulze-holds}
 use Rattle.tally.specs.Answer.{hasNumberIn}
 use Rattle.tally.specs.Memory.{Each}
-use Rattle.tally.proofs.Numbering.{All, first-fine, unless-fine, found-fine, outcome-fine, refused-fine}
+use Rattle.tally.proofs.Numbering.{All, refused-number, unless-fine, found-fine}
 use Rattle.tally.proofs.OwnList.{own-list-holds}
 use Rattle.tally.proofs.Demands.{three-demands}
-use Rattle.season.specs.Season.{sheetReasons, totalsOf, runsIn}
+use Rattle.season.specs.Season.{sheetReasons, sheetReasonNumbers, totalsOf, runsIn}
 use Rattle.tally.proofs.Monotone.{monotone-on-gates}
 use Rattle.text.proofs.RoundTrip.{round-trip, text-memory}
 use Rattle.season.proofs.Reasons.{sheet-sums}
@@ -30,12 +28,10 @@ use Rattle.demands.specs.Demands.{SheetMemory, AllDemands}
 sheet-memory : SheetMemory
 unfolding All sheetReasons hasNumberIn reasonAt Each
 sheet-memory bytes =
-    let ns : List ℕ = 21 ∷ 22 ∷ [] in
+    let ns = sheetReasonNumbers in
     record {
-      number = λ r e.
-          refused-fine ns _ r
-          (outcome-fine ns _ (totalsOf (runsIn bytes))
-          (first-fine ns (sheetReasons bytes) (unless-fine ns _ 21 tt, (found-fine ns 22 _ (λ i. tt), tt)))) e;
+      number = refused-number ns (sheetReasons bytes) (totalsOf (runsIn bytes))
+          (unless-fine ns _ 21 tt, (found-fine ns 22 _ (λ i. tt), tt));
       refusal = λ r e. tt;
       empties = λ values e. tt;
       lengths = tt;

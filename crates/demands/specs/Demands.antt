@@ -2,7 +2,7 @@
 -- contracts equate with answers and lent tables. It is not stated here that a call ends, and reads and writes only
 -- inside what it was lent: the checker asks that of every function.
 use mathlib.Core.Path.{_≡_}
-use mathlib.Core.List.{List, [], _∷_}
+use mathlib.Core.List.{List, []}
 use Prim.Native.Nat.{ℕ}
 use Rattle.jury.specs.declared.shape.Shape.{Shape}
 use Rattle.rule_judgment.specs.Theorems.{BytesSay, GaugeKept, SharedWin, SomebodyWins}
@@ -16,7 +16,7 @@ use Rattle.tally.specs.Demands.{TallyMemory, RunAccuracy, CountAccuracy}
 use Rattle.tally.specs.Monotone.{MonotoneOnGates}
 use Rattle.text.specs.RoundTrip.{RoundTrip}
 use Rattle.text.specs.Demands.{TextMemory}
-use Rattle.season.specs.Season.{sheetReasons, totalsOf, runsIn}
+use Rattle.season.specs.Season.{sheetReasons, sheetReasonNumbers, totalsOf, runsIn}
 use Rattle.season.specs.Theorems.{SheetSums}
 use Rattle.urn.specs.Memory.{UrnMemory}
 use Rattle.urn.specs.Theorems.{UrnHolds, PreviewsTell}
@@ -33,7 +33,7 @@ use Rattle.batch.specs.Theorems.{BatchMemory, BatchAccuracy, BatchHiding}
 abbrev pub SheetMemory : Type 0
 SheetMemory =
     (bytes : List ℕ)
-    → KeepsMemory (21 ∷ 22 ∷ []) (outcome (firstOf (sheetReasons bytes)) (totalsOf (runsIn bytes))) [] []
+    → KeepsMemory sheetReasonNumbers (outcome (firstOf (sheetReasons bytes)) (totalsOf (runsIn bytes))) [] []
 
 -- The demand [memory] for the five entry points, the calls on text, the season sheet, the urn, and 64 juries. For the
 -- other calls it is in the records below.

@@ -1,17 +1,18 @@
 -- Proofs of the theorems of `specs/Theorems`.
 -- Assumes nothing.
 use mathlib.Core.Path.{_≡_, _∙_, refl, sym, ap, subst}
-use mathlib.Core.Bool.{Bool, true, false, _&&_, _||_}
+use mathlib.Core.Bool.{Bool, true, false, _&&_}
 use mathlib.Core.Logic.{_↔_, _⊎_, inl, inr, ⊎-elim}
 use mathlib.Core.Option.{Option, none, some}
 use mathlib.Core.List.{List, [], _∷_, _++_}
 use Prim.Native.Nat.{ℕ, zero, suc, _+_, _-_, _*_, _/_, _≤_, _<_, min}
 use native.Mathlib.Nat.{suc-mul, div-lt-iff-lt-mul}
 use native.Mathlib.Omega.{arith}
-use lib.Dec.{T, eqb, leb}
+use lib.Dec.{T, leb}
 use lib.ListN.{length, getD, drop, replicate, length-append, length-drop, length-replicate}
 use lib.Seq.{take-at, drop-at}
 use borrow.Author.Tests.{leb-true, le-leb}
+use Rattle.basics.specs.Lists.{all}
 use Rattle.basics.proofs.Cases.{below-or-not}
 use Rattle.basics.proofs.Flags.{and-first, and-second, and-both}
 use Rattle.gates.specs.Gate.{gatesOf}
@@ -20,14 +21,14 @@ use Rattle.gates.specs.Board.{boardOf}
 use Rattle.jury.specs.Shape.{ballotBytes}
 use Rattle.jury.specs.Reason.{Reason, reasonAt, unless, firstOf}
 use Rattle.tally.specs.Answer.{refused, accepted, outcome, hasNumberIn, Size, sizeOf}
-use Rattle.tally.specs.Run.{RunResult, runResult, runResultAfter, runNumbers}
+use Rattle.tally.specs.Run.{RunResult, runResult, runResultAfter, runReasonNumbers}
 use Rattle.tally.specs.Hiding.{closingBytes, RunsHide}
 use Rattle.tally.proofs.Hiding.{run-answer, run-board, board-tells-no-more}
 use Rattle.tally.specs.Write.{writeOutcome}
 use Rattle.tally.specs.SaysWhoWins.{SaysWhoWins}
 use Rattle.tally.specs.Memory.{Each}
 use Rattle.tally.specs.Demands.{listIn}
-use Rattle.tally.proofs.Numbering.{run-number}
+use Rattle.tally.proofs.Numbering.{wider-number}
 use Rattle.tally.proofs.TestReasons.{never}
 use Rattle.tally.proofs.RunReasons.{outcome-refused, ran-by}
 use Rattle.tally.proofs.Demands.{run-lengths, three-demands}
@@ -35,7 +36,7 @@ use Rattle.dispatch_rounds.specs.declared.header.JuryHeader.{JuryHeader}
 use Rattle.dispatch_rounds.specs.Tables.{Tables, tablesOf, headerShape, listOf, conditionalIn, piecesOf, remaining, through}
 use Rattle.dispatch_rounds.specs.Reasons.{reasonsOf, atJury, juryReasons}
 use Rattle.dispatch.specs.Call.{Call, juriesIn}
-use Rattle.dispatch.specs.Reasons.{dispatchReasons}
+use Rattle.dispatch.specs.Reasons.{dispatchReasons, dispatchReasonNumbers}
 use Rattle.dispatch_rounds.specs.Rounds.{eightOf, roundsFor}
 use Rattle.dispatch.specs.Result.{runBoard, zeroWires, DispatchResult, dispatchResultAfter, dispatchResult}
 use Rattle.dispatch.specs.inner.Rounds.{wireBytes}
@@ -538,44 +539,17 @@ lengths c = by (firstOf (dispatchReasons c)) refl
           ap (λ (d : DispatchResult). length (d .boards)) q ∙ all-boards 0 (juriesIn c) (c .tables) pass,
         )
 
--- a reason with one of these numbers has one of more numbers
-either-same : (a : Bool) (b c : Bool) → (T b → T c) → T (a || b) → T (a || c)
-either-same true b c f h = tt
-either-same false b c f h = f h
-
-same-number : (r q : Reason) → r .number ≡ q .number → (ns : List ℕ) → T (hasNumberIn ns q) → T (hasNumberIn ns r)
-unfolding hasNumberIn
-same-number r q e [] h = h
-same-number r q e (n ∷ ns) h =
-    subst (λ (m : ℕ). T (eqb m n || hasNumberIn ns r)) (sym e)
-    (either-same (eqb (q .number) n) (hasNumberIn ns q) (hasNumberIn ns r) (same-number r q e ns) h)
-
--- the numbers of all reasons of a call
-abbrev numbers : List ℕ
-numbers = 19 ∷ 20 ∷ runNumbers
-
-number : (c : Call) (r : Reason) → dispatchResult c .reason ≡ some r → T (hasNumberIn numbers r)
-unfolding hasNumberIn reasonAt
+number : (c : Call) (r : Reason) → dispatchResult c .reason ≡ some r → T (hasNumberIn dispatchReasonNumbers r)
+unfolding all hasNumberIn reasonAt
 number c r e = ⊎-elim (λ x. own 19 tt (x .1)) (⊎-elim (λ x. own 20 tt (x .2)) (λ x. of-jury (x .2))) (refusals .named c r e)
   where
-    own : (n : ℕ) → T (hasNumberIn numbers (reasonAt n 0)) → r ≡ reasonAt n 0 → T (hasNumberIn numbers r)
-    own n h q = subst (λ (x : Reason). T (hasNumberIn numbers x)) (sym q) h
+    own : (n : ℕ) → T (hasNumberIn dispatchReasonNumbers (reasonAt n 0)) → r ≡ reasonAt n 0 → T (hasNumberIn dispatchReasonNumbers r)
+    own n h q = subst (λ (x : Reason). T (hasNumberIn dispatchReasonNumbers x)) (sym q) h
 
-    of-jury : FirstRefused (juriesIn c) (c .tables) r → T (hasNumberIn numbers r)
-    of-jury f = by-number (run-number _ _ _ _ _ _ (f .its) (f .run))
-      where
-        later : (n : ℕ) (ns : List ℕ) (q : Reason) → T (hasNumberIn ns q) → T (hasNumberIn (n ∷ ns) q)
-        later n ns q h = unfold hasNumberIn in (either (eqb (q .number) n) (hasNumberIn ns q) h)
-          where
-            either : (a b : Bool) → T b → T (a || b)
-            either true b h = tt
-            either false b h = h
-
-        by-number : T (hasNumberIn runNumbers (f .its)) → T (hasNumberIn numbers r)
-        by-number h =
-            same-number r (f .its) (f .number) numbers
-            (later 19 (20 ∷ runNumbers) (f .its)
-            (later 20 runNumbers (f .its) h))
+    of-jury : FirstRefused (juriesIn c) (c .tables) r → T (hasNumberIn dispatchReasonNumbers r)
+    of-jury f =
+        wider-number runReasonNumbers dispatchReasonNumbers tt r (f .its) (f .number)
+        (three-demands .memory .run _ _ _ _ _ _ .number (f .its) (f .run))
 
 memory : (c : Call) → DispatchMemory c
 unfolding Each

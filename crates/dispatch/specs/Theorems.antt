@@ -10,7 +10,7 @@ use Rattle.gates.specs.Gate.{gatesOf}
 use Rattle.jury.specs.Reason.{Reason, reasonAt}
 use Rattle.tally.specs.Answer.{refused, accepted, outcome, Size, sizeOf}
 use Rattle.tally.specs.Write.{writeOutcome}
-use Rattle.tally.specs.Run.{RunResult, runNumbers, runResult}
+use Rattle.tally.specs.Run.{RunResult, runResult}
 use Rattle.tally.specs.Hiding.{closingBytes, RunsHide}
 use Rattle.tally.specs.SaysWhoWins.{SaysWhoWins}
 use Rattle.tally.specs.Memory.{Lent, KeepsMemory}
@@ -19,6 +19,7 @@ use Rattle.dispatch_rounds.specs.declared.header.JuryHeader.{JuryHeader}
 use Rattle.dispatch_rounds.specs.Tables.{Tables, tablesOf, headerShape, piecesOf, remaining}
 use Rattle.dispatch_rounds.specs.Rounds.{roundsFor, mostJuries, mostGatesPerRound}
 use Rattle.dispatch.specs.Call.{Call, juriesIn}
+use Rattle.dispatch.specs.Reasons.{dispatchReasonNumbers}
 use Rattle.dispatch.specs.Result.{runBoard, dispatchResult}
 use Rattle.dispatch.specs.NoIdleRound.{juryAt, AllDone, NoIdleRound}
 
@@ -149,7 +150,7 @@ abbrev pub DispatchMemory : Call → Type 0
 DispatchMemory c =
     let wires : Lent = record { before = c .tables .wires; after = dispatchResult c .wires } in
     let boards : Lent = record { before = c .tables .boards; after = dispatchResult c .boards } in
-    KeepsMemory (19 ∷ 20 ∷ runNumbers) (outcome (dispatchResult c .reason) (dispatchResult c .rounds))
+    KeepsMemory dispatchReasonNumbers (outcome (dispatchResult c .reason) (dispatchResult c .rounds))
     (wires ∷ boards ∷ []) []
 
 -- No call, accepted or refused, changes what follows the last jury's piece.

@@ -18,12 +18,12 @@ use Rattle.gates.proofs.Hiding.{all-bits, none-above}
 use Rattle.jury.specs.declared.shape.Shape.{Shape}
 use Rattle.jury.specs.Shape.{isRanking, gradedLimits, withinLimits, ballotBytes}
 use Rattle.jury.specs.Reason.{Reason, unless, foundAt, firstOf}
-use Rattle.jury.specs.Ballots.{ones, rowsOf, firstBadRow, gradedReasons, rankedReasons, ballotReasons}
+use Rattle.jury.specs.Ballots.{ones, rowsOf, firstBadRow, gradedReasons, rankedReasons, kindReasons, ballotReasons}
 use Rattle.jury.specs.Rankings.{before, firstNotAsymmetric, firstNotWeakOrder}
 use Rattle.jury.specs.WeakOrder.{StrictWeakOrder}
 use Rattle.jury.specs.Accepted.{AcceptedBallots, GradedBallots}
 use Rattle.jury.proofs.Limits.{within, graded-is}
-use Rattle.jury.proofs.BallotLaws.{judged, kindReason, judged-by, graded-reason, ranked-reason}
+use Rattle.jury.proofs.BallotLaws.{judged, judged-by, graded-reasons, ranked-reasons}
 use Rattle.jury.proofs.RankingLaws.{passes-orders}
 
 -- if no reason is answered, every test passed
@@ -100,27 +100,27 @@ module _ (s : Shape) (xs : List ℕ) where
   row-test : Place
   row-test = firstBadRow 0 (rowsOf (s .grades) (s .ballots * s .candidates) xs)
 
-  outcome : firstOf (ballotReasons s xs) ≡ none → judged size-test byte-test (kindReason s xs) ≡ none
+  outcome : firstOf (ballotReasons s xs) ≡ none → judged size-test byte-test (firstOf (kindReasons s xs)) ≡ none
   unfolding size-test byte-test
-  outcome e = sym (judged-by s xs size-test byte-test (kindReason s xs) refl refl refl) ∙ e
+  outcome e = sym (judged-by s xs size-test byte-test (firstOf (kindReasons s xs)) refl refl refl) ∙ e
 
   size-of : firstOf (ballotReasons s xs) ≡ none → size-test ≡ true
-  size-of e = size-passed size-test byte-test (kindReason s xs) (outcome e)
+  size-of e = size-passed size-test byte-test (firstOf (kindReasons s xs)) (outcome e)
 
   byte-of : firstOf (ballotReasons s xs) ≡ none → byte-test ≡ Nowhere
-  byte-of e = byte-passed byte-test (kindReason s xs)
-      (ap (λ (t : Bool). judged t byte-test (kindReason s xs)) (sym (size-of e)) ∙ outcome e)
+  byte-of e = byte-passed byte-test (firstOf (kindReasons s xs))
+      (ap (λ (t : Bool). judged t byte-test (firstOf (kindReasons s xs))) (sym (size-of e)) ∙ outcome e)
 
-  kind-of : firstOf (ballotReasons s xs) ≡ none → kindReason s xs ≡ none
+  kind-of : firstOf (ballotReasons s xs) ≡ none → firstOf (kindReasons s xs) ≡ none
   kind-of e =
-      kind-passed (kindReason s xs)
-      (ap (λ (p : Place). judged true p (kindReason s xs)) (sym (byte-of e))
-      ∙ ap (λ (t : Bool). judged t byte-test (kindReason s xs)) (sym (size-of e)) ∙ outcome e)
+      kind-passed (firstOf (kindReasons s xs))
+      (ap (λ (p : Place). judged true p (firstOf (kindReasons s xs))) (sym (byte-of e))
+      ∙ ap (λ (t : Bool). judged t byte-test (firstOf (kindReasons s xs))) (sym (size-of e)) ∙ outcome e)
 
   rows-of : firstOf (ballotReasons s xs) ≡ none → isRanking s ≡ false → (r : ℕ) → r < s .ballots * s .candidates
       → ones (take (s .grades) (drop (r * s .grades) xs)) ≡ 1
   unfolding gradedReasons row-test
-  rows-of e f = all-rows (s .grades) (s .ballots * s .candidates) xs 0 (row-passed row-test (sym (graded-reason s xs f) ∙ kind-of e))
+  rows-of e f = all-rows (s .grades) (s .ballots * s .candidates) xs 0 (row-passed row-test (sym (ap firstOf (graded-reasons s xs f)) ∙ kind-of e))
 
   orders-of : firstOf (ballotReasons s xs) ≡ none → isRanking s ≡ true → (b : ℕ) → b < s .ballots
       → StrictWeakOrder (s .candidates) (before (s .candidates) xs b)
@@ -128,7 +128,7 @@ module _ (s : Shape) (xs : List ℕ) where
   orders-of e f =
       passes-orders (s .candidates) (s .ballots) xs .0
       (ranks-passed (firstNotAsymmetric (s .candidates) (s .ballots) xs)
-      (firstNotWeakOrder (s .candidates) (s .ballots) xs) (sym (ranked-reason s xs f) ∙ kind-of e))
+      (firstNotWeakOrder (s .candidates) (s .ballots) xs) (sym (ap firstOf (ranked-reasons s xs f)) ∙ kind-of e))
 
   -- ballots that pass all tests are accepted
   pub accepted : withinLimits s ≡ true → firstOf (ballotReasons s xs) ≡ none → AcceptedBallots s xs
@@ -141,14 +141,14 @@ module _ (s : Shape) (xs : List ℕ) where
     orders = orders-of e;
   }
 
-  no-kind-reason : AcceptedBallots s xs → (t : Bool) → isRanking s ≡ t → kindReason s xs ≡ none
+  no-kind-reason : AcceptedBallots s xs → (t : Bool) → isRanking s ≡ t → firstOf (kindReasons s xs) ≡ none
   unfolding gradedReasons rankedReasons foundAt firstOf
   no-kind-reason a false e =
-      graded-reason s xs e ∙ ap (λ (p : Place). firstOf (foundAt 6 p ∷ []))
+      ap firstOf (graded-reasons s xs e) ∙ ap (λ (p : Place). firstOf (foundAt 6 p ∷ []))
       (all-rows-back (s .grades) (s .ballots * s .candidates) xs 0 (a .rows e))
   no-kind-reason a true e =
       let p = passes-orders (s .candidates) (s .ballots) xs .1 (a .orders e) in
-      ranked-reason s xs e
+      ap firstOf (ranked-reasons s xs e)
       ∙ ap (λ (q : Place). firstOf (foundAt 11 q ∷ foundAt 12 (firstNotWeakOrder (s .candidates) (s .ballots) xs) ∷ [])) (p .0)
       ∙ ap (λ (q : Place). firstOf (foundAt 11 Nowhere ∷ foundAt 12 q ∷ [])) (p .1)
 

@@ -17,7 +17,7 @@ use Rattle.gates.specs.Test.{firstAboveOne}
 use Rattle.jury.specs.declared.shape.Shape.{Shape}
 use Rattle.jury.specs.Shape.{isRanking, ballotBytes}
 use Rattle.jury.specs.Reason.{Reason, unless, foundAt, firstOf}
-use Rattle.jury.specs.Ballots.{ones, rowsOf, firstBadRow, gradedReasons, rankedReasons, ballotReasons}
+use Rattle.jury.specs.Ballots.{ones, rowsOf, firstBadRow, gradedReasons, rankedReasons, kindReasons, ballotReasons}
 use Rattle.basics.proofs.Cases.{below-or-not}
 
 -- the ones from place i on: first byte i, then the rest
@@ -79,9 +79,6 @@ bad-end d row rows xs h = ap (λ (n : ℕ). firstBadRow row (rowsOf d n xs)) {x 
 unfoldable pub judged : Bool → Place → Option Reason → Option Reason
 judged size byte kind = firstOf (unless size 4 ∷ foundAt 5 byte ∷ kind ∷ [])
 
-unfoldable pub kindReason : Shape → List ℕ → Option Reason
-kindReason s xs = firstOf (cond (isRanking s) (rankedReasons s xs) (gradedReasons s xs))
-
 first-last : (os : List (Option Reason)) → firstOf os ≡ firstOf (firstOf os ∷ [])
 unfolding firstOf
 first-last [] = refl
@@ -95,23 +92,23 @@ first-both none (some r) os = refl
 first-both (some r) p os = refl
 
 pub judged-by : (s : Shape) (xs : List ℕ) (size : Bool) (byte : Place) (kind : Option Reason) →
-    eqb (length xs) (ballotBytes s) ≡ size → firstAboveOne 0 xs ≡ byte → kindReason s xs ≡ kind →
+    eqb (length xs) (ballotBytes s) ≡ size → firstAboveOne 0 xs ≡ byte → firstOf (kindReasons s xs) ≡ kind →
     firstOf (ballotReasons s xs) ≡ judged size byte kind
-unfolding judged ballotReasons kindReason
+unfolding judged ballotReasons
 judged-by s xs size byte kind e₁ e₂ e₃ =
     first-both (unless (eqb (length xs) (ballotBytes s)) 4) (foundAt 5 (firstAboveOne 0 xs))
-    (cond (isRanking s) (rankedReasons s xs) (gradedReasons s xs))
-    ∙ ap (λ (t : Bool). judged t (firstAboveOne 0 xs) (kindReason s xs)) e₁
-    ∙ ap (λ (p : Place). judged size p (kindReason s xs)) e₂
+    (kindReasons s xs)
+    ∙ ap (λ (t : Bool). judged t (firstAboveOne 0 xs) (firstOf (kindReasons s xs))) e₁
+    ∙ ap (λ (p : Place). judged size p (firstOf (kindReasons s xs))) e₂
     ∙ ap (λ (o : Option Reason). judged size byte o) e₃
 
-pub graded-reason : (s : Shape) (xs : List ℕ) → isRanking s ≡ false → kindReason s xs ≡ firstOf (gradedReasons s xs)
-unfolding kindReason
-graded-reason s xs e = ap (λ (t : Bool). firstOf (cond t (rankedReasons s xs) (gradedReasons s xs))) e
+pub graded-reasons : (s : Shape) (xs : List ℕ) → isRanking s ≡ false → kindReasons s xs ≡ gradedReasons s xs
+unfolding kindReasons
+graded-reasons s xs e = ap (λ (t : Bool). cond t (rankedReasons s xs) (gradedReasons s xs)) e
 
-pub ranked-reason : (s : Shape) (xs : List ℕ) → isRanking s ≡ true → kindReason s xs ≡ firstOf (rankedReasons s xs)
-unfolding kindReason
-ranked-reason s xs e = ap (λ (t : Bool). firstOf (cond t (rankedReasons s xs) (gradedReasons s xs))) e
+pub ranked-reasons : (s : Shape) (xs : List ℕ) → isRanking s ≡ true → kindReasons s xs ≡ rankedReasons s xs
+unfolding kindReasons
+ranked-reasons s xs e = ap (λ (t : Bool). cond t (rankedReasons s xs) (gradedReasons s xs)) e
 
 pub judged-kind : (kind : Option Reason) → judged true Nowhere kind ≡ kind
 unfolding judged unless foundAt firstOf

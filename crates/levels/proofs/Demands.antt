@@ -9,6 +9,7 @@ use native.Mathlib.Nat.{add-zero}
 use native.Mathlib.Omega.{arith}
 use lib.Dec.{T}
 use lib.ListN.{length, getD, drop}
+use Rattle.basics.specs.Lists.{all}
 use Rattle.gates.specs.Kind.{conditionalOf}
 use Rattle.gates.specs.Gate.{Gate, gatesOf, gateAt}
 use Rattle.gates.proofs.Table.{gates-from}
@@ -20,32 +21,22 @@ use Rattle.jury.specs.Shape.{ballotBytes}
 use Rattle.jury.specs.Reason.{Reason, reasonAt, firstOf}
 use Rattle.tally.specs.Answer.{refused, accepted, outcome, hasNumberIn, sizeOf}
 use Rattle.tally.specs.Memory.{Each}
-use Rattle.tally.specs.Test.{testReasons, testOutcome}
+use Rattle.tally.specs.Test.{testReasons, testReasonNumbers, testOutcome}
 use Rattle.tally.proofs.TestReasons.{test-passed}
 use Rattle.levels.specs.Answer.{Depths, depthsOf}
-use Rattle.levels.specs.Levels.{levelsReasons, levelsOutcome, levelsWritten, LevelsResult}
+use Rattle.levels.specs.Levels.{levelsReasons, levelsReasonNumbers, levelsOutcome, levelsWritten, LevelsResult}
 use Rattle.levels.specs.Demands.{LevelsMemory, OperandBelow, Depth, LevelsHold}
 use Rattle.tally.proofs.RunReasons.{outcome-refused, accepted-values}
 use Rattle.levels.proofs.Reasons.{ListFacts, list-facts, both-passed, call-refused, call-accepted}
-use Rattle.tally.proofs.Numbering.{All, first-fine, both, unless-fine, list-fine, outcome-fine, refused-fine}
-
-levelNumbers : List ℕ
-levelNumbers = 1 ∷ 2 ∷ 3 ∷ 200 ∷ []
-
-test-numbers : (s : Shape) (table : List ℕ) → All levelNumbers (testReasons s table)
-unfolding All testReasons hasNumberIn reasonAt levelNumbers
-test-numbers s table = (unless-fine levelNumbers _ 1 tt, (list-fine levelNumbers _ tt (λ g. tt), tt))
-
-all-numbers : (s : Shape) (table levels : List ℕ) → All levelNumbers (levelsReasons s table levels)
-unfolding All levelsReasons hasNumberIn reasonAt levelNumbers
-all-numbers s table levels = both levelNumbers (testReasons s table) _ (test-numbers s table) (unless-fine levelNumbers _ 200 tt, tt)
+use Rattle.tally.proofs.Numbering.{All, refused-number, both, unless-fine, wider, test-all}
 
 pub levels-number : (s : Shape) (table levels : List ℕ) (r : Reason) → levelsOutcome s table levels ≡ refused r
-    → T (hasNumberIn (1 ∷ 2 ∷ 3 ∷ 200 ∷ []) r)
-unfolding levelsOutcome levelNumbers
-levels-number s table levels r e =
-    refused-fine levelNumbers (levelsOutcome s table levels) r
-    (outcome-fine levelNumbers _ _ (first-fine levelNumbers (levelsReasons s table levels) (all-numbers s table levels))) e
+    → T (hasNumberIn levelsReasonNumbers r)
+unfolding levelsOutcome levelsReasons All all hasNumberIn reasonAt
+levels-number s table levels =
+    let ns = levelsReasonNumbers in
+    refused-number ns (levelsReasons s table levels) (depthsOf (ballotBytes s) (gatesOf table))
+    (both ns (testReasons s table) _ (wider testReasonNumbers ns tt (testReasons s table) (test-all s table)) (unless-fine ns _ 200 tt, tt))
 
 -- the reasons, from the answer
 refused-by : (s : Shape) (table levels : List ℕ) (r : Reason) → levelsOutcome s table levels ≡ refused r

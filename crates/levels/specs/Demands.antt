@@ -13,7 +13,7 @@ use Rattle.jury.specs.Shape.{ballotBytes}
 use Rattle.tally.specs.Answer.{accepted}
 use Rattle.tally.specs.Memory.{Lent, KeepsMemory}
 use Rattle.levels.specs.Answer.{Depths, depthsOf}
-use Rattle.levels.specs.Levels.{levelsOutcome, levelsWritten}
+use Rattle.levels.specs.Levels.{levelsReasonNumbers, levelsOutcome, levelsWritten}
 
 -- The table that the call may write to. It holds no secrets.
 abbrev pub levelTable : (s : Shape) (table levels : List ℕ) → Lent
@@ -22,7 +22,7 @@ levelTable s table levels = record { before = levels; after = levelsWritten s ta
 abbrev pub LevelsMemory : Type 0
 LevelsMemory =
     (s : Shape) (table levels : List ℕ)
-    → KeepsMemory (1 ∷ 2 ∷ 3 ∷ 200 ∷ []) (levelsOutcome s table levels) (levelTable s table levels ∷ []) []
+    → KeepsMemory levelsReasonNumbers (levelsOutcome s table levels) (levelTable s table levels ∷ []) []
 
 -- An operand x of gate g: its level is at most the gate's, and below it if the gate is conditional.
 pub record OperandBelow (s : Shape) (table levels : List ℕ) (g x : ℕ) : Type 0 where

@@ -10,13 +10,16 @@ use Rattle.jury.specs.declared.shape.Shape.{Shape}
 use Rattle.jury.specs.Shape.{ballotBytes}
 use Rattle.jury.specs.Reason.{Reason, unless, firstOf}
 use Rattle.tally.specs.Answer.{Outcome, outcome, afterwards}
-use Rattle.tally.specs.Test.{testReasons}
+use Rattle.tally.specs.Test.{testReasons, testReasonNumbers}
 use Rattle.levels.specs.Answer.{Depths, depthsOf}
 
 -- The reasons, in the order of their tests: 1, 2 and 3 as in the test of a list, then 200 if the level table has
 -- not exactly one number for each gate.
 unfoldable pub levelsReasons : Shape → List ℕ → List ℕ → List (Option Reason)
 levelsReasons s table levels = testReasons s table ++ unless (eqb (length levels) (length (gatesOf table))) 200 ∷ []
+
+abbrev pub levelsReasonNumbers : List ℕ
+levelsReasonNumbers = testReasonNumbers ++ 200 ∷ []
 
 -- The answer: the first reason, or G, C and R.
 unfoldable pub levelsOutcome : Shape → List ℕ → List ℕ → Outcome Depths

@@ -77,6 +77,9 @@ sheetReasons bytes =
     ∷ foundAt 22 (firstBadRun 0 (runsIn bytes))
     ∷ []
 
+abbrev pub sheetReasonNumbers : List ℕ
+sheetReasonNumbers = 21 ∷ 22 ∷ []
+
 -- The sum of f over these runs.
 unfoldable pub sumOver : (Run → ℕ) → List Run → ℕ
 sumOver f [] = 0

@@ -1,44 +1,39 @@
 -- The three demands hold.
 -- Assumes nothing.
 use mathlib.Core.Path.{_≡_, _∙_, refl, sym, ap, subst}
-use mathlib.Core.Bool.{Bool, true, false, cond}
 use mathlib.Core.Option.{Option, none, some}
-use mathlib.Core.List.{List, [], _∷_}
-use Prim.Native.Nat.{ℕ, _+_, _*_, _≤_}
+use mathlib.Core.List.{List, [], _++_}
+use Prim.Native.Nat.{ℕ, _+_, _≤_}
 use native.Mathlib.Omega.{arith}
-use lib.Dec.{T}
+use lib.Dec.{T, leb, leb→le}
 use lib.ListN.{length, take, length-replicate}
+use Rattle.basics.specs.Lists.{all}
 use Rattle.gates.specs.Gate.{Gate, gatesOf}
 use Rattle.gates.specs.Wires.{wiresOf, outputsOf}
 use Rattle.gates.specs.Board.{MaskTape}
-use Rattle.gates.specs.declared.place.Place.{Place}
-use Rattle.gates.specs.declared.place.Place.the-variants.{At, Nowhere}
 use Rattle.jury.specs.declared.shape.Shape.{Shape}
 use Rattle.jury.specs.Shape.{ballotBytes}
-use Rattle.jury.specs.Reason.{Reason, reasonAt, unless, foundAt, firstOf}
-use Rattle.jury.specs.Shape.{isRanking}
-use Rattle.jury.specs.Ballots.{rowsOf, firstBadRow, gradedReasons, rankedReasons, ballotReasons}
-use Rattle.jury.specs.Rankings.{firstNotAsymmetric, firstNotWeakOrder}
+use Rattle.jury.specs.Reason.{Reason, reasonAt, firstOf}
+use Rattle.jury.specs.Ballots.{ballotReasons, ballotReasonNumbers}
 use Rattle.jury.specs.Accepted.{AcceptedBallots}
-use Rattle.jury.proofs.BallotLaws.{judged, kindReason, judged-by}
 use Rattle.tally.specs.Answer.{Outcome, refused, accepted, hasNumberIn, Size, sizeOf}
 use Rattle.tally.specs.Rule.{closingFor}
 use Rattle.tally.specs.SaysWhoWins.{SaysWhoWins}
 use Rattle.tally.specs.Memory.{Each, KeepsMemory, BoardKeepsMemory}
 use Rattle.tally.specs.OwnList.{ownList}
-use Rattle.tally.specs.Count.{countReason, plainClosing, countOutcome}
+use Rattle.tally.specs.Count.{countReason, countReasonNumbers, plainClosing, countOutcome}
 use Rattle.tally.specs.Test.{testReasons, testOutcome}
 use Rattle.tally.specs.Write.{writeReasons, writeOutcome}
-use Rattle.tally.specs.Run.{RunResult, bufferReasons, runReasons, runResultAfter, runResult, runNumbers}
+use Rattle.tally.specs.Run.{RunResult, bufferReasons, bufferReasonNumbers, runReasons, runResultAfter, runResult, runReasonNumbers}
 use Rattle.tally.specs.Hiding.{closingBytes}
 use Rattle.tally.specs.Demands.{TallyMemory, listIn, RunAccuracy, CountAccuracy, ThreeDemands}
 use Rattle.tally.proofs.Rules.{rule-says}
 use Rattle.tally.proofs.PlainFacts.{plain-first, plain-length, plain-says}
 use Rattle.tally.proofs.CountReason.{count-accepts}
 use Rattle.tally.proofs.TestReasons.{never, orElse, TestPassed, test-passed}
-use Rattle.tally.proofs.RunReasons.{lentFound, lent-by, firstOfThree, run-first, outcome-refused, RunPassed, run-passed, ran-by}
+use Rattle.tally.proofs.RunReasons.{firstOfThree, run-first, outcome-refused, RunPassed, run-passed, ran-by}
 use Rattle.tally.proofs.Hiding.{ran-accepted, run-answer, run-wires, run-finished, run-closing, board-tells-no-more}
-use Rattle.tally.proofs.Numbering as numbering
+use Rattle.tally.proofs.Numbering.{Fine, first-fine, number-passes, wider, ballots-all, buffers-all, measure-number, write-number, test-number, count-number, run-number}
 use Rattle.tally.proofs.OwnList.{own-list-holds}
 use Rattle.tally.proofs.Writing as writing
 
@@ -86,49 +81,15 @@ pub run-lengths : (s : Shape) (table ballots tape wires board : List ℕ)
 run-lengths s table ballots tape wires board =
     lengths s table ballots tape wires board (firstOf (runReasons s table ballots tape wires board)) refl
 
--- the reasons of ballots and buffers have numbers from 4 on
-row-number : (row : Place) (r : Reason) → firstOf (foundAt 6 row ∷ []) ≡ some r → 4 ≤ r .number
-unfolding foundAt firstOf reasonAt
-row-number (At i) r e = let n : 6 ≡ r .number = cc in omega arith
-row-number Nowhere r e = let z : _≡_ {A = ℕ} 0 1 = cc in absurd (omega arith)
+-- if the list passes its test, the first reason is one of the ballots or of the buffers
+lateNumbers : List ℕ
+lateNumbers = ballotReasonNumbers ++ bufferReasonNumbers
 
-ranks-number : (clash notWeakOrder : Place) (r : Reason) → firstOf (foundAt 11 clash ∷ foundAt 12 notWeakOrder ∷ [])
-    ≡ some r → 4 ≤ r .number
-unfolding foundAt firstOf reasonAt
-ranks-number (At i) notWeakOrder r e = let n : 11 ≡ r .number = cc in omega arith
-ranks-number Nowhere (At b) r e = let n : 12 ≡ r .number = cc in omega arith
-ranks-number Nowhere Nowhere r e = let z : _≡_ {A = ℕ} 0 1 = cc in absurd (omega arith)
-
-kind-number : (s : Shape) (xs : List ℕ) (t : Bool) (r : Reason)
-    → firstOf (cond t (rankedReasons s xs) (gradedReasons s xs)) ≡ some r → 4 ≤ r .number
-unfolding rankedReasons gradedReasons
-kind-number s xs true r e = ranks-number (firstNotAsymmetric (s .candidates) (s .ballots) xs)
-    (firstNotWeakOrder (s .candidates) (s .ballots) xs) r e
-kind-number s xs false r e = row-number (firstBadRow 0 (rowsOf (s .grades) (s .ballots * s .candidates) xs)) r e
-
-ballots-number : (size : Bool) (byte : Place) (kind : Option Reason)
-    → ((q : Reason) → kind ≡ some q → 4 ≤ q .number) → (r : Reason) → judged size byte kind ≡ some r → 4 ≤ r .number
-unfolding judged unless foundAt firstOf reasonAt
-ballots-number false byte kind k r e = let n : 4 ≡ r .number = cc in omega arith
-ballots-number true (At i) kind k r e = let n : 5 ≡ r .number = cc in omega arith
-ballots-number true Nowhere none k r e = let z : _≡_ {A = ℕ} 0 1 = cc in absurd (omega arith)
-ballots-number true Nowhere (some q) k r e = k r e
-
-lent-number : (t : Bool) (p : Place) (u v : Bool) (r : Reason) → lentFound t p u v ≡ some r → 4 ≤ r .number
-unfolding lentFound unless foundAt firstOf reasonAt
-lent-number false p u v r e = let n : 7 ≡ r .number = cc in omega arith
-lent-number true (At i) u v r e = let n : 8 ≡ r .number = cc in omega arith
-lent-number true Nowhere false v r e = let n : 9 ≡ r .number = cc in omega arith
-lent-number true Nowhere true false r e = let n : 10 ≡ r .number = cc in omega arith
-lent-number true Nowhere true true r e = let z : _≡_ {A = ℕ} 0 1 = cc in absurd (omega arith)
-
--- if the list passes its test, the first reason has a number from 4 on
-late : (a b c : Option Reason) (r : Reason) → a ≡ none → ((q : Reason) → b ≡ some q → 4 ≤ q .number)
-    → ((q : Reason) → c ≡ some q → 4 ≤ q .number)
-    → firstOfThree a b c ≡ some r → 4 ≤ r .number
-unfolding firstOfThree orElse
-late none none c r p f g e = g r e
-late none (some q) c r p f g e = f r e
+late : (a b c : Option Reason) (r : Reason) → a ≡ none → Fine lateNumbers b → Fine lateNumbers c
+    → firstOfThree a b c ≡ some r → T (hasNumberIn lateNumbers r)
+unfolding firstOfThree orElse Fine
+late none none c r p f g e = subst (Fine lateNumbers) e g
+late none (some q) c r p f g e = subst (Fine lateNumbers) e f
 late (some q) b c r p f g e = let z : _≡_ {A = ℕ} 0 1 = cc in absurd (omega arith)
 
 module _ (s : Shape) (table : List ℕ) (size : Size) (p : writing.WritePassed s table size) where
@@ -149,16 +110,15 @@ module _ (s : Shape) (table : List ℕ) (size : Size) (p : writing.WritePassed s
       (ap (testOutcome s) (writing.list-in s table size p) ∙ own-list-holds s (p .within) .passes ∙ ap accepted (ap sizeOf (sym gates)))
 
   number : (ballots tape wires board : List ℕ) (r : Reason) → runResult s list ballots tape wires board .answer ≡ refused r → 4 ≤ r .number
+  unfolding lateNumbers all hasNumberIn reasonAt
   number ballots tape wires board r e =
       let lent = bufferReasons (ballotBytes s) (s .candidates) (sizeOf (gatesOf list)) tape wires board in
-      late (firstOf (testReasons s list)) (firstOf (ballotReasons s ballots)) (firstOf lent) r (test .reasons)
-      (λ q f. ballots-number _ _ (kindReason s ballots)
-      (λ o g. kind-number s ballots (isRanking s) o (unfold kindReason in g)) q
-      (sym (judged-by s ballots _ _ _ refl refl refl) ∙ f))
-      (λ q f. lent-number _ _ _ _ q
-      (sym (lent-by (ballotBytes s) (s .candidates) (sizeOf (gatesOf list)) tape wires board _ _ _ _ refl refl refl
-      refl) ∙ f))
-      (sym (run-first s list ballots tape wires board) ∙ ran-refused s list ballots tape wires board r e .0)
+      leb→le 4 (r .number) (number-passes (leb 4) lateNumbers r tt
+      (late (firstOf (testReasons s list)) (firstOf (ballotReasons s ballots)) (firstOf lent) r (test .reasons)
+      (first-fine lateNumbers (ballotReasons s ballots) (wider ballotReasonNumbers lateNumbers tt (ballotReasons s ballots) (ballots-all s ballots)))
+      (first-fine lateNumbers lent
+      (wider bufferReasonNumbers lateNumbers tt lent (buffers-all (ballotBytes s) (s .candidates) (sizeOf (gatesOf list)) tape wires board)))
+      (sym (run-first s list ballots tape wires board) ∙ ran-refused s list ballots tape wires board r e .0)))
 
   accepts : (ballots tape wires board : List ℕ) → AcceptedBallots s ballots → MaskTape (gatesOf list) tape
       → length wires ≡ ballotBytes s + size .gates → length board ≡ size .conditional + s .candidates
@@ -198,12 +158,12 @@ unfolding Each
 nothing-lent named = record { number = named; refusal = λ r e. tt; empties = λ values e. tt; lengths = tt }
 
 run-memory : (s : Shape) (table ballots tape wires board : List ℕ)
-    → BoardKeepsMemory runNumbers wires board (runResult s table ballots tape wires board)
+    → BoardKeepsMemory runReasonNumbers wires board (runResult s table ballots tape wires board)
 unfolding Each
 run-memory s table ballots tape wires board =
     let long = run-lengths s table ballots tape wires board in
     record {
-      number = numbering.run-number s table ballots tape wires board;
+      number = λ r e. run-number s table ballots tape wires board r (ran-refused s table ballots tape wires board r e .0);
       refusal = λ r e. let q = ran-refused s table ballots tape wires board r e in (q .1, (q .2, tt));
       empties = λ size e.
           let p = run-passed s table ballots tape wires board (ran-accepted s table ballots wires board tape size e .0) in
@@ -215,14 +175,14 @@ memory : TallyMemory
 unfolding Each
 memory =
     record {
-      measure = λ s. nothing-lent (numbering.measure-number s);
+      measure = λ s. nothing-lent (measure-number s);
       write = λ s table. record {
-        number = numbering.write-number s table;
+        number = write-number s table;
         refusal = λ r e. (writing.write-refused s table r (refused-reason s table r e) .1, tt);
         empties = λ size e. tt;
         lengths = (writing.write-length s table, tt);
       };
-      test = λ s table. nothing-lent (numbering.test-number s table);
+      test = λ s table. nothing-lent (test-number s table);
       run = run-memory;
       count = λ s ballots. nothing-lent (count-named s ballots);
     }
@@ -231,9 +191,9 @@ memory =
     refused-reason s table r e = outcome-refused (firstOf (writeReasons s table)) (sizeOf (ownList s)) r (unfold writeOutcome in e)
 
     count-named : (s : Shape) (ballots : List ℕ) (r : Reason) → countOutcome s ballots ≡ refused r
-        → T (hasNumberIn (1 ∷ 4 ∷ 5 ∷ 6 ∷ 11 ∷ 12 ∷ []) r)
+        → T (hasNumberIn countReasonNumbers r)
     count-named s ballots r e =
-        numbering.count-number s ballots r (outcome-refused (countReason s ballots) (plainClosing s ballots) r (unfold countOutcome in e))
+        count-number s ballots r (outcome-refused (countReason s ballots) (plainClosing s ballots) r (unfold countOutcome in e))
 
 accuracy : (s : Shape) (table : List ℕ) (size : Size) → writeOutcome s table ≡ accepted size → RunAccuracy s table size
 unfolding list

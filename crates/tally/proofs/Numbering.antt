@@ -1,27 +1,35 @@
 -- The first reason of a list of tests has the number of one of them.
 -- Assumes nothing.
-use mathlib.Core.Path.{_≡_, subst}
-use mathlib.Core.Bool.{Bool, true, false, cond}
+use mathlib.Core.Path.{_≡_, refl, sym, subst}
+use mathlib.Core.Logic.{⊎-elim}
+use mathlib.Core.Bool.{Bool, true, false, _&&_, _||_}
 use mathlib.Core.Option.{Option, none, some}
 use mathlib.Core.List.{List, [], _∷_, _++_}
 use Prim.Native.Nat.{ℕ}
-use lib.Dec.{T}
-use Rattle.gates.specs.Gate.{Gate, gatesOf}
+use lib.Dec.{T, eqb}
+use lib.ListN.{length}
+use borrow.Author.Tests.{eqb-true}
+use Rattle.basics.specs.Lists.{all}
+use Rattle.basics.proofs.Flags.{and-first, and-second, or-first, or-second, or-either, T-true, true-T, either}
+use Rattle.gates.specs.Gate.{gatesOf}
+use Rattle.gates.specs.Test.{firstAboveOne}
 use Rattle.gates.specs.declared.place.Place.{Place}
 use Rattle.gates.specs.declared.place.Place.the-variants.{At, Nowhere}
 use Rattle.gates.specs.declared.list.ListCheck.{ListCheck}
 use Rattle.gates.specs.declared.list.ListCheck.the-variants.{Accepted, PartOfAGate, TooFewGates, TooManyGates, BadGate}
 use Rattle.jury.specs.declared.shape.Shape.{Shape}
-use Rattle.jury.specs.Shape.{isRanking, withinLimits, ballotBytes}
+use Rattle.jury.specs.Shape.{isRanking, ballotBytes}
 use Rattle.jury.specs.Reason.{Reason, reasonAt, unless, foundAt, listReason, firstOf}
-use Rattle.jury.specs.Ballots.{gradedReasons, rankedReasons, ballotReasons}
+use Rattle.jury.specs.Ballots.{gradedReasons, rankedReasons, kindReasons, kindReasonNumbers, ballotReasons, ballotReasonNumbers}
+use Rattle.jury.proofs.BallotLaws.{graded-reasons, ranked-reasons}
 use Rattle.tally.specs.OwnList.{ownList}
-use Rattle.tally.specs.Answer.{Outcome, refused, accepted, outcome, hasNumberIn, Size, sizeOf}
-use Rattle.tally.specs.Count.{countReason}
-use Rattle.tally.specs.Measure.{measuresOf, measureOutcome}
-use Rattle.tally.specs.Run.{bufferReasons, runReasons, runResultAfter, runResult, runNumbers}
-use Rattle.tally.specs.Test.{testReasons, testOutcome}
-use Rattle.tally.specs.Write.{writeReasons, writeOutcome}
+use Rattle.tally.specs.Answer.{refused, outcome, hasNumberIn, Size, sizeOf}
+use Rattle.tally.specs.Count.{countReason, countReasonNumbers}
+use Rattle.tally.specs.Measure.{measureReasons, measureReasonNumbers, measuresOf, measureOutcome}
+use Rattle.tally.specs.Run.{bufferReasons, bufferReasonNumbers, runReasons, runReasonNumbers}
+use Rattle.tally.specs.Test.{testReasons, testReasonNumbers, testOutcome}
+use Rattle.tally.specs.Write.{writeReasons, writeReasonNumbers, writeOutcome}
+use Rattle.tally.proofs.RunReasons.{outcome-refused}
 
 -- there is no reason, or its number is one of these
 unfoldable pub Fine : List ℕ → Option Reason → Type 0
@@ -32,16 +40,21 @@ unfoldable pub All : List ℕ → List (Option Reason) → Type 0
 All ns [] = Unit {0}
 All ns (o ∷ os) = Fine ns o × All ns os
 
-unfoldable pub FineSaid : {Values : Type 0} → List ℕ → Outcome Values → Type 0
-FineSaid ns (refused r) = T (hasNumberIn ns r)
-FineSaid ns (accepted v) = Unit {0}
-
 module _ (ns : List ℕ) where
   pub first-fine : (os : List (Option Reason)) → All ns os → Fine ns (firstOf os)
   unfolding All Fine firstOf
   first-fine [] a = tt
   first-fine (none ∷ os) a = first-fine os (a .1)
   first-fine (some r ∷ os) a = a .0
+
+  -- the reason of a refused call has one of these numbers
+  pub first-number : (os : List (Option Reason)) → All ns os → (r : Reason) → firstOf os ≡ some r → T (hasNumberIn ns r)
+  unfolding Fine
+  first-number os a r e = subst (Fine ns) e (first-fine os a)
+
+  pub refused-number : {Values : Type 0} (os : List (Option Reason)) (values : Values) → All ns os → (r : Reason)
+      → outcome (firstOf os) values ≡ refused r → T (hasNumberIn ns r)
+  refused-number os values a r e = first-number os a r (outcome-refused (firstOf os) values r e)
 
   pub both : (os qs : List (Option Reason)) → All ns os → All ns qs → All ns (os ++ qs)
   unfolding All
@@ -67,93 +80,118 @@ module _ (ns : List ℕ) where
   list-fine TooManyGates two three = two
   list-fine (BadGate g) two three = three g
 
-  pub outcome-fine : {Values : Type 0} (o : Option Reason) (values : Values) → Fine ns o → FineSaid ns (outcome o values)
-  unfolding Fine FineSaid outcome
-  outcome-fine none values f = tt
-  outcome-fine (some r) values f = f
+-- a test that all these numbers pass is passed by the number of each reason that has one of them
+pub number-passes : (test : ℕ → Bool) (ns : List ℕ) (r : Reason) → T (all test ns) → T (hasNumberIn ns r) → T (test (r .number))
+unfolding all hasNumberIn
+number-passes test [] r a h = absurd h
+number-passes test (n ∷ ns) r a h =
+    let passed = T-true (test n && all test ns) a in
+    ⊎-elim
+    (λ e. subst (λ (m : ℕ). T (test m)) (sym (eqb-true (r .number) n e)) (true-T (test n) (and-first (test n) (all test ns) passed)))
+    (λ e. number-passes test ns r (true-T (all test ns) (and-second (test n) (all test ns) passed)) (true-T (hasNumberIn ns r) e))
+    (or-either (eqb (r .number) n) (hasNumberIn ns r) (T-true (eqb (r .number) n || hasNumberIn ns r) h))
 
-  pub refused-fine : {Values : Type 0} (answer : Outcome Values) (r : Reason) → FineSaid ns answer → answer
-      ≡ refused r → T (hasNumberIn ns r)
-  unfolding FineSaid
-  refused-fine answer r f e = subst (FineSaid ns) e f
+-- the place does not matter
+any-place : (ms : List ℕ) (r : Reason) → T (hasNumberIn ms (reasonAt (r .number) 0)) → T (hasNumberIn ms r)
+unfolding hasNumberIn reasonAt
+any-place [] r h = h
+any-place (m ∷ ms) r h =
+    ⊎-elim (λ e. true-T _ (or-first (eqb (r .number) m) (hasNumberIn ms r) e))
+    (λ e. true-T _ (or-second (eqb (r .number) m) (hasNumberIn ms r) (T-true _ (any-place ms r (true-T _ e)))))
+    (or-either (eqb (r .number) m) (hasNumberIn ms (reasonAt (r .number) 0)) (T-true _ h))
 
-  -- the tests of ballots of either kind
-  pub kind-fine : (s : Shape) (xs : List ℕ) (ranking : Bool) → ((i : ℕ) → T (hasNumberIn ns (reasonAt 6 i)))
-      → ((i : ℕ) → T (hasNumberIn ns (reasonAt 11 i))) → ((b : ℕ) → T (hasNumberIn ns (reasonAt 12 b)))
-      → All ns (cond ranking (rankedReasons s xs) (gradedReasons s xs))
-  unfolding All rankedReasons gradedReasons
-  kind-fine s xs true row clash notWeakOrder = (found-fine 11 _ clash, (found-fine 12 _ notWeakOrder, tt))
-  kind-fine s xs false row clash notWeakOrder = (found-fine 6 _ row, tt)
+-- numbers that are all among others
+abbrev pub Among : List ℕ → List ℕ → Type 0
+Among ns ms = T (all (λ n. hasNumberIn ms (reasonAt n 0)) ns)
 
-pub measure-number : (s : Shape) (r : Reason) → measureOutcome s ≡ refused r → T (hasNumberIn (1 ∷ []) r)
-unfolding measureOutcome All hasNumberIn reasonAt
-measure-number s r e =
-    refused-fine (1 ∷ []) (measureOutcome s) r
-    (outcome-fine (1 ∷ []) _ (measuresOf s)
-    (first-fine (1 ∷ []) (unless (withinLimits s) 1 ∷ []) (unless-fine (1 ∷ []) _ 1 tt, tt))) e
+pub wider-number : (ns ms : List ℕ) → Among ns ms → (r q : Reason) → r .number ≡ q .number → T (hasNumberIn ns q) → T (hasNumberIn ms r)
+wider-number ns ms among r q e h =
+    any-place ms r
+    (subst (λ (m : ℕ). T (hasNumberIn ms (reasonAt m 0))) (sym e) (number-passes (λ n. hasNumberIn ms (reasonAt n 0)) ns q among h))
 
-pub write-number : (s : Shape) (table : List ℕ) (r : Reason) → writeOutcome s table ≡ refused r → T (hasNumberIn (1 ∷ 2 ∷ []) r)
-unfolding writeOutcome writeReasons All hasNumberIn reasonAt
-write-number s table r e =
-    let ns : List ℕ = 1 ∷ 2 ∷ [] in
-    refused-fine ns (writeOutcome s table) r
-    (outcome-fine ns _ (sizeOf (ownList s))
-    (first-fine ns (writeReasons s table) (unless-fine ns _ 1 tt, (unless-fine ns _ 2 tt, tt)))) e
+pub wider : (ns ms : List ℕ) → Among ns ms → (os : List (Option Reason)) → All ns os → All ms os
+unfolding All Fine
+wider ns ms among [] a = tt
+wider ns ms among (none ∷ os) a = (tt, wider ns ms among os (a .1))
+wider ns ms among (some r ∷ os) a = (
+  wider-number ns ms among r r refl (a .0),
+  wider ns ms among os (a .1),
+)
 
-pub test-number : (s : Shape) (table : List ℕ) (r : Reason) → testOutcome s table ≡ refused r → T (hasNumberIn (1 ∷ 2 ∷ 3 ∷ []) r)
-unfolding testOutcome testReasons All hasNumberIn reasonAt
-test-number s table r e =
-    let ns : List ℕ = 1 ∷ 2 ∷ 3 ∷ [] in
-    refused-fine ns (testOutcome s table) r
-    (outcome-fine ns _ (sizeOf (gatesOf table))
-    (first-fine ns (testReasons s table) (unless-fine ns _ 1 tt, (list-fine ns _ tt (λ g. tt), tt)))) e
+-- the tests of each group
+pub graded-all : (s : Shape) (xs : List ℕ) → All (6 ∷ []) (gradedReasons s xs)
+unfolding All gradedReasons hasNumberIn reasonAt
+graded-all s xs = (found-fine (6 ∷ []) 6 _ (λ i. tt), tt)
 
-pub count-number : (s : Shape) (ballots : List ℕ) (r : Reason) → countReason s ballots ≡ some r
-    → T (hasNumberIn (1 ∷ 4 ∷ 5 ∷ 6 ∷ 11 ∷ 12 ∷ []) r)
-unfolding Fine countReason ballotReasons gradedReasons rankedReasons All hasNumberIn reasonAt
-count-number s ballots r e =
-    let ns : List ℕ = 1 ∷ 4 ∷ 5 ∷ 6 ∷ 11 ∷ 12 ∷ [] in
-    subst (Fine ns) e
-    (first-fine ns (unless (withinLimits s) 1 ∷ ballotReasons s ballots) (
-      unless-fine ns _ 1 tt,
-      (
-        unless-fine ns _ 4 tt,
-        (found-fine ns 5 _ (λ i. tt), kind-fine ns s ballots (isRanking s) (λ i. tt) (λ i. tt) (λ b. tt)),
-      ),
-    ))
+ranked-all : (s : Shape) (xs : List ℕ) → All (11 ∷ 12 ∷ []) (rankedReasons s xs)
+unfolding All rankedReasons hasNumberIn reasonAt
+ranked-all s xs = (found-fine (11 ∷ 12 ∷ []) 11 _ (λ i. tt), (found-fine (11 ∷ 12 ∷ []) 12 _ (λ b. tt), tt))
 
-test-all : (s : Shape) (table : List ℕ) → All runNumbers (testReasons s table)
-unfolding All testReasons hasNumberIn reasonAt
-test-all s table = (unless-fine runNumbers _ 1 tt, (list-fine runNumbers _ tt (λ g. tt), tt))
+kind-all : (s : Shape) (xs : List ℕ) → All kindReasonNumbers (kindReasons s xs)
+unfolding all hasNumberIn reasonAt
+kind-all s xs = either (isRanking s)
+    (λ e. subst (All kindReasonNumbers) (sym (ranked-reasons s xs e)) (wider (11 ∷ 12 ∷ []) kindReasonNumbers tt (rankedReasons s xs) (ranked-all s xs)))
+    (λ e. subst (All kindReasonNumbers) (sym (graded-reasons s xs e)) (wider (6 ∷ []) kindReasonNumbers tt (gradedReasons s xs) (graded-all s xs)))
 
-ballots-all : (s : Shape) (xs : List ℕ) → All runNumbers (ballotReasons s xs)
+-- the tests of ballots, from those of their kind
+pub ballots-from : (ns : List ℕ) → Among (4 ∷ 5 ∷ []) ns → (s : Shape) (xs : List ℕ) → All ns (kindReasons s xs) → All ns (ballotReasons s xs)
 unfolding All ballotReasons hasNumberIn reasonAt
-ballots-all s xs = (unless-fine runNumbers _ 4 tt, (found-fine runNumbers 5 _ (λ i. tt), kind-fine runNumbers s xs (isRanking s) (λ i. tt) (λ i. tt) (λ b. tt)))
+ballots-from ns among s xs a =
+    let size = unless (eqb (length xs) (ballotBytes s)) 4 in
+    let byte = foundAt 5 (firstAboveOne 0 xs) in
+    let two : List ℕ = 4 ∷ 5 ∷ [] in
+    both ns (size ∷ byte ∷ []) (kindReasons s xs)
+    (wider two ns among (size ∷ byte ∷ []) (unless-fine two _ 4 tt, (found-fine two 5 _ (λ i. tt), tt))) a
 
-lent-all : (i k : ℕ) (size : Size) (tape wires board : List ℕ) → All runNumbers (bufferReasons i k size tape wires board)
+pub ballots-all : (s : Shape) (xs : List ℕ) → All ballotReasonNumbers (ballotReasons s xs)
+unfolding all hasNumberIn reasonAt
+ballots-all s xs = ballots-from ballotReasonNumbers tt s xs (wider kindReasonNumbers ballotReasonNumbers tt (kindReasons s xs) (kind-all s xs))
+
+pub test-all : (s : Shape) (table : List ℕ) → All testReasonNumbers (testReasons s table)
+unfolding All testReasons hasNumberIn reasonAt
+test-all s table = (unless-fine testReasonNumbers _ 1 tt, (list-fine testReasonNumbers _ tt (λ g. tt), tt))
+
+pub list-and-ballots-all : (ns : List ℕ) → Among testReasonNumbers ns → Among ballotReasonNumbers ns
+    → (s : Shape) (table ballots : List ℕ) → All ns (testReasons s table ++ ballotReasons s ballots)
+list-and-ballots-all ns of-list of-ballots s table ballots =
+    both ns (testReasons s table) (ballotReasons s ballots)
+    (wider testReasonNumbers ns of-list (testReasons s table) (test-all s table))
+    (wider ballotReasonNumbers ns of-ballots (ballotReasons s ballots) (ballots-all s ballots))
+
+pub buffers-all : (i k : ℕ) (size : Size) (tape wires board : List ℕ) → All bufferReasonNumbers (bufferReasons i k size tape wires board)
 unfolding All bufferReasons hasNumberIn reasonAt
-lent-all i k size tape wires board =
-    (unless-fine runNumbers _ 7 tt, (found-fine runNumbers 8 _ (λ i. tt), (unless-fine runNumbers _ 9 tt, (unless-fine runNumbers _ 10 tt, tt))))
+buffers-all i k size tape wires board =
+    let ns = bufferReasonNumbers in
+    (unless-fine ns _ 7 tt, (found-fine ns 8 _ (λ i. tt), (unless-fine ns _ 9 tt, (unless-fine ns _ 10 tt, tt))))
 
-run-all : (s : Shape) (table ballots tape wires board : List ℕ) → All runNumbers (runReasons s table ballots tape wires board)
-unfolding runReasons
-run-all s table ballots tape wires board =
-    both runNumbers (testReasons s table ++ ballotReasons s ballots)
-    (bufferReasons (ballotBytes s) (s .candidates) (sizeOf (gatesOf table)) tape wires board)
-    (both runNumbers (testReasons s table) (ballotReasons s ballots) (test-all s table) (ballots-all s ballots))
-    (lent-all (ballotBytes s) (s .candidates) (sizeOf (gatesOf table)) tape wires board)
+-- the entry points
+pub measure-number : (s : Shape) (r : Reason) → measureOutcome s ≡ refused r → T (hasNumberIn measureReasonNumbers r)
+unfolding measureOutcome All hasNumberIn reasonAt
+measure-number s = refused-number measureReasonNumbers (measureReasons s) (measuresOf s) (unless-fine measureReasonNumbers _ 1 tt, tt)
 
-ran-fine : (o : Option Reason) (s : Shape) (gs : List Gate) (ballots tape wires board : List ℕ) → Fine runNumbers o
-    → FineSaid runNumbers (runResultAfter o s gs ballots tape wires board .answer)
-unfolding Fine FineSaid runResultAfter
-ran-fine none s gs ballots tape wires board f = tt
-ran-fine (some r) s gs ballots tape wires board f = f
+pub write-number : (s : Shape) (table : List ℕ) (r : Reason) → writeOutcome s table ≡ refused r → T (hasNumberIn writeReasonNumbers r)
+unfolding writeOutcome writeReasons All hasNumberIn reasonAt
+write-number s table =
+    let ns = writeReasonNumbers in
+    refused-number ns (writeReasons s table) (sizeOf (ownList s)) (unless-fine ns _ 1 tt, (unless-fine ns _ 2 tt, tt))
+
+pub test-number : (s : Shape) (table : List ℕ) (r : Reason) → testOutcome s table ≡ refused r → T (hasNumberIn testReasonNumbers r)
+unfolding testOutcome
+test-number s table = refused-number testReasonNumbers (testReasons s table) (sizeOf (gatesOf table)) (test-all s table)
+
+pub count-number : (s : Shape) (ballots : List ℕ) (r : Reason) → countReason s ballots ≡ some r → T (hasNumberIn countReasonNumbers r)
+unfolding countReason All all hasNumberIn reasonAt
+count-number s ballots =
+    let ns = countReasonNumbers in
+    first-number ns _ (unless-fine ns _ 1 tt, wider ballotReasonNumbers ns tt (ballotReasons s ballots) (ballots-all s ballots))
 
 pub run-number : (s : Shape) (table ballots tape wires board : List ℕ) (r : Reason)
-    → runResult s table ballots tape wires board .answer ≡ refused r
-    → T (hasNumberIn runNumbers r)
-unfolding runResult
-run-number s table ballots tape wires board r e =
-    refused-fine runNumbers (runResult s table ballots tape wires board .answer) r
-    (ran-fine _ s (gatesOf table) ballots tape wires board
-    (first-fine runNumbers (runReasons s table ballots tape wires board) (run-all s table ballots tape wires board))) e
+    → firstOf (runReasons s table ballots tape wires board) ≡ some r → T (hasNumberIn runReasonNumbers r)
+unfolding runReasons all hasNumberIn reasonAt
+run-number s table ballots tape wires board =
+    let ns = runReasonNumbers in
+    let buffers = bufferReasons (ballotBytes s) (s .candidates) (sizeOf (gatesOf table)) tape wires board in
+    first-number ns (testReasons s table ++ ballotReasons s ballots ++ buffers)
+    (both ns (testReasons s table ++ ballotReasons s ballots) buffers
+    (list-and-ballots-all ns tt tt s table ballots)
+    (wider bufferReasonNumbers ns tt buffers (buffers-all (ballotBytes s) (s .candidates) (sizeOf (gatesOf table)) tape wires board)))

@@ -33,6 +33,14 @@ use Rattle.tally.proofs.TestReasons.{orElse, first-append, TestPassed, 
 unfoldable pub lentFound : Bool → Place → Bool → Bool → Option Reason
 lentFound tape byte wires board = firstOf (unless tape 7 ∷ foundAt 8 byte ∷ unless wires 9 ∷ unless board 10 ∷ [])
 
+pub passed-by : (t : Bool) (p : Place) (u v : Bool) → lentFound t p u v ≡ none → (t ≡ true) × (p ≡ Nowhere) × (u ≡ true) × (v ≡ true)
+unfolding lentFound unless foundAt firstOf
+passed-by false p u v e = let z : _≡_ {A = ℕ} 0 1 = cc in absurd (omega arith)
+passed-by true (At j) u v e = let z : _≡_ {A = ℕ} 0 1 = cc in absurd (omega arith)
+passed-by true Nowhere false v e = let z : _≡_ {A = ℕ} 0 1 = cc in absurd (omega arith)
+passed-by true Nowhere true false e = let z : _≡_ {A = ℕ} 0 1 = cc in absurd (omega arith)
+passed-by true Nowhere true true e = (refl, refl, refl, refl)
+
 module _ (i k : ℕ) (size : Size) (tape wires board : List ℕ) where
   pub lent-by : (t : Bool) (p : Place) (u v : Bool) → eqb (length tape) (size .conditional) ≡ t → firstAboveOne 0 tape ≡ p
       → eqb (length wires) (i + size .gates) ≡ u → eqb (length board) (size .conditional + k) ≡ v
@@ -46,14 +54,6 @@ module _ (i k : ℕ) (size : Size) (tape wires board : List ℕ) where
     pub tapeBits : firstAboveOne 0 tape ≡ Nowhere
     pub wiresLength : length wires ≡ i + size .gates
     pub boardLength : length board ≡ size .conditional + k
-
-  passed-by : (t : Bool) (p : Place) (u v : Bool) → lentFound t p u v ≡ none → (t ≡ true) × (p ≡ Nowhere) × (u ≡ true) × (v ≡ true)
-  unfolding lentFound unless foundAt firstOf
-  passed-by false p u v e = let z : _≡_ {A = ℕ} 0 1 = cc in absurd (omega arith)
-  passed-by true (At j) u v e = let z : _≡_ {A = ℕ} 0 1 = cc in absurd (omega arith)
-  passed-by true Nowhere false v e = let z : _≡_ {A = ℕ} 0 1 = cc in absurd (omega arith)
-  passed-by true Nowhere true false e = let z : _≡_ {A = ℕ} 0 1 = cc in absurd (omega arith)
-  passed-by true Nowhere true true e = (refl, refl, refl, refl)
 
   pub lent-passed : firstOf (bufferReasons i k size tape wires board) ≡ none → LentPassed
   lent-passed e =

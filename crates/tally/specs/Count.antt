@@ -6,7 +6,7 @@ use Prim.Native.Nat.{ℕ}
 use Rattle.jury.specs.declared.shape.Shape.{Shape}
 use Rattle.jury.specs.Shape.{withinLimits}
 use Rattle.jury.specs.Reason.{Reason, unless, firstOf}
-use Rattle.jury.specs.Ballots.{ballotReasons}
+use Rattle.jury.specs.Ballots.{ballotReasons, ballotReasonNumbers}
 use Rattle.jury.specs.ClosingBytes.{eightBytes}
 use Rattle.tally.specs.Answer.{Outcome, outcome}
 use Rattle.tally.specs.Rule.{closingFor}
@@ -14,6 +14,9 @@ use Rattle.tally.specs.Rule.{closingFor}
 -- The first reason of a count that applies. The order is 1, 4, 5, then 6 for grades or 11 and 12 for rankings.
 unfoldable pub countReason : Shape → List ℕ → Option Reason
 countReason s xs = firstOf (unless (withinLimits s) 1 ∷ ballotReasons s xs)
+
+abbrev pub countReasonNumbers : List ℕ
+countReasonNumbers = 1 ∷ ballotReasonNumbers
 
 -- The closing bytes of an accepted count; eight zeros on a refusal.
 unfoldable pub closingAfter : Option Reason → List ℕ → List ℕ

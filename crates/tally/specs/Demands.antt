@@ -15,24 +15,25 @@ use Rattle.jury.specs.Accepted.{AcceptedBallots}
 use Rattle.tally.specs.Answer.{refused, accepted, Size}
 use Rattle.tally.specs.SaysWhoWins.{SaysWhoWins}
 use Rattle.tally.specs.Memory.{KeepsMemory, BoardKeepsMemory}
-use Rattle.tally.specs.Count.{countReason, plainClosing, countOutcome}
-use Rattle.tally.specs.Measure.{measureOutcome}
-use Rattle.tally.specs.Test.{testOutcome}
-use Rattle.tally.specs.Write.{writeOutcome, writeResult}
-use Rattle.tally.specs.Run.{BoardCall, runResult, runNumbers}
+use Rattle.tally.specs.Count.{countReason, countReasonNumbers, plainClosing, countOutcome}
+use Rattle.tally.specs.Measure.{measureReasonNumbers, measureOutcome}
+use Rattle.tally.specs.Test.{testReasonNumbers, testOutcome}
+use Rattle.tally.specs.Write.{writeReasonNumbers, writeOutcome, writeResult}
+use Rattle.tally.specs.Run.{BoardCall, runResult, runReasonNumbers}
 use Rattle.tally.specs.Hiding.{closingBytes, RunTellsNoMore}
 
 -- Demand 1 for the five entry points. Measure, test and count are lent no table to write to.
 pub record TallyMemory : Type 0 where
-  pub measure : (s : Shape) → KeepsMemory (1 ∷ []) (measureOutcome s) [] []
+  pub measure : (s : Shape) → KeepsMemory measureReasonNumbers (measureOutcome s) [] []
   pub write : (s : Shape) (table : List ℕ)
-      → KeepsMemory (1 ∷ 2 ∷ []) (writeOutcome s table) (record { before = table; after = writeResult s table } ∷ []) []
-  pub test : (s : Shape) (table : List ℕ) → KeepsMemory (1 ∷ 2 ∷ 3 ∷ []) (testOutcome s table) [] []
+      → KeepsMemory writeReasonNumbers (writeOutcome s table)
+      (record { before = table; after = writeResult s table } ∷ []) []
+  pub test : (s : Shape) (table : List ℕ) → KeepsMemory testReasonNumbers (testOutcome s table) [] []
   pub run : (s : Shape) (table ballots tape wires board : List ℕ)
-      → BoardKeepsMemory runNumbers wires board
+      → BoardKeepsMemory runReasonNumbers wires board
       (runResult s table ballots tape wires board)
   pub count : (s : Shape) (ballots : List ℕ)
-      → KeepsMemory (1 ∷ 4 ∷ 5 ∷ 6 ∷ 11 ∷ 12 ∷ []) (countOutcome s ballots) [] []
+      → KeepsMemory countReasonNumbers (countOutcome s ballots) [] []
 
 -- The list that an accepted write left: the first 4G numbers of the table. `size` is the answer of the write.
 unfoldable pub listIn : Shape → Size → List ℕ → List ℕ

@@ -1,11 +1,12 @@
 -- The entry point [measure].
-use mathlib.Core.List.{[], _∷_}
+use mathlib.Core.Option.{Option}
+use mathlib.Core.List.{List, [], _∷_}
 use Prim.Native.Nat.{ℕ}
 use lib.ListN.{length}
 use Rattle.gates.specs.Board.{conditionalCount}
 use Rattle.jury.specs.declared.shape.Shape.{Shape}
 use Rattle.jury.specs.Shape.{withinLimits, ballotBytes}
-use Rattle.jury.specs.Reason.{reasonOf, unless, firstOf}
+use Rattle.jury.specs.Reason.{Reason, reasonOf, unless, firstOf}
 use Rattle.tally.specs.Answer.{Outcome, refused, accepted, outcome}
 use Rattle.tally.specs.OwnList.{ownList}
 use Rattle.tally.specs.declared.measure.Measured.{Measured}
@@ -21,8 +22,14 @@ unfoldable pub measuresOf : Shape → Measures
 measuresOf s = record { gates = length (ownList s); conditional = conditionalCount (ownList s); inputs = ballotBytes s }
 
 -- Measuring is refused only for reason 1.
+abbrev pub measureReasons : Shape → List (Option Reason)
+measureReasons s = unless (withinLimits s) 1 ∷ []
+
+abbrev pub measureReasonNumbers : List ℕ
+measureReasonNumbers = 1 ∷ []
+
 unfoldable pub measureOutcome : Shape → Outcome Measures
-measureOutcome s = outcome (firstOf (unless (withinLimits s) 1 ∷ [])) (measuresOf s)
+measureOutcome s = outcome (firstOf (measureReasons s)) (measuresOf s)
 
 -- What each case of the program's enum means.
 unfoldable pub measuredBy : Measured → Outcome Measures

@@ -11,9 +11,9 @@ use Rattle.gates.specs.Test.{firstAboveOne}
 use Rattle.jury.specs.declared.shape.Shape.{Shape}
 use Rattle.jury.specs.Shape.{ballotBytes}
 use Rattle.jury.specs.Reason.{Reason, unless, foundAt, firstOf}
-use Rattle.jury.specs.Ballots.{ballotReasons}
+use Rattle.jury.specs.Ballots.{ballotReasons, ballotReasonNumbers}
 use Rattle.tally.specs.Answer.{Outcome, refused, accepted, outcome, Size, sizeOf}
-use Rattle.tally.specs.Test.{testReasons}
+use Rattle.tally.specs.Test.{testReasons, testReasonNumbers}
 
 -- The tape has a bit for each conditional gate.
 abbrev pub tapeReason : Size → List ℕ → Option Reason
@@ -21,8 +21,8 @@ tapeReason size tape = unless (eqb (length tape) (size .conditional)) 7
 
 -- For a list with i inputs and k outputs, the wire table has a byte for each input and gate, and the board a byte
 -- for each conditional gate and output.
-abbrev pub tableReasons : ℕ → ℕ → Size → List ℕ → List ℕ → List (Option Reason)
-tableReasons i k size wires board =
+abbrev pub wiresAndBoardReasons : ℕ → ℕ → Size → List ℕ → List ℕ → List (Option Reason)
+wiresAndBoardReasons i k size wires board =
     unless (eqb (length wires) (i + size .gates)) 9
     ∷ unless (eqb (length board) (size .conditional + k)) 10
     ∷ []
@@ -30,7 +30,10 @@ tableReasons i k size wires board =
 -- The reasons of tape, wire table and board, in the order 7, 8, 9, 10.
 unfoldable pub bufferReasons : ℕ → ℕ → Size → List ℕ → List ℕ → List ℕ → List (Option Reason)
 bufferReasons i k size tape wires board =
-    tapeReason size tape ∷ foundAt 8 (firstAboveOne 0 tape) ∷ tableReasons i k size wires board
+    tapeReason size tape ∷ foundAt 8 (firstAboveOne 0 tape) ∷ wiresAndBoardReasons i k size wires board
+
+abbrev pub bufferReasonNumbers : List ℕ
+bufferReasonNumbers = 7 ∷ 8 ∷ 9 ∷ 10 ∷ []
 
 -- All reasons of a run, in the order of its tests: those of the list, of the ballots, and of tape, wire table and
 -- board.
@@ -40,9 +43,8 @@ runReasons s table ballots tape wires board =
     ++ ballotReasons s ballots
     ++ bufferReasons (ballotBytes s) (s .candidates) (sizeOf (gatesOf table)) tape wires board
 
--- The numbers of these reasons.
-abbrev pub runNumbers : List ℕ
-runNumbers = 1 ∷ 2 ∷ 3 ∷ 4 ∷ 5 ∷ 6 ∷ 11 ∷ 12 ∷ 7 ∷ 8 ∷ 9 ∷ 10 ∷ []
+abbrev pub runReasonNumbers : List ℕ
+runReasonNumbers = testReasonNumbers ++ ballotReasonNumbers ++ bufferReasonNumbers
 
 -- The answer of a run: the first reason, or the list's own G and C.
 abbrev pub runOutcome : Shape → List ℕ → List ℕ → List ℕ → List ℕ → List ℕ → Outcome Size

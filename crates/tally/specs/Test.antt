@@ -14,6 +14,9 @@ use Rattle.tally.specs.Answer.{Outcome, outcome, Size, sizeOf}
 unfoldable pub testReasons : Shape → List ℕ → List (Option Reason)
 testReasons s table = unless (withinLimits s) 1 ∷ listReason (tested (ballotBytes s) (s .candidates) table) ∷ []
 
+abbrev pub testReasonNumbers : List ℕ
+testReasonNumbers = 1 ∷ 2 ∷ 3 ∷ []
+
 -- The answer of a test: the first reason, or the list's own G and C.
 unfoldable pub testOutcome : Shape → List ℕ → Outcome Size
 testOutcome s table = outcome (firstOf (testReasons s table)) (sizeOf (gatesOf table))

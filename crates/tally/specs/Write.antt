@@ -20,6 +20,9 @@ use Rattle.tally.specs.Test.{testOutcome}
 unfoldable pub writeReasons : Shape → List ℕ → List (Option Reason)
 writeReasons s table = unless (withinLimits s) 1 ∷ unless (leb (4 * length (ownList s)) (length table)) 2 ∷ []
 
+abbrev pub writeReasonNumbers : List ℕ
+writeReasonNumbers = 1 ∷ 2 ∷ []
+
 -- The answer of a write: the first reason, or G and C of the own list.
 unfoldable pub writeOutcome : Shape → List ℕ → Outcome Size
 writeOutcome s table = outcome (firstOf (writeReasons s table)) (sizeOf (ownList s))

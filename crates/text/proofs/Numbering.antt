@@ -1,42 +1,38 @@
 -- A refusal of writing or reading has one of the numbers of that call.
 -- Assumes nothing.
 use mathlib.Core.Path.{_≡_}
-use mathlib.Core.List.{List, [], _∷_}
-use Prim.Native.Nat.{ℕ}
-use lib.Dec.{T, leb}
+use mathlib.Core.List.{List}
+use Prim.Native.Nat.{ℕ, _*_}
+use lib.Dec.{T}
 use lib.ListN.{length}
+use Rattle.basics.specs.Lists.{all}
 use Rattle.gates.specs.Gate.{gatesOf}
 use Rattle.jury.specs.declared.shape.Shape.{Shape}
-use Rattle.jury.specs.Reason.{Reason, reasonAt, unless}
+use Rattle.jury.specs.Reason.{Reason, reasonAt}
 use Rattle.tally.specs.Answer.{refused, hasNumberIn}
-use Rattle.tally.specs.Test.{testReasons}
-use Rattle.tally.proofs.Numbering.{All, first-fine, both, unless-fine, found-fine, list-fine, outcome-fine, refused-fine}
-use Rattle.text.specs.Text.{textOf}
-use Rattle.text.specs.Write.{textReasons, textOutcome}
-use Rattle.text.specs.Read.{readReasons, readOutcome}
+use Rattle.tally.specs.Test.{testReasons, testReasonNumbers}
+use Rattle.tally.proofs.Numbering.{All, refused-number, both, unless-fine, found-fine, wider, test-all}
+use Rattle.text.specs.Text.{textOf, linesOf}
+use Rattle.text.specs.Write.{textReasons, textReasonNumbers, textOutcome}
+use Rattle.text.specs.Read.{readReasons, readReasonNumbers, readOutcome}
 
 pub text-number : (s : Shape) (table output : List ℕ) (r : Reason) → textOutcome s table output ≡ refused r
-    → T (hasNumberIn (1 ∷ 2 ∷ 3 ∷ 24 ∷ []) r)
-unfolding textOutcome textReasons testReasons All hasNumberIn reasonAt
-text-number s table output r e =
-    let ns : List ℕ = 1 ∷ 2 ∷ 3 ∷ 24 ∷ [] in
-    refused-fine ns (textOutcome s table output) r
-    (outcome-fine ns _ _
-    (first-fine ns (textReasons s table output)
-    (both ns (testReasons s table) (unless (leb (length (textOf (gatesOf table))) (length output)) 24 ∷ [])
-    (unless-fine ns _ 1 tt, (list-fine ns _ tt (λ g. tt), tt)) (unless-fine ns _ 24 tt, tt)))) e
+    → T (hasNumberIn textReasonNumbers r)
+unfolding textOutcome textReasons All all hasNumberIn reasonAt
+text-number s table output =
+    let ns = textReasonNumbers in
+    refused-number ns (textReasons s table output) (length (textOf (gatesOf table)))
+    (both ns (testReasons s table) _ (wider testReasonNumbers ns tt (testReasons s table) (test-all s table)) (unless-fine ns _ 24 tt, tt))
 
 pub read-number : (s : Shape) (text output : List ℕ) (r : Reason) → readOutcome s text output ≡ refused r
-    → T (hasNumberIn (1 ∷ 2 ∷ 23 ∷ 3 ∷ 24 ∷ []) r)
+    → T (hasNumberIn readReasonNumbers r)
 unfolding readOutcome readReasons All hasNumberIn reasonAt
-read-number s text output r e =
-    let ns : List ℕ = 1 ∷ 2 ∷ 23 ∷ 3 ∷ 24 ∷ [] in
-    refused-fine ns (readOutcome s text output) r
-    (outcome-fine ns _ _
-    (first-fine ns (readReasons s text output) (
+read-number s text output =
+    let ns = readReasonNumbers in
+    refused-number ns (readReasons s text output) (4 * length (linesOf text)) (
       unless-fine ns _ 1 tt,
       (
         unless-fine ns _ 2 tt,
         (found-fine ns 23 _ (λ i. tt), (found-fine ns 3 _ (λ g. tt), (unless-fine ns _ 24 tt, tt))),
       ),
-    ))) e
+    )

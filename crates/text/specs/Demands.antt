@@ -8,15 +8,15 @@ use Rattle.jury.specs.declared.shape.Shape.{Shape}
 use Rattle.tally.specs.Answer.{accepted}
 use Rattle.tally.specs.Memory.{KeepsMemory}
 use Rattle.text.specs.Text.{textOf, linesOf, gatesIn}
-use Rattle.text.specs.Write.{textOutcome, textWritten}
-use Rattle.text.specs.Read.{readOutcome, numbersRead}
+use Rattle.text.specs.Write.{textReasonNumbers, textOutcome, textWritten}
+use Rattle.text.specs.Read.{readReasonNumbers, readOutcome, numbersRead}
 
 pub record TextMemory : Type 0 where
   pub write : (s : Shape) (table output : List ℕ)
-      → KeepsMemory (1 ∷ 2 ∷ 3 ∷ 24 ∷ []) (textOutcome s table output)
+      → KeepsMemory textReasonNumbers (textOutcome s table output)
       (record { before = output; after = textWritten s table output } ∷ []) []
   pub read : (s : Shape) (text output : List ℕ)
-      → KeepsMemory (1 ∷ 2 ∷ 23 ∷ 3 ∷ 24 ∷ []) (readOutcome s text output)
+      → KeepsMemory readReasonNumbers (readOutcome s text output)
       (record { before = output; after = numbersRead s text output } ∷ []) []
   -- an accepted call says how much it wrote, and what comes after that is unchanged
   pub writes-its-length : (s : Shape) (table output : List ℕ) (n : ℕ) → textOutcome s table output ≡ accepted n

@@ -25,6 +25,9 @@ readReasons s text output =
     ∷ unless (leb (4 * length (linesOf text)) (length output)) 24
     ∷ []
 
+abbrev pub readReasonNumbers : List ℕ
+readReasonNumbers = 1 ∷ 2 ∷ 23 ∷ 3 ∷ 24 ∷ []
+
 -- An accepted call answers how many numbers it wrote.
 unfoldable pub readOutcome : Shape → List ℕ → List ℕ → Outcome ℕ
 readOutcome s text output = outcome (firstOf (readReasons s text output)) (4 * length (linesOf text))

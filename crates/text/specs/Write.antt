@@ -8,7 +8,7 @@ use Rattle.gates.specs.Gate.{gatesOf}
 use Rattle.jury.specs.declared.shape.Shape.{Shape}
 use Rattle.jury.specs.Reason.{Reason, unless, firstOf}
 use Rattle.tally.specs.Answer.{Outcome, outcome, overwritten}
-use Rattle.tally.specs.Test.{testReasons}
+use Rattle.tally.specs.Test.{testReasons, testReasonNumbers}
 use Rattle.text.specs.Answer.{TextResult}
 use Rattle.text.specs.Text.{textOf}
 
@@ -17,6 +17,9 @@ use Rattle.text.specs.Text.{textOf}
 unfoldable pub textReasons : Shape → List ℕ → List ℕ → List (Option Reason)
 textReasons s table output =
     testReasons s table ++ unless (leb (length (textOf (gatesOf table))) (length output)) 24 ∷ []
+
+abbrev pub textReasonNumbers : List ℕ
+textReasonNumbers = testReasonNumbers ++ 24 ∷ []
 
 -- An accepted call answers how many characters it wrote.
 unfoldable pub textOutcome : Shape → List ℕ → List ℕ → Outcome ℕ

@@ -3,20 +3,21 @@
 use mathlib.Core.Path.{_≡_, _∙_, refl, sym, ap}
 use mathlib.Core.Bool.{Bool, true, false, cond}
 use mathlib.Core.Option.{Option, none, some}
-use mathlib.Core.List.{List, [], _∷_}
+use mathlib.Core.List.{List}
 use Prim.Native.Nat.{ℕ, _+_, _*_}
 use lib.Dec.{T, eqb}
 use lib.ListN.{length, replicate, length-append, length-replicate}
 use lib.Seq.{sets, length-sets}
 use borrow.Author.Tests.{eqb-true}
+use Rattle.basics.specs.Lists.{all}
 use Rattle.gates.specs.Gate.{gatesOf}
 use Rattle.gates.specs.Board.{conditionalCount}
 use Rattle.jury.specs.declared.shape.Shape.{Shape}
 use Rattle.jury.specs.Shape.{ballotBytes}
 use Rattle.jury.specs.Reason.{Reason, reasonAt, firstOf}
 use Rattle.tally.specs.Answer.{refused, accepted, hasNumberIn, Size, sizeOf, afterwards}
-use Rattle.tally.specs.Test.{testReasons}
-use Rattle.tally.proofs.Numbering.{All, first-fine, both, unless-fine, list-fine, outcome-fine, refused-fine}
+use Rattle.tally.specs.Test.{testReasons, testReasonNumbers}
+use Rattle.tally.proofs.Numbering.{All, refused-number, both, unless-fine, wider, test-all}
 use Rattle.tally.specs.Memory.{Each}
 use Rattle.basics.proofs.Flags.{and-first, and-second}
 use Rattle.levels.specs.Answer.{depthsOf}
@@ -26,88 +27,48 @@ use Rattle.trustee_shares.specs.Views.{closingParts}
 use Rattle.trustee_rounds.specs.Rounds.{enters, publishes, closes, startWires, startPublished}
 use Rattle.trustee_rounds.proofs.Closing.{length-enters, length-publishes}
 use Rattle.trustee_alone.specs.Own.{ownTablesFit}
-use Rattle.trustee_alone.specs.Start.{ownReasons, startReasons, startOutcome, startedWires, startedPublished}
-use Rattle.trustee_alone.specs.Rounds.{tableReasons, roundReasons, roundOutcome, ownTurn, wiresMade, publishedMade, roundedWires, roundedPublished}
-use Rattle.trustee_alone.specs.Finish.{finishReasons, finishOutcome, finishedWires}
+use Rattle.trustee_alone.specs.Start.{ownReasons, startReasons, startReasonNumbers, startOutcome, startedWires, startedPublished}
+use Rattle.trustee_alone.specs.Rounds.{tableReasons, roundReasons, roundReasonNumbers, roundOutcome, ownTurn, wiresMade, publishedMade, roundedWires, roundedPublished}
+use Rattle.trustee_alone.specs.Finish.{finishReasons, finishReasonNumbers, finishOutcome, finishedWires}
 use Rattle.trustee_alone.specs.Demands.{AloneMemory}
 use Rattle.trustee_alone.proofs.Tests.{passed, both-passed, left-old, left-new}
 use Rattle.trustee_alone.proofs.Sizes.{fit}
 
-start-numbers : List ℕ
-start-numbers = 1 ∷ 2 ∷ 3 ∷ 16 ∷ 17 ∷ 18 ∷ []
-
-round-numbers : List ℕ
-round-numbers = 1 ∷ 2 ∷ 3 ∷ 16 ∷ 17 ∷ 18 ∷ 200 ∷ 201 ∷ 202 ∷ []
-
-finish-numbers : List ℕ
-finish-numbers = 1 ∷ 2 ∷ 3 ∷ 17 ∷ []
-
-start-list : (s : Shape) (table : List ℕ) → All start-numbers (testReasons s table)
-unfolding All testReasons hasNumberIn reasonAt start-numbers
-start-list s table = (unless-fine start-numbers _ 1 tt, (list-fine start-numbers _ tt (λ g. tt), tt))
-
-round-list : (s : Shape) (table : List ℕ) → All round-numbers (testReasons s table)
-unfolding All testReasons hasNumberIn reasonAt round-numbers
-round-list s table = (unless-fine round-numbers _ 1 tt, (list-fine round-numbers _ tt (λ g. tt), tt))
-
-finish-list : (s : Shape) (table : List ℕ) → All finish-numbers (testReasons s table)
-unfolding All testReasons hasNumberIn reasonAt finish-numbers
-finish-list s table = (unless-fine finish-numbers _ 1 tt, (list-fine finish-numbers _ tt (λ g. tt), tt))
-
-start-all : (s : Shape) (table : List ℕ) (t p : ℕ) (shares triples ws published : List ℕ)
-    → All start-numbers (startReasons s table t p shares triples ws published)
-unfolding All startReasons ownReasons hasNumberIn reasonAt start-numbers
-start-all s table t p shares triples ws published =
-    both start-numbers (testReasons s table) _ (start-list s table)
-    (unless-fine start-numbers _ 16 tt, (unless-fine start-numbers _ 17 tt, (unless-fine start-numbers _ 18 tt, tt)))
-
-round-all : (s : Shape) (table : List ℕ) (t p round : ℕ) (levels triples heard ws published : List ℕ)
-    → All round-numbers (roundReasons s table t p round levels triples heard ws published)
-unfolding All roundReasons tableReasons hasNumberIn reasonAt round-numbers
-round-all s table t p round levels triples heard ws published =
-    both round-numbers (testReasons s table) _ (round-list s table) (
-      unless-fine round-numbers _ 16 tt,
-      (
-        unless-fine round-numbers _ 17 tt,
-        (
-          unless-fine round-numbers _ 18 tt,
-          (
-            unless-fine round-numbers _ 200 tt,
-            (unless-fine round-numbers _ 201 tt, (unless-fine round-numbers _ 202 tt, tt)),
-          ),
-        ),
-      ),
-    )
-
-finish-all : (s : Shape) (table ws : List ℕ) → All finish-numbers (finishReasons s table ws)
-unfolding All finishReasons hasNumberIn reasonAt finish-numbers
-finish-all s table ws = both finish-numbers (testReasons s table) _ (finish-list s table) (unless-fine finish-numbers _ 17 tt, tt)
-
 pub start-number : (s : Shape) (table : List ℕ) (t p : ℕ) (shares triples ws published : List ℕ) (r : Reason)
-    → startOutcome s table t p shares triples ws published ≡ refused r → T (hasNumberIn (1 ∷ 2 ∷ 3 ∷ 16 ∷ 17 ∷ 18 ∷ []) r)
-unfolding startOutcome start-numbers
-start-number s table t p shares triples ws published r e =
-    refused-fine start-numbers (startOutcome s table t p shares triples ws published) r
-    (outcome-fine start-numbers _ _
-    (first-fine start-numbers (startReasons s table t p shares triples ws published)
-    (start-all s table t p shares triples ws published))) e
+    → startOutcome s table t p shares triples ws published ≡ refused r → T (hasNumberIn startReasonNumbers r)
+unfolding startOutcome startReasons ownReasons All all hasNumberIn reasonAt
+start-number s table t p shares triples ws published =
+    let ns = startReasonNumbers in
+    refused-number ns (startReasons s table t p shares triples ws published) (sizeOf (gatesOf table))
+    (both ns (testReasons s table) _ (wider testReasonNumbers ns tt (testReasons s table) (test-all s table))
+    (unless-fine ns _ 16 tt, (unless-fine ns _ 17 tt, (unless-fine ns _ 18 tt, tt))))
 
 pub round-number : (s : Shape) (table : List ℕ) (t p round : ℕ) (levels triples heard ws published : List ℕ)
     (r : Reason) → roundOutcome s table t p round levels triples heard ws published ≡ refused r
-    → T (hasNumberIn (1 ∷ 2 ∷ 3 ∷ 16 ∷ 17 ∷ 18 ∷ 200 ∷ 201 ∷ 202 ∷ []) r)
-unfolding roundOutcome round-numbers
-round-number s table t p round levels triples heard ws published r e =
-    refused-fine round-numbers (roundOutcome s table t p round levels triples heard ws published) r
-    (outcome-fine round-numbers _ _
-    (first-fine round-numbers (roundReasons s table t p round levels triples heard ws published)
-    (round-all s table t p round levels triples heard ws published))) e
+    → T (hasNumberIn roundReasonNumbers r)
+unfolding roundOutcome roundReasons tableReasons All all hasNumberIn reasonAt
+round-number s table t p round levels triples heard ws published =
+    let ns = roundReasonNumbers in
+    refused-number ns (roundReasons s table t p round levels triples heard ws published)
+    (depthsOf (ballotBytes s) (gatesOf table))
+    (both ns (testReasons s table) _ (wider testReasonNumbers ns tt (testReasons s table) (test-all s table)) (
+      unless-fine ns _ 16 tt,
+      (
+        unless-fine ns _ 17 tt,
+        (
+          unless-fine ns _ 18 tt,
+          (unless-fine ns _ 200 tt, (unless-fine ns _ 201 tt, (unless-fine ns _ 202 tt, tt))),
+        ),
+      ),
+    ))
 
 pub finish-number : (s : Shape) (table ws : List ℕ) (r : Reason) → finishOutcome s table ws ≡ refused r
-    → T (hasNumberIn (1 ∷ 2 ∷ 3 ∷ 17 ∷ []) r)
-unfolding finishOutcome finish-numbers
-finish-number s table ws r e =
-    refused-fine finish-numbers (finishOutcome s table ws) r
-    (outcome-fine finish-numbers _ _ (first-fine finish-numbers (finishReasons s table ws) (finish-all s table ws))) e
+    → T (hasNumberIn finishReasonNumbers r)
+unfolding finishOutcome finishReasons All all hasNumberIn reasonAt
+finish-number s table ws =
+    let ns = finishReasonNumbers in
+    refused-number ns (finishReasons s table ws) (sizeOf (gatesOf table))
+    (both ns (testReasons s table) _ (wider testReasonNumbers ns tt (testReasons s table) (test-all s table)) (unless-fine ns _ 17 tt, tt))
 
 start-refused : (s : Shape) (table : List ℕ) (t p : ℕ) (shares triples ws published : List ℕ) (r : Reason)
     → startOutcome s table t p shares triples ws published ≡ refused r

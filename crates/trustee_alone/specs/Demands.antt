@@ -20,9 +20,9 @@ use Rattle.trustee_rounds.specs.Together.{sumsOf, Holdings, publishedAfter, hol
 use Rattle.trustees.specs.Call.{Call, wirePartsIn}
 use Rattle.trustees.specs.Result.{trusteesResult}
 use Rattle.trustees.specs.Demands.{Way, Tallies}
-use Rattle.trustee_alone.specs.Start.{startOutcome, startedWires, startedPublished}
-use Rattle.trustee_alone.specs.Rounds.{roundOutcome, roundedWires, roundedPublished}
-use Rattle.trustee_alone.specs.Finish.{finishOutcome, finishedWires}
+use Rattle.trustee_alone.specs.Start.{startReasonNumbers, startOutcome, startedWires, startedPublished}
+use Rattle.trustee_alone.specs.Rounds.{roundReasonNumbers, roundOutcome, roundedWires, roundedPublished}
+use Rattle.trustee_alone.specs.Finish.{finishReasonNumbers, finishOutcome, finishedWires}
 
 -- A table before and after a call.
 abbrev pub lent : (before after : List ℕ) → Lent
@@ -31,16 +31,15 @@ lent before after = record { before = before; after = after }
 -- Demand 1. Start and rounds may write to the wire parts and the published bits; finish empties the wire parts.
 pub record AloneMemory : Type 0 where
   pub start : (s : Shape) (table : List ℕ) (t p : ℕ) (shares triples ws published : List ℕ)
-      → KeepsMemory (1 ∷ 2 ∷ 3 ∷ 16 ∷ 17 ∷ 18 ∷ []) (startOutcome s table t p shares triples ws published)
+      → KeepsMemory startReasonNumbers (startOutcome s table t p shares triples ws published)
       (lent ws (startedWires s table t p shares triples ws published)
       ∷ lent published (startedPublished s table t p shares triples ws published) ∷ []) []
   pub round : (s : Shape) (table : List ℕ) (t p round : ℕ) (levels triples heard ws published : List ℕ)
-      → KeepsMemory (1 ∷ 2 ∷ 3 ∷ 16 ∷ 17 ∷ 18 ∷ 200 ∷ 201 ∷ 202 ∷ [])
-      (roundOutcome s table t p round levels triples heard ws published)
+      → KeepsMemory roundReasonNumbers (roundOutcome s table t p round levels triples heard ws published)
       (lent ws (roundedWires s table t p round levels triples heard ws published)
       ∷ lent published (roundedPublished s table t p round levels triples heard ws published) ∷ []) []
   pub finish : (s : Shape) (table ws : List ℕ)
-      → KeepsMemory (1 ∷ 2 ∷ 3 ∷ 17 ∷ []) (finishOutcome s table ws) (lent ws (finishedWires s table ws) ∷ [])
+      → KeepsMemory finishReasonNumbers (finishOutcome s table ws) (lent ws (finishedWires s table ws) ∷ [])
       (lent ws (finishedWires s table ws) ∷ [])
 
 -- I of the call's shape.

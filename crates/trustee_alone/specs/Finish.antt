@@ -9,13 +9,16 @@ use Rattle.jury.specs.declared.shape.Shape.{Shape}
 use Rattle.jury.specs.Shape.{ballotBytes}
 use Rattle.jury.specs.Reason.{Reason, unless, firstOf}
 use Rattle.tally.specs.Answer.{Outcome, outcome, Size, sizeOf, afterwards}
-use Rattle.tally.specs.Test.{testReasons}
+use Rattle.tally.specs.Test.{testReasons, testReasonNumbers}
 
 -- The reasons, in the order of their tests: 1, 2 and 3 of the list, then 17 if the wire parts have the wrong
 -- length.
 unfoldable pub finishReasons : Shape → List ℕ → List ℕ → List (Option Reason)
 finishReasons s table wireParts =
     testReasons s table ++ unless (eqb (length wireParts) (ballotBytes s + length (gatesOf table))) 17 ∷ []
+
+abbrev pub finishReasonNumbers : List ℕ
+finishReasonNumbers = testReasonNumbers ++ 17 ∷ []
 
 -- The answer: the first reason, or G and C.
 unfoldable pub finishOutcome : Shape → List ℕ → List ℕ → Outcome Size

@@ -12,7 +12,7 @@ use Rattle.jury.specs.declared.shape.Shape.{Shape}
 use Rattle.jury.specs.Shape.{ballotBytes}
 use Rattle.jury.specs.Reason.{Reason, unless, firstOf}
 use Rattle.tally.specs.Answer.{Outcome, outcome, sizeOf, afterwards}
-use Rattle.tally.specs.Test.{testReasons}
+use Rattle.tally.specs.Test.{testReasons, testReasonNumbers}
 use Rattle.levels.specs.Answer.{Depths, depthsOf}
 use Rattle.trustee_gates.specs.Dealing.{onlyBits}
 use Rattle.trustee_rounds.specs.Rounds.{Turn, enters, publishes, closes}
@@ -40,6 +40,9 @@ roundReasons s table t p round levels triples heard wireParts published =
     testReasons s table
     ++ tableReasons (ballotBytes s) (s .candidates) (gatesOf table) t p round levels triples heard wireParts
     published
+
+abbrev pub roundReasonNumbers : List ℕ
+roundReasonNumbers = testReasonNumbers ++ 16 ∷ 17 ∷ 18 ∷ 200 ∷ 201 ∷ 202 ∷ []
 
 -- The answer: a reason, or G, C and R.
 unfoldable pub roundOutcome : Shape → List ℕ → ℕ → ℕ → ℕ → List ℕ → List ℕ → List ℕ → List ℕ → List ℕ → Outcome Depths

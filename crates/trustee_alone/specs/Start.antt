@@ -11,7 +11,7 @@ use Rattle.jury.specs.declared.shape.Shape.{Shape}
 use Rattle.jury.specs.Shape.{ballotBytes}
 use Rattle.jury.specs.Reason.{Reason, unless, firstOf}
 use Rattle.tally.specs.Answer.{Outcome, outcome, Size, sizeOf, afterwards}
-use Rattle.tally.specs.Test.{testReasons}
+use Rattle.tally.specs.Test.{testReasons, testReasonNumbers}
 use Rattle.trustee_gates.specs.Dealing.{onlyBits}
 use Rattle.trustee_rounds.specs.Rounds.{startWires, startPublished}
 use Rattle.trustee_alone.specs.Own.{isTrustee, ownTablesFit, OwnResult}
@@ -30,6 +30,9 @@ unfoldable pub startReasons : Shape → List ℕ → ℕ → ℕ → List ℕ �
 startReasons s table t p shares triples wireParts published =
     testReasons s table
     ++ ownReasons (ballotBytes s) (s .candidates) (sizeOf (gatesOf table)) t p shares triples wireParts published
+
+abbrev pub startReasonNumbers : List ℕ
+startReasonNumbers = testReasonNumbers ++ 16 ∷ 17 ∷ 18 ∷ []
 
 -- The answer: a reason, or G and C.
 unfoldable pub startOutcome : Shape → List ℕ → ℕ → ℕ → List ℕ → List ℕ → List ℕ → List ℕ → Outcome Size

@@ -2,13 +2,12 @@
 -- Assumes nothing.
 use mathlib.Core.Path.{_≡_, _∙_, refl, sym, ap}
 use mathlib.Core.Option.{Option, none, some}
-use mathlib.Core.List.{List, [], _∷_, _++_}
+use mathlib.Core.List.{List, _++_}
 use Prim.Native.Nat.{ℕ, _+_, _*_}
 use lib.Dec.{T}
 use lib.ListN.{length, replicate, length-replicate}
+use Rattle.basics.specs.Lists.{all}
 use Rattle.gates.specs.Gate.{gatesOf}
-use Rattle.jury.specs.declared.shape.Shape.{Shape}
-use Rattle.jury.specs.Shape.{isRanking}
 use Rattle.jury.specs.Reason.{Reason, reasonAt, firstOf}
 use Rattle.jury.specs.Ballots.{ballotReasons}
 use Rattle.jury.specs.ClosingBytes.{eightBytes}
@@ -16,11 +15,11 @@ use Rattle.tally.specs.Answer.{refused, accepted, hasNumberIn, Size, sizeOf}
 use Rattle.tally.specs.Test.{testReasons}
 use Rattle.tally.specs.Memory.{Each}
 use Rattle.tally.proofs.TestReasons.{never}
-use Rattle.tally.proofs.Numbering.{Fine, All, FineSaid, first-fine, both, unless-fine, found-fine, list-fine, kind-fine, refused-fine}
+use Rattle.tally.proofs.Numbering.{All, first-number, both, unless-fine, wider, list-and-ballots-all}
 use Rattle.tally.proofs.Writing as writing
 use Rattle.trustee_shares.proofs.Tables.{length-joined}
 use Rattle.trustees.specs.Call.{PartTables, Call, publishedIn}
-use Rattle.trustees.specs.Reasons.{partReasons, trusteesReasons}
+use Rattle.trustees.specs.Reasons.{partReasons, partReasonNumbers, trusteesReasons, trusteesReasonNumbers}
 use Rattle.trustees.specs.Result.{TrusteesResult, trusteesResultAfter, trusteesResult}
 use Rattle.trustees.specs.Demands.{TrusteesMemory, TrusteesHold}
 use Rattle.trustees.proofs.Reasons.{call-passed, result-by}
@@ -28,68 +27,51 @@ use Rattle.trustees.proofs.Sums.{call-ready, published-long}
 use Rattle.trustees.proofs.Accuracy.{call-accepted, accuracy, own-list}
 use Rattle.trustees.proofs.Hiding.{views-tell-no-more}
 
--- the numbers of all reasons of the call
-numbers : List ℕ
-numbers = 1 ∷ 2 ∷ 3 ∷ 4 ∷ 5 ∷ 6 ∷ 11 ∷ 12 ∷ 16 ∷ 17 ∷ 18 ∷ []
-
-test-all : (s : Shape) (table : List ℕ) → All numbers (testReasons s table)
-unfolding All testReasons hasNumberIn reasonAt numbers
-test-all s table = (unless-fine numbers _ 1 tt, (list-fine numbers _ tt (λ g. tt), tt))
-
-ballots-all : (s : Shape) (xs : List ℕ) → All numbers (ballotReasons s xs)
-unfolding All ballotReasons hasNumberIn reasonAt numbers
-ballots-all s xs = (
-  unless-fine numbers _ 4 tt,
-  (found-fine numbers 5 _ (λ i. tt), kind-fine numbers s xs (isRanking s) (λ i. tt) (λ i. tt) (λ b. tt)),
-)
-
-parts-all : (k : ℕ) (size : Size) (ballots : List ℕ) (t : ℕ) (lent : PartTables) → All numbers (partReasons k size ballots t lent)
-unfolding All partReasons hasNumberIn reasonAt numbers
-parts-all k size ballots t lent = (unless-fine numbers _ 16 tt, (unless-fine numbers _ 17 tt, (unless-fine numbers _ 18 tt, tt)))
-
-result-fine : (o : Option Reason) (c : Call) → Fine numbers o → FineSaid numbers (trusteesResultAfter o c .answer)
-unfolding Fine FineSaid trusteesResultAfter
-result-fine none c f = tt
-result-fine (some r) c f = f
+parts-all : (k : ℕ) (size : Size) (ballots : List ℕ) (t : ℕ) (lent : PartTables) → All partReasonNumbers (partReasons k size ballots t lent)
+unfolding All partReasons hasNumberIn reasonAt
+parts-all k size ballots t lent =
+    let ns = partReasonNumbers in
+    (unless-fine ns _ 16 tt, (unless-fine ns _ 17 tt, (unless-fine ns _ 18 tt, tt)))
 
 module _ (c : Call) where
-  all-fine : All numbers (trusteesReasons c)
-  unfolding trusteesReasons
+  all-fine : All trusteesReasonNumbers (trusteesReasons c)
+  unfolding trusteesReasons all hasNumberIn reasonAt
   all-fine =
-      both numbers (testReasons (c .shape) (c .table) ++ ballotReasons (c .shape) (c .ballots))
-      (partReasons (c .shape .candidates) (sizeOf (gatesOf (c .table))) (c .ballots) (c .trustees) (c .lent))
-      (both numbers (testReasons (c .shape) (c .table)) (ballotReasons (c .shape) (c .ballots))
-      (test-all (c .shape) (c .table)) (ballots-all (c .shape) (c .ballots)))
-      (parts-all (c .shape .candidates) (sizeOf (gatesOf (c .table))) (c .ballots) (c .trustees) (c .lent))
-
-  pub number : (r : Reason) → trusteesResult c .answer ≡ refused r → T (hasNumberIn (1 ∷ 2 ∷ 3 ∷ 4 ∷ 5 ∷ 6 ∷ 11 ∷ 12 ∷ 16 ∷ 17 ∷ 18 ∷ []) r)
-  unfolding trusteesResult numbers
-  number r e =
-      refused-fine numbers (trusteesResult c .answer) r
-      (result-fine _ c (first-fine numbers (trusteesReasons c) all-fine)) e
+      let ns = trusteesReasonNumbers in
+      let test = testReasons (c .shape) (c .table) in
+      let ballots = ballotReasons (c .shape) (c .ballots) in
+      let size = sizeOf (gatesOf (c .table)) in
+      let parts = partReasons (c .shape .candidates) size (c .ballots) (c .trustees) (c .lent) in
+      both ns (test ++ ballots) parts
+      (list-and-ballots-all ns tt tt (c .shape) (c .table) (c .ballots))
+      (wider partReasonNumbers ns tt parts (parts-all (c .shape .candidates) size (c .ballots) (c .trustees) (c .lent)))
 
   whole : trusteesResult c ≡ trusteesResultAfter (firstOf (trusteesReasons c)) c
   whole = result-by c (firstOf (trusteesReasons c)) refl
 
   after-refusal : (o : Option Reason) (r : Reason) → trusteesResultAfter o c .answer ≡ refused r
-      → (trusteesResultAfter o c .wireParts ≡ c .lent .wireParts)
+      → (o ≡ some r) × (trusteesResultAfter o c .wireParts ≡ c .lent .wireParts)
       × (trusteesResultAfter o c .published ≡ c .lent .published)
       × (trusteesResultAfter o c .closing ≡ replicate 8 0)
   unfolding trusteesResultAfter eightBytes
   after-refusal none r e = never (sizeOf (gatesOf (c .table))) r (sym e)
-  after-refusal (some q) r e = (refl, refl, refl)
+  after-refusal (some q) r e = let same : q ≡ r = cc in (ap some same, refl, refl, refl)
 
   refusal : (r : Reason) → trusteesResult c .answer ≡ refused r
-      → (trusteesResult c .wireParts ≡ c .lent .wireParts) × (trusteesResult c .published ≡ c .lent .published)
+      → (firstOf (trusteesReasons c) ≡ some r) × (trusteesResult c .wireParts ≡ c .lent .wireParts)
+      × (trusteesResult c .published ≡ c .lent .published)
       × (trusteesResult c .closing ≡ replicate 8 0)
   refusal r e =
       let o = firstOf (trusteesReasons c) in
       let q = after-refusal o r (sym (ap (λ (z : TrusteesResult). z .answer) whole) ∙ e) in (
-        ap (λ (z : TrusteesResult). z .wireParts) whole ∙ q .0,
-        ap (λ (z : TrusteesResult). z .published) whole
-            ∙ q .1,
-        ap (λ (z : TrusteesResult). z .closing) whole ∙ q .2,
+        q .0,
+        ap (λ (z : TrusteesResult). z .wireParts) whole ∙ q .1,
+        ap (λ (z : TrusteesResult). z .published) whole ∙ q .2,
+        ap (λ (z : TrusteesResult). z .closing) whole ∙ q .3,
       )
+
+  pub number : (r : Reason) → trusteesResult c .answer ≡ refused r → T (hasNumberIn trusteesReasonNumbers r)
+  number r e = first-number trusteesReasonNumbers (trusteesReasons c) all-fine r (refusal r e .0)
 
   empties : (size : Size) → trusteesResult c .answer ≡ accepted size → trusteesResult c .wireParts
       ≡ replicate (length (c .lent .wireParts)) 0
@@ -123,11 +105,11 @@ memory c =
     record {
       keeps = record {
         number = number c;
-        refusal = λ r e. let q = refusal c r e in (q .0, (q .1, tt));
+        refusal = λ r e. let q = refusal c r e in (q .1, (q .2, tt));
         empties = λ size e. (empties c size e, tt);
         lengths = (long .0, (long .1, tt));
       };
-      zeros = λ r e. refusal c r e .2;
+      zeros = λ r e. refusal c r e .3;
     }
 
 pub trustees-hold : TrusteesHold

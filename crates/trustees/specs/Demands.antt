@@ -21,6 +21,7 @@ use Rattle.trustee_shares.specs.Shares.{opened, part, Held}
 use Rattle.trustee_shares.specs.Views.{Dealing, View}
 use Rattle.jury.specs.Shape.{mostCandidates}
 use Rattle.trustees.specs.Call.{Call, dealtAs, wirePartsIn, viewIn}
+use Rattle.trustees.specs.Reasons.{trusteesReasonNumbers}
 use Rattle.trustees.specs.Result.{trusteesResult}
 
 -- An accepted call answers the G and C of its list.
@@ -31,8 +32,7 @@ Accepted c = trusteesResult c .answer ≡ accepted (sizeOf (gatesOf (c .table)))
 pub record TrusteesMemory (c : Call) : Type 0 where
   pub keeps : let parts : Lent = record { before = c .lent .wireParts; after = trusteesResult c .wireParts } in
       let bits : Lent = record { before = c .lent .published; after = trusteesResult c .published } in
-      KeepsMemory (1 ∷ 2 ∷ 3 ∷ 4 ∷ 5 ∷ 6 ∷ 11 ∷ 12 ∷ 16 ∷ 17 ∷ 18 ∷ []) (trusteesResult c .answer) (parts ∷ bits ∷ [])
-      (parts ∷ [])
+      KeepsMemory trusteesReasonNumbers (trusteesResult c .answer) (parts ∷ bits ∷ []) (parts ∷ [])
   pub zeros : (r : Reason) → trusteesResult c .answer ≡ refused r
       → trusteesResult c .closing ≡ replicate mostCandidates 0
 

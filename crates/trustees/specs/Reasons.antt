@@ -7,9 +7,9 @@ use lib.Dec.{eqb, leb}
 use lib.ListN.{length}
 use Rattle.gates.specs.Gate.{gatesOf}
 use Rattle.jury.specs.Reason.{Reason, unless}
-use Rattle.jury.specs.Ballots.{ballotReasons}
+use Rattle.jury.specs.Ballots.{ballotReasons, ballotReasonNumbers}
 use Rattle.tally.specs.Answer.{Size, sizeOf}
-use Rattle.tally.specs.Test.{testReasons}
+use Rattle.tally.specs.Test.{testReasons, testReasonNumbers}
 use Rattle.trustee_gates.specs.Dealing.{dealtWell}
 use Rattle.trustees.specs.Call.{PartTables, Call}
 
@@ -35,9 +35,15 @@ partReasons k size ballots t lent =
     ∷ unless (dealtWell t (size .conditional) ballots (lent .dealing)) 18
     ∷ []
 
+abbrev pub partReasonNumbers : List ℕ
+partReasonNumbers = 16 ∷ 17 ∷ 18 ∷ []
+
 -- All reasons: those of the list, of the ballots, and of the parts.
 unfoldable pub trusteesReasons : Call → List (Option Reason)
 trusteesReasons c =
     testReasons (c .shape) (c .table)
     ++ ballotReasons (c .shape) (c .ballots)
     ++ partReasons (c .shape .candidates) (sizeOf (gatesOf (c .table))) (c .ballots) (c .trustees) (c .lent)
+
+abbrev pub trusteesReasonNumbers : List ℕ
+trusteesReasonNumbers = testReasonNumbers ++ ballotReasonNumbers ++ partReasonNumbers

@@ -1,95 +1,87 @@
 -- The memory demand holds for the urn.
 -- Assumes nothing.
 use mathlib.Core.Path.{_≡_, refl, sym, subst}
-use mathlib.Core.Bool.{Bool, true, false, cond}
+use mathlib.Core.Bool.{Bool, true, false}
 use mathlib.Core.Option.{Option, none, some}
 use mathlib.Core.List.{List, [], _∷_}
 use Prim.Native.Nat.{ℕ, _+_, _-_}
 use lib.Dec.{T}
 use lib.ListN.{length}
+use Rattle.basics.specs.Lists.{all}
 use Rattle.jury.specs.declared.shape.Shape.{Shape}
 use Rattle.jury.specs.Reason.{Reason, reasonAt, unless, firstOf}
 use Rattle.jury.specs.Shape.{isRanking}
-use Rattle.jury.specs.Ballots.{rankedReasons, gradedReasons, ballotReasons}
+use Rattle.jury.specs.Ballots.{gradedReasons, ballotReasons}
+use Rattle.jury.proofs.BallotLaws.{graded-reasons}
 use Rattle.jury.proofs.Limits.{within, graded-is}
 use Rattle.tally.specs.Answer.{Outcome, refused, accepted, outcome, hasNumberIn, afterwards}
 use Rattle.tally.specs.Memory.{Each, KeepsMemory}
-use Rattle.tally.proofs.Numbering.{All, Fine, first-fine, both, unless-fine, found-fine, outcome-fine, refused-fine}
+use Rattle.tally.proofs.RunReasons.{outcome-refused}
+use Rattle.tally.proofs.Numbering.{All, Fine, first-fine, refused-number, both, unless-fine, wider, graded-all, ballots-from}
 use Rattle.urn_chains.specs.Sound.{juryOfOne}
 use Rattle.urn.specs.declared.facts.Facts.{Facts}
 use Rattle.urn_chains.specs.Sound.{gradedShape}
 use Rattle.urn.specs.Facts.{factsOf}
-use Rattle.urn.specs.Admit.{admitReasons, admitAnswer, admitted}
-use Rattle.urn.specs.Withdraw.{withdrawReasons, withdrawAnswer, withdrawn}
-use Rattle.urn.specs.Empty.{emptyReasons, emptyOutcome, emptied}
+use Rattle.urn.specs.Admit.{admitReasons, admitReasonNumbers, admitAnswer, admitted}
+use Rattle.urn.specs.Withdraw.{withdrawReasons, withdrawReasonNumbers, withdrawAnswer, withdrawn}
+use Rattle.urn.specs.Empty.{emptyReasons, emptyReasonNumbers, emptyOutcome, emptied}
 use Rattle.urn.specs.Memory.{UrnMemory}
 use Rattle.urn.proofs.Outcomes.{refused-kept}
 use Rattle.urn.proofs.UrnTheorems.{urn-holds}
 
--- the numbers of the reasons of an admission
-admitting : List ℕ
-admitting = 1 ∷ 13 ∷ 14 ∷ 4 ∷ 5 ∷ 6 ∷ 15 ∷ []
+-- the reasons of graded ballots are 4, 5 and 6
+ballots-fine : (s : Shape) (xs : List ℕ) → isRanking s ≡ false → All admitReasonNumbers (ballotReasons s xs)
+unfolding all hasNumberIn reasonAt
+ballots-fine s xs graded =
+    ballots-from admitReasonNumbers tt s xs
+    (subst (All admitReasonNumbers) (sym (graded-reasons s xs graded)) (wider (6 ∷ []) admitReasonNumbers tt (gradedReasons s xs) (graded-all s xs)))
 
--- the reasons of graded ballots are among them
-ballots-fine : (s : Shape) (xs : List ℕ) → isRanking s ≡ false → All admitting (ballotReasons s xs)
-unfolding All ballotReasons gradedReasons hasNumberIn reasonAt admitting
-ballots-fine s xs graded = (
-  unless-fine admitting _ 4 tt,
-  (
-    found-fine admitting 5 _ (λ i. tt),
-    subst (λ (t : Bool). All admitting (cond t (rankedReasons s xs) (gradedReasons s xs))) (sym graded)
-        (found-fine admitting 6 _ (λ i. tt), tt),
-  ),
-)
-
-admit-fine : (k d : ℕ) (f : Facts) (j : ℕ) (x : List ℕ) → gradedShape k d ≡ true → All admitting (admitReasons k d f j x)
-unfolding All admitReasons hasNumberIn reasonAt admitting
-admit-fine k d f j x e = (
-  unless-fine admitting _ 1 tt,
-  (
-    unless-fine admitting _ 13 tt,
-    (
-      unless-fine admitting _ 14 tt,
-      both admitting (ballotReasons (juryOfOne k d) x) _
-          (ballots-fine (juryOfOne k d) x (graded-is (juryOfOne k d) (within (juryOfOne k d) e)))
-          (unless-fine admitting _ 15 tt, tt),
-    ),
-  ),
-)
+admit-fine : (k d : ℕ) (f : Facts) (j : ℕ) (x : List ℕ) → gradedShape k d ≡ true → All admitReasonNumbers (admitReasons k d f j x)
+unfolding All admitReasons hasNumberIn reasonAt
+admit-fine k d f j x e =
+    let ns = admitReasonNumbers in (
+      unless-fine ns _ 1 tt,
+      (
+        unless-fine ns _ 13 tt,
+        (
+          unless-fine ns _ 14 tt,
+          both ns (ballotReasons (juryOfOne k d) x) _
+              (ballots-fine (juryOfOne k d) x (graded-is (juryOfOne k d) (within (juryOfOne k d) e)))
+              (unless-fine ns _ 15 tt, tt),
+        ),
+      ),
+    )
 
 -- if the shape is not that of a graded jury, the reason is 1
-first-of : (t : Bool) (rest : List (Option Reason)) → t ≡ false → Fine admitting (firstOf (unless t 1 ∷ rest))
-unfolding Fine hasNumberIn reasonAt admitting unless firstOf
-first-of t rest e = subst (λ (t : Bool). Fine admitting (firstOf (unless t 1 ∷ rest))) (sym e) tt
+first-of : (t : Bool) (rest : List (Option Reason)) → t ≡ false → Fine admitReasonNumbers (firstOf (unless t 1 ∷ rest))
+unfolding Fine hasNumberIn reasonAt unless firstOf
+first-of t rest e = subst (λ (t : Bool). Fine admitReasonNumbers (firstOf (unless t 1 ∷ rest))) (sym e) tt
 
 admit-first : (k d : ℕ) (f : Facts) (j : ℕ) (x : List ℕ) (t : Bool) → gradedShape k d ≡ t
-    → Fine admitting (firstOf (admitReasons k d f j x))
+    → Fine admitReasonNumbers (firstOf (admitReasons k d f j x))
 unfolding admitReasons
 admit-first k d f j x false e = first-of (gradedShape k d) _ e
-admit-first k d f j x true e = first-fine admitting (admitReasons k d f j x) (admit-fine k d f j x e)
+admit-first k d f j x true e = first-fine admitReasonNumbers (admitReasons k d f j x) (admit-fine k d f j x e)
 
 admit-numbered : (k d : ℕ) (f : Facts) (j : ℕ) (x : List ℕ) (r : Reason) → admitAnswer k d f j x ≡ refused r
-    → T (hasNumberIn (1 ∷ 13 ∷ 14 ∷ 4 ∷ 5 ∷ 6 ∷ 15 ∷ []) r)
-unfolding admitAnswer admitting
+    → T (hasNumberIn admitReasonNumbers r)
+unfolding admitAnswer Fine
 admit-numbered k d f j x r e =
-    refused-fine admitting (admitAnswer k d f j x) r
-    (outcome-fine admitting _ _ (admit-first k d f j x (gradedShape k d) refl)) e
+    subst (Fine admitReasonNumbers) (outcome-refused (firstOf (admitReasons k d f j x)) (f .ballots + 1) r e)
+    (admit-first k d f j x (gradedShape k d) refl)
 
-withdraw-numbered : (k d : ℕ) (f : Facts) (j : ℕ) (r : Reason) → withdrawAnswer k d f j ≡ refused r → T (hasNumberIn (1 ∷ 13 ∷ 14 ∷ []) r)
+withdraw-numbered : (k d : ℕ) (f : Facts) (j : ℕ) (r : Reason) → withdrawAnswer k d f j ≡ refused r → T (hasNumberIn withdrawReasonNumbers r)
 unfolding withdrawAnswer withdrawReasons All hasNumberIn reasonAt
-withdraw-numbered k d f j r e =
-    let ns : List ℕ = 1 ∷ 13 ∷ 14 ∷ [] in
-    refused-fine ns (withdrawAnswer k d f j) r
-    (outcome-fine ns _ _ (first-fine ns (withdrawReasons k d f j)
-    (unless-fine ns _ 1 tt, (unless-fine ns _ 13 tt, (unless-fine ns _ 14 tt, tt))))) e
+withdraw-numbered k d f j =
+    let ns = withdrawReasonNumbers in
+    refused-number ns (withdrawReasons k d f j) (f .ballots - 1)
+    (unless-fine ns _ 1 tt, (unless-fine ns _ 13 tt, (unless-fine ns _ 14 tt, tt)))
 
-empty-numbered : (k d : ℕ) (table : List ℕ) (r : Reason) → emptyOutcome k d table ≡ refused r → T (hasNumberIn (1 ∷ 13 ∷ []) r)
+empty-numbered : (k d : ℕ) (table : List ℕ) (r : Reason) → emptyOutcome k d table ≡ refused r → T (hasNumberIn emptyReasonNumbers r)
 unfolding emptyOutcome emptyReasons All hasNumberIn reasonAt
-empty-numbered k d table r e =
-    let ns : List ℕ = 1 ∷ 13 ∷ [] in
-    refused-fine ns (emptyOutcome k d table) r
-    (outcome-fine ns _ _ (first-fine ns (emptyReasons k d table)
-    (unless-fine ns _ 1 tt, (unless-fine ns _ 13 tt, tt)))) e
+empty-numbered k d table =
+    let ns = emptyReasonNumbers in
+    refused-number ns (emptyReasons k d table) 0 (unless-fine ns _ 1 tt, (unless-fine ns _ 13 tt, tt))
 
 -- the length is the same after a refusal and after an accepted call
 kept : (o : Option Reason) (v : ℕ) (new old : List ℕ)
@@ -124,20 +116,20 @@ urn-memory =
     record {
       empty = λ k d table.
           let o = firstOf (emptyReasons k d table) in
-          lent-urn (1 ∷ 13 ∷ []) o 0 _ table (empty-numbered k d table)
+          lent-urn emptyReasonNumbers o 0 _ table (empty-numbered k d table)
           (kept o 0 _ table (λ count h. urn-holds .emptying k d table count h .same-length));
       admit = λ k d urn j x.
           let f = factsOf k d urn j in
           let o = firstOf (admitReasons k d f j x) in
-          lent-urn (1 ∷ 13 ∷ 14 ∷ 4 ∷ 5 ∷ 6 ∷ 15 ∷ []) o (f .ballots + 1) _ urn (admit-numbered k d f j x)
+          lent-urn admitReasonNumbers o (f .ballots + 1) _ urn (admit-numbered k d f j x)
           (kept o (f .ballots + 1) _ urn (λ count h. urn-holds .admission k d urn j x count h .same-length));
       withdraw = λ k d urn j.
           let f = factsOf k d urn j in
           let o = firstOf (withdrawReasons k d f j) in
-          lent-urn (1 ∷ 13 ∷ 14 ∷ []) o (f .ballots - 1) _ urn (withdraw-numbered k d f j)
+          lent-urn withdrawReasonNumbers o (f .ballots - 1) _ urn (withdraw-numbered k d f j)
           (kept o (f .ballots - 1) _ urn (λ count h. urn-holds .withdrawal k d urn j count h .same-length));
-      preview-admit = λ k d urn j x. lent-nothing (1 ∷ 13 ∷ 14 ∷ 4 ∷ 5 ∷ 6 ∷ 15 ∷ [])
+      preview-admit = λ k d urn j x. lent-nothing admitReasonNumbers
           (admitAnswer k d (factsOf k d urn j) j x) (admit-numbered k d (factsOf k d urn j) j x);
-      preview-withdraw = λ k d urn j. lent-nothing (1 ∷ 13 ∷ 14 ∷ []) (withdrawAnswer k d (factsOf k d urn j) j)
+      preview-withdraw = λ k d urn j. lent-nothing withdrawReasonNumbers (withdrawAnswer k d (factsOf k d urn j) j)
           (withdraw-numbered k d (factsOf k d urn j) j);
     }

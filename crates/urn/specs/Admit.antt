@@ -22,6 +22,9 @@ admitReasons k d facts juror ballot =
     ∷ unless (goodJuror juror && not (facts .present)) 14
     ∷ (ballotReasons (juryOfOne k d) ballot ++ (unless (not (facts .full)) 15 ∷ []))
 
+abbrev pub admitReasonNumbers : List ℕ
+admitReasonNumbers = 1 ∷ 13 ∷ 14 ∷ 4 ∷ 5 ∷ 6 ∷ 15 ∷ []
+
 -- The answer, given the facts about the urn: a reason, or the new number of ballots.
 unfoldable pub admitAnswer : ℕ → ℕ → Facts → ℕ → List ℕ → Outcome ℕ
 admitAnswer k d facts juror ballot = outcome (firstOf (admitReasons k d facts juror ballot)) (facts .ballots + 1)

@@ -15,6 +15,9 @@ use Rattle.urn.specs.Facts.{UrnResult}
 unfoldable pub emptyReasons : ℕ → ℕ → List ℕ → List (Option Reason)
 emptyReasons k d table = unless (gradedShape k d) 1 ∷ unless (urnLength (k * d) (length table)) 13 ∷ []
 
+abbrev pub emptyReasonNumbers : List ℕ
+emptyReasonNumbers = 1 ∷ 13 ∷ []
+
 -- The answer: a reason, or the number of ballots, which is 0.
 unfoldable pub emptyOutcome : ℕ → ℕ → List ℕ → Outcome ℕ
 emptyOutcome k d table = outcome (firstOf (emptyReasons k d table)) 0

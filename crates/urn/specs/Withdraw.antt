@@ -21,6 +21,9 @@ withdrawReasons k d facts juror =
     ∷ unless (goodJuror juror && facts .present) 14
     ∷ []
 
+abbrev pub withdrawReasonNumbers : List ℕ
+withdrawReasonNumbers = 1 ∷ 13 ∷ 14 ∷ []
+
 -- The answer, given the facts about the urn: a reason, or the new number of ballots.
 unfoldable pub withdrawAnswer : ℕ → ℕ → Facts → ℕ → Outcome ℕ
 withdrawAnswer k d facts juror = outcome (firstOf (withdrawReasons k d facts juror)) (facts .ballots - 1)

@@ -4,29 +4,29 @@ use mathlib.Core.Path.{_≡_, _∙_, refl, sym, ap, subst}
 use mathlib.Core.Logic.{_≢_}
 use mathlib.Core.Bool.{Bool, true, false}
 use mathlib.Core.Option.{Option, none, some}
-use mathlib.Core.List.{List, [], _∷_}
+use mathlib.Core.List.{List}
 use Prim.Native.Nat.{ℕ}
 use native.Mathlib.Omega.{arith}
-use lib.Dec.{T}
 use lib.ListN.{length, replicate}
-use Rattle.gates.specs.Gate.{Gate, gatesOf}
+use Rattle.basics.specs.Lists.{all}
+use Rattle.gates.specs.Gate.{gatesOf}
 use Rattle.gates.specs.Wires.{wiresOf}
 use Rattle.gates.specs.Hiding.{Finished}
 use Rattle.jury.specs.declared.shape.Shape.{Shape}
 use Rattle.jury.specs.Shape.{gradedLimits, ballotBytes}
 use Rattle.jury.specs.Reason.{Reason, reasonAt, firstOf}
 use Rattle.tally.specs.Answer.{Outcome, refused, accepted, hasNumberIn, Size, sizeOf}
-use Rattle.tally.specs.Run.{RunResult, bufferReasons, runResultAfter, runResult}
+use Rattle.tally.specs.Run.{RunResult, bufferReasons, bufferReasonNumbers, runResultAfter, runResult}
 use Rattle.tally.specs.SaysWhoWins.{SaysWhoWins}
 use Rattle.tally.specs.Memory.{Each}
 use Rattle.tally.specs.Hiding.{closingBytes, BoardsHide, RunsHide}
 use Rattle.tally.specs.Demands.{listIn, RunAccuracy}
 use Rattle.tally.proofs.TestReasons.{never, test-passed}
-use Rattle.tally.proofs.Numbering.{Fine, All, FineSaid, first-fine, unless-fine, found-fine, list-fine, refused-fine}
+use Rattle.tally.proofs.Numbering.{All, first-number, unless-fine, list-fine, wider, buffers-all}
 use Rattle.tally.proofs.Hiding.{board-tells-no-more}
 use Rattle.tally.proofs.Demands.{run-lengths, three-demands}
 use Rattle.urn_chains.specs.Sound.{sound}
-use Rattle.urn_run.specs.Run.{urnRunReasons, urnRunResult}
+use Rattle.urn_run.specs.Run.{urnRunReasons, urnRunReasonNumbers, urnRunResult}
 use Rattle.urn_run.specs.Theorems.{ballotsFor, SameAsRun, UrnRunMemory, UrnAccuracy, UrnTellsNoMore, UrnRunHolds}
 use Rattle.urn_run.proofs.Reasons.{by-1, by-13, by-4, same-run, ran-on-urn-by, chain-accepted, urn-run-passed, UrnRunPassed}
 
@@ -40,13 +40,14 @@ module _ (s : Shape) (table urn tape wires board : List ℕ) where
   -- a refused call changes nothing
   after-refusal : (o : Option Reason) (r : Reason) → firstOf (urnRunReasons s table urn tape wires board) ≡ o
       → urnRunResult s table urn tape wires board .answer ≡ refused r
-      → (urnRunResult s table urn tape wires board .wires ≡ wires) × (urnRunResult s table urn tape wires board .board ≡ board)
+      → (o ≡ some r) × (urnRunResult s table urn tape wires board .wires ≡ wires) × (urnRunResult s table urn tape wires board .board ≡ board)
   unfolding runResultAfter
   after-refusal none r e q = never (sizeOf (gatesOf table)) r
       (sym q ∙ ap (λ (z : RunResult). z .answer) (ran-on-urn-by s table urn tape wires board none e))
   after-refusal (some r′) r e q =
       let f = ran-on-urn-by s table urn tape wires board (some r′) e in
-      (ap (λ (z : RunResult). z .wires) f, ap (λ (z : RunResult). z .board) f)
+      let same : r′ ≡ r = let g = sym (ap (λ (z : RunResult). z .answer) f) ∙ q in cc in
+      (ap some same, ap (λ (z : RunResult). z .wires) f, ap (λ (z : RunResult). z .board) f)
 
   answered : (o : Option Reason) (size : Size) → firstOf (urnRunReasons s table urn tape wires board) ≡ o
       → urnRunResult s table urn tape wires board .answer ≡ accepted size
@@ -82,40 +83,24 @@ module _ (s : Shape) (table urn tape wires board : List ℕ) where
       (ap (λ (z : RunResult). length (z .wires)) f ∙ l .0, ap (λ (z : RunResult). length (z .board)) f ∙ l .1)
 
 -- the numbers of the reasons of a run on an urn
-numbers : List ℕ
-numbers = 1 ∷ 13 ∷ 2 ∷ 3 ∷ 4 ∷ 7 ∷ 8 ∷ 9 ∷ 10 ∷ []
-
-lent-all : (i k : ℕ) (size : Size) (tape wires board : List ℕ) → All numbers (bufferReasons i k size tape wires board)
-unfolding All bufferReasons hasNumberIn reasonAt numbers
-lent-all i k size tape wires board =
-    (unless-fine numbers _ 7 tt, (found-fine numbers 8 _ (λ i. tt), (unless-fine numbers _ 9 tt, (unless-fine numbers _ 10 tt, tt))))
-
-urn-run-all : (s : Shape) (table urn tape wires board : List ℕ) → All numbers (urnRunReasons s table urn tape wires board)
-unfolding All urnRunReasons hasNumberIn reasonAt numbers
-urn-run-all s table urn tape wires board = (
-  unless-fine numbers _ 1 tt,
-  (
-    unless-fine numbers _ 13 tt,
-    (
-      list-fine numbers _ tt (λ g. tt),
-      (unless-fine numbers _ 4 tt, lent-all (ballotBytes s) (s .candidates) (sizeOf (gatesOf table)) tape wires board),
-    ),
-  ),
-)
-
-ran-fine : (o : Option Reason) (s : Shape) (gs : List Gate) (ballots tape wires board : List ℕ) → Fine numbers o
-    → FineSaid numbers (runResultAfter o s gs ballots tape wires board .answer)
-unfolding Fine FineSaid runResultAfter
-ran-fine none s gs ballots tape wires board f = tt
-ran-fine (some r) s gs ballots tape wires board f = f
-
-has-number : (s : Shape) (table urn tape wires board : List ℕ) (r : Reason) → urnRunResult s table urn tape wires board .answer ≡ refused r
-    → T (hasNumberIn (1 ∷ 13 ∷ 2 ∷ 3 ∷ 4 ∷ 7 ∷ 8 ∷ 9 ∷ 10 ∷ []) r)
-unfolding urnRunResult numbers
-has-number s table urn tape wires board r e =
-    refused-fine numbers (urnRunResult s table urn tape wires board .answer) r
-    (ran-fine _ s (gatesOf table) (ballotsFor s urn) tape wires board
-    (first-fine numbers (urnRunReasons s table urn tape wires board) (urn-run-all s table urn tape wires board))) e
+urn-run-all : (s : Shape) (table urn tape wires board : List ℕ) → All urnRunReasonNumbers (urnRunReasons s table urn tape wires board)
+unfolding All urnRunReasons all hasNumberIn reasonAt
+urn-run-all s table urn tape wires board =
+    let ns = urnRunReasonNumbers in
+    let size = sizeOf (gatesOf table) in (
+      unless-fine ns _ 1 tt,
+      (
+        unless-fine ns _ 13 tt,
+        (
+          list-fine ns _ tt (λ g. tt),
+          (
+            unless-fine ns _ 4 tt,
+            wider bufferReasonNumbers ns tt (bufferReasons (ballotBytes s) (s .candidates) size tape wires board)
+                (buffers-all (ballotBytes s) (s .candidates) size tape wires board),
+          ),
+        ),
+      ),
+    )
 
 same-as-run : SameAsRun
 same-as-run =
@@ -136,8 +121,10 @@ memory s table urn tape wires board =
     let o = firstOf (urnRunReasons s table urn tape wires board) in
     let lengths = same-lengths s table urn tape wires board o refl in
     record {
-      number = has-number s table urn tape wires board;
-      refusal = λ r e. let kept = after-refusal s table urn tape wires board o r refl e in (kept .0, (kept .1, tt));
+      number = λ r e.
+          first-number urnRunReasonNumbers (urnRunReasons s table urn tape wires board) (urn-run-all s table urn tape wires board) r
+          (after-refusal s table urn tape wires board o r refl e .0);
+      refusal = λ r e. let kept = after-refusal s table urn tape wires board o r refl e in (kept .1, (kept .2, tt));
       empties = λ size e. (emptied s table urn tape wires board o size refl e, tt);
       lengths = (lengths .0, (lengths .1, tt));
     }

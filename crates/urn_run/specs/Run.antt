@@ -10,7 +10,7 @@ use Rattle.jury.specs.declared.shape.Shape.{Shape}
 use Rattle.jury.specs.Shape.{gradedLimits, ballotBytes}
 use Rattle.jury.specs.Reason.{Reason, unless, listReason, firstOf}
 use Rattle.tally.specs.Answer.{sizeOf}
-use Rattle.tally.specs.Run.{bufferReasons, RunResult, runResultAfter}
+use Rattle.tally.specs.Run.{bufferReasons, bufferReasonNumbers, RunResult, runResultAfter}
 use Rattle.urn_chains.specs.Chains.{Entry}
 use Rattle.urn_chains.specs.Sound.{sound, entriesOf}
 
@@ -37,6 +37,9 @@ urnRunReasons s table urn tape wires board =
     ∷ listReason (tested (ballotBytes s) (s .candidates) table)
     ∷ unless (eqb (ballotsIn (s .candidates) (s .grades) urn) (s .ballots)) 4
     ∷ bufferReasons (ballotBytes s) (s .candidates) (sizeOf (gatesOf table)) tape wires board
+
+abbrev pub urnRunReasonNumbers : List ℕ
+urnRunReasonNumbers = 1 ∷ 13 ∷ 2 ∷ 3 ∷ 4 ∷ bufferReasonNumbers
 
 -- What a run on an urn leaves: no change on a refusal, else what a run on the chain's ballots leaves. The urn is
 -- only read, so it is no part of the result.

@@ -3,7 +3,7 @@
 use mathlib.Core.Path.{_≡_}
 use mathlib.Core.Logic.{_≢_}
 use mathlib.Core.Bool.{true, false}
-use mathlib.Core.List.{List, [], _∷_}
+use mathlib.Core.List.{List}
 use Prim.Native.Nat.{ℕ}
 use Rattle.jury.specs.declared.shape.Shape.{Shape}
 use Rattle.jury.specs.Shape.{gradedLimits}
@@ -17,7 +17,7 @@ use Rattle.tally.specs.Memory.{BoardKeepsMemory}
 use Rattle.tally.specs.Hiding.{BoardTellsNoMore}
 use Rattle.tally.specs.Demands.{Accuracy}
 use Rattle.urn_chains.specs.Sound.{sound}
-use Rattle.urn_run.specs.Run.{chainBallots, ballotsIn, urnRunResult}
+use Rattle.urn_run.specs.Run.{chainBallots, ballotsIn, urnRunReasonNumbers, urnRunResult}
 
 -- The ballots that a run of this shape finds in an urn.
 abbrev pub ballotsFor : Shape → List ℕ → List ℕ
@@ -54,8 +54,7 @@ pub record SameAsRun : Type 0 where
 abbrev pub UrnRunMemory : Type 0
 UrnRunMemory =
     (s : Shape) (table urn tape wires board : List ℕ)
-    → BoardKeepsMemory (1 ∷ 13 ∷ 2 ∷ 3 ∷ 4 ∷ 7 ∷ 8 ∷ 9 ∷ 10 ∷ []) wires board
-    (urnRunResult s table urn tape wires board)
+    → BoardKeepsMemory urnRunReasonNumbers wires board (urnRunResult s table urn tape wires board)
 
 -- Demand 2, with the list that a write left: the closing bytes are those of majority judgment on the chain's
 -- ballots.

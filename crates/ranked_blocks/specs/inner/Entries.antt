@@ -33,7 +33,7 @@ pub record Kept (w : Writer) (words wires : List ℕ) (p : Ranks) : Type 0 where
   pub below : WordsBelow words (p .candidates) (p .digits) (w .wire)
 
 -- For block e of a table: what is kept, and room.
-pub record Entry (w : Writer) (words wires : List ℕ) (p : Ranks) (block : ℕ → ℕ → ℕ → List Gate) (e : ℕ)
+pub record EntryReady (w : Writer) (words wires : List ℕ) (p : Ranks) (block : ℕ → ℕ → ℕ → List Gate) (e : ℕ)
     : Type 0 where
   pub kept : Kept w words wires p
   pub number : e < p .candidates * p .candidates
@@ -50,7 +50,7 @@ pub record VotesReady (w : Writer) (words : List ℕ) (p : Ranks) (e : ℕ) : Ty
 
 -- For block e of stage m of the paths.
 pub record PathReady (w : Writer) (words links : List ℕ) (p : Ranks) (m e : ℕ) : Type 0 where
-  pub entry : Entry w words links p (pathBlock (p .candidates) (keptOf links (p .candidates))
+  pub entry : EntryReady w words links p (pathBlock (p .candidates) (keptOf links (p .candidates))
       (keptOf words (p .candidates)) (p .digits) m) e
   pub stage : m ≤ p .candidates
 

@@ -21,7 +21,7 @@ pub record UrnChecked (k d : ℕ) (urn : List ℕ) (juror : ℕ) (check : UrnChe
   pub placed : check .facts .sound ≡ true → check .position ≡ positionIn k d urn juror
 
 -- The facts can decide an admission: the number of ballots is so small that adding one does not overflow.
-pub record Countable (k d : ℕ) (facts : Facts) : Type 0 where
+pub record DecideReady (k d : ℕ) (facts : Facts) : Type 0 where
   pub graded : T (gradedShape k d)
   pub few : facts .ballots ≤ mostSlots
 

@@ -1,6 +1,6 @@
 -- `batch::ballots::test` meets its contract: if the length is right, the tests of the shape's kind decide.
 -- Assumes nothing.
-use mathlib.Core.Path.{_≡_, _∙_, sym}
+use mathlib.Core.Path.{_≡_, _∙_, sym, ap}
 use mathlib.Core.Bool.{true, false}
 use lib.ListN.{length}
 use borrow.Author.Needs.{needs}
@@ -9,8 +9,8 @@ use Rattle.jury.specs.Shape.{isRanking, gradedLimits, withinLimits, ballotBytes
 use Rattle.jury.specs.Reason.{reasonOf, refusedFor, unless, firstOf}
 use Rattle.basics.proofs.Flags.{T-true, true-T}
 use Rattle.jury.proofs.Limits as limits
-use Rattle.batch.specs.Ballots.{wordBallotReasons}
-use Rattle.batch.proofs.Reasons.{ballotsFound, wordKind, found-kind, graded-kind, ranked-kind, ballots-by}
+use Rattle.batch.specs.Ballots.{wordKindReasons, wordBallotReasons}
+use Rattle.batch.proofs.Reasons.{ballotsFound, found-kind, graded-words, ranked-words, ballots-by}
 use Rattle.batch.proofs.ballots.test.Statement.{statement}
 use Rattle.batch.proofs.ballots.test.Tie as tie
 
@@ -31,12 +31,12 @@ size-known c = c .if1 .left ∙ c .before .ballot-bytes .ensures
 
 -- so the tests of the shape's kind decide
 by-kind : (c : tie.Else1) → let a = c .before .before .before .args in
-    firstOf (wordBallotReasons (a .shape) (a .ballots .now)) ≡ wordKind (a .shape) (a .ballots .now)
+    firstOf (wordBallotReasons (a .shape) (a .ballots .now)) ≡ firstOf (wordKindReasons (a .shape) (a .ballots .now))
 by-kind c =
     let a = c .before .before .before .args in
     ballots-by (a .shape) (a .ballots .now) true
     (eq-eqb (length (a .ballots .now)) (ballotBytes (a .shape)) (size-known c))
-    ∙ found-kind (wordKind (a .shape) (a .ballots .now))
+    ∙ found-kind (firstOf (wordKindReasons (a .shape) (a .ballots .now)))
 
 is-ranking-requires : tie.Need-is-ranking-requires
 is-ranking-requires c κs = search needs
@@ -64,15 +64,15 @@ returns-2 : tie.Need-returns-2
 returns-2 c =
     let passed = c .before .before .before in
     let a = passed .before .before .before .args in
-    c .test-rankings .ensures ∙ sym (ranked-kind (a .shape) (a .ballots .now)
-    (ranking (c .before .before) ∙ c .before .if2 .taken)) ∙ sym (by-kind passed)
+    c .test-rankings .ensures ∙ sym (ap firstOf (ranked-words (a .shape) (a .ballots .now)
+    (ranking (c .before .before) ∙ c .before .if2 .taken))) ∙ sym (by-kind passed)
 
 returns-3 : tie.Need-returns-3
 returns-3 c =
     let passed = c .before .before .before in
     let a = passed .before .before .before .args in
-    c .test-grades .ensures ∙ sym (graded-kind (a .shape) (a .ballots .now)
-    (ranking (c .before .before) ∙ c .before .if2 .left)) ∙ sym (by-kind passed)
+    c .test-grades .ensures ∙ sym (ap firstOf (graded-words (a .shape) (a .ballots .now)
+    (ranking (c .before .before) ∙ c .before .if2 .left))) ∙ sym (by-kind passed)
 
 pub test-spec : {M : Type 1} → statement M
 test-spec =

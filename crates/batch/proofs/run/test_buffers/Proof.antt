@@ -9,9 +9,10 @@ use lib.Dec.{eqb}
 use lib.ListN.{length}
 use borrow.Author.Needs.{needs}
 use borrow.Author.Tests.{not-true, not-false}
-use Rattle.jury.specs.Reason.{reasonOf, refusedFor, unless, firstOf}
+use Rattle.jury.specs.Reason.{reasonOf, refusedFor, unless, foundAt, firstOf}
 use Rattle.tally.specs.Answer.{Size}
-use Rattle.batch.proofs.Reasons.{lentFound, lent-by}
+use Rattle.tally.proofs.RunReasons.{lentFound}
+use Rattle.batch.proofs.Reasons.{lent-by}
 use Rattle.batch.proofs.run.test_buffers.Statement.{statement}
 use Rattle.batch.proofs.run.test_buffers.Tie as tie
 
@@ -37,7 +38,7 @@ has-length-requires : tie.Need-has-length-requires
 has-length-requires c κs = search needs
 
 returns : tie.Need-returns
-unfolding refusedFor reasonOf lentFound unless firstOf
+unfolding refusedFor reasonOf lentFound unless foundAt firstOf
 returns c =
     let start = c .before .before .before .before .before in
     let a = start .args in
@@ -48,7 +49,7 @@ has-length-requires-2 : tie.Need-has-length-requires-2
 has-length-requires-2 c κs = search needs
 
 returns-2 : tie.Need-returns-2
-unfolding refusedFor reasonOf lentFound unless firstOf
+unfolding refusedFor reasonOf lentFound unless foundAt firstOf
 returns-2 c =
     let tape = c .before .before in
     let start = tape .before .before .before .before .before in
@@ -60,7 +61,7 @@ has-length-requires-3 : tie.Need-has-length-requires-3
 has-length-requires-3 c κs = search needs
 
 returns-3 : tie.Need-returns-3
-unfolding refusedFor reasonOf lentFound unless firstOf
+unfolding refusedFor reasonOf lentFound unless foundAt firstOf
 returns-3 c =
     let wires = c .before .before in
     let tape = wires .before .before in
@@ -71,7 +72,7 @@ returns-3 c =
     (sym (c .before .has-length3 .ensures) ∙ not-true (c .before .has-length3 .result) (c .if3 .taken)))
 
 returns-4 : tie.Need-returns-4
-unfolding refusedFor reasonOf lentFound unless firstOf
+unfolding refusedFor reasonOf lentFound unless foundAt firstOf
 returns-4 c =
     let wires = c .before .before in
     let tape = wires .before .before in

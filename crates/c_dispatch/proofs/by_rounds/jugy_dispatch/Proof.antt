@@ -8,8 +8,7 @@ use Rattle.dispatch_rounds.specs.declared.header.JuryHeader.{JuryHeader}
 use Rattle.dispatch_rounds.specs.Tables.{tablesOf}
 use Rattle.dispatch.specs.Call.{Call}
 use Rattle.dispatch.specs.Result.{DispatchResult, dispatchResult}
-use Rattle.c_dispatch.specs.Numbers.{headersIn, dispatchNumbers}
-use Rattle.c_answers.specs.Numbers.{eightAnswer}
+use Rattle.c_dispatch.specs.Numbers.{headersIn, dispatchNumbers, dispatchAnswer}
 use Rattle.c_answers.proofs.Answering.{short-call, put-call}
 use Rattle.c_dispatch.proofs.by_rounds.jugy_dispatch.Statement.{statement}
 use Rattle.c_dispatch.proofs.by_rounds.jugy_dispatch.Tie as tie
@@ -39,7 +38,7 @@ returns : tie.Need-returns
 returns c =
     let of = call (started-short c) in
     let r = dispatchResult of in
-    short-call eightAnswer (started-short c .args .answer .now) (c .if1 .taken) (dispatchNumbers r)
+    short-call dispatchAnswer (started-short c .args .answer .now) (c .if1 .taken) (dispatchNumbers r)
     (of .tables .wires ∷ of .tables .boards ∷ []) (r .wires ∷ r .boards ∷ [])
 
 headers-in-requires : tie.Need-headers-in-requires
@@ -71,7 +70,7 @@ returns-2 c =
     let r = dispatchResult of in
     let left = ran .dispatch .ensures
     ∙ ap (λ (z : List JuryHeader). dispatchResult (with-headers start z)) (read .headers-in .ensures) in
-    put-call eightAnswer (start .args .answer .now) (long .if1 .left) (dispatchNumbers r) _ _ _
+    put-call dispatchAnswer (start .args .answer .now) (long .if1 .left) (dispatchNumbers r) _ _ _
     (c .before .before .put-rounds .ensures) (ap dispatchNumbers left)
     (of .tables .wires ∷ of .tables .boards ∷ []) (r .wires ∷ r .boards ∷ []) _
     (ap (λ (z : DispatchResult). z .wires ∷ z .boards ∷ []) left)

@@ -10,7 +10,8 @@ use Rattle.jury.specs.Reason.{reasonAt}
 use Rattle.dispatch.specs.declared.verdict.JuriesVerdict.{JuriesVerdict}
 use Rattle.dispatch.specs.Reasons.{verdictReason}
 use Rattle.tally.specs.Answer.{outcome}
-use Rattle.c_answers.specs.Numbers.{answerNumbers, eightNumbers, eightAnswer}
+use Rattle.c_answers.specs.Numbers.{answerNumbers, toldNumbers}
+use Rattle.c_dispatch.specs.Numbers.{dispatchAnswer}
 use Rattle.c_answers.proofs.Answering.{puts-same, puts-long}
 use Rattle.c_dispatch.proofs.by_rounds.put_rounds.Statement.{statement}
 use Rattle.c_dispatch.proofs.by_rounds.put_rounds.Tie as tie
@@ -46,8 +47,8 @@ returns c =
     let told = put .before .before .before in
     let start = told .before .before .before in
     let rounds = start .args .t2 in
-    let e = ap (λ (v : JuriesVerdict). eightNumbers (verdictReason v) rounds) (told .enum-told .given .1) in
-    let long : 2 + length rounds ≡ eightAnswer = omega (arith, start .good) in
+    let e = ap (λ (v : JuriesVerdict). toldNumbers (verdictReason v) rounds) (told .enum-told .given .1) in
+    let long : 2 + length rounds ≡ dispatchAnswer = omega (arith, start .good) in
     puts-same (sym e) (puts-long long (put .put-answer .ensures))
 
 same-length-2 : tie.Need-same-length-2
@@ -62,8 +63,8 @@ returns-2 c =
     let start = told .before .before .before in
     let rounds = start .args .t2 in
     let known = told .verdict .given in
-    let e = ap (λ (v : JuriesVerdict). eightNumbers (verdictReason v) rounds) (known .1) in
-    let long : 2 + length rounds ≡ eightAnswer = omega (arith, start .good) in
+    let e = ap (λ (v : JuriesVerdict). toldNumbers (verdictReason v) rounds) (known .1) in
+    let long : 2 + length rounds ≡ dispatchAnswer = omega (arith, start .good) in
     puts-same (ap (λ (m : ℕ). m ∷ known .0 .1 .0 ∷ rounds) (number .number .ensures) ∙ sym e)
     (puts-long long (put .put-answer2 .ensures))
 

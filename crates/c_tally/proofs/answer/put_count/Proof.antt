@@ -9,7 +9,7 @@ use borrow.Author.Needs.{needs}
 use Rattle.jury.specs.declared.reason.Verdict.{Verdict}
 use Rattle.jury.specs.Reason.{reasonOf, refusedFor}
 use Rattle.tally.specs.Answer.{outcome}
-use Rattle.c_answers.specs.Numbers.{answerNumbers, eightNumbers}
+use Rattle.c_answers.specs.Numbers.{answerNumbers, toldNumbers, countAnswer}
 use Rattle.c_answers.proofs.Answering.{puts-same, puts-long, two}
 use Rattle.c_tally.proofs.answer.put_count.Statement.{statement}
 use Rattle.c_tally.proofs.answer.put_count.Tie as tie
@@ -52,8 +52,8 @@ returns c =
     let made = told .before .before in
     let start = made .before .before .before in
     let counted = start .args .counted in
-    let e = ap (λ (v : Verdict). eightNumbers (refusedFor v) (counted .closing)) (told .enum-told .given .1) in
-    let long : 2 + length (made .numbers .result) ≡ 10 = omega arith in
+    let e = ap (λ (v : Verdict). toldNumbers (refusedFor v) (counted .closing)) (told .enum-told .given .1) in
+    let long : 2 + length (made .numbers .result) ≡ countAnswer = omega arith in
     puts-same (ap (λ (l : List ℕ). 0 ∷ 0 ∷ l) (made .numbers .ensures) ∙ sym e) (puts-long long (put .put-answer .ensures))
 
 same-length-2 : tie.Need-same-length-2
@@ -70,8 +70,8 @@ returns-2 c =
     let start = made .before .before .before in
     let counted = start .args .counted in
     let why = reasonOf (told .verdict .given .0 .0) in
-    let e = ap (λ (v : Verdict). eightNumbers (refusedFor v) (counted .closing)) (told .verdict .given .1) in
-    let long : 2 + length (made .numbers .result) ≡ 10 = omega arith in
+    let e = ap (λ (v : Verdict). toldNumbers (refusedFor v) (counted .closing)) (told .verdict .given .1) in
+    let long : 2 + length (made .numbers .result) ≡ countAnswer = omega arith in
     puts-same
     (two (number .number .result) (place .place .result) (why .number) (why .place) (made .numbers .result)
     (number .number .ensures) (place .place .ensures)

@@ -12,7 +12,7 @@ use Rattle.jury.proofs.Constructed.{shape-is, outside-is}
 use Rattle.tally.specs.Count.{countReason, plainClosing}
 use Rattle.tally.proofs.CountReason.{outside-reason}
 use Rattle.tally.proofs.Outside.{outside-closing}
-use Rattle.c_answers.specs.Numbers.{shapeOf, eightNumbers}
+use Rattle.c_answers.specs.Numbers.{shapeOf, countAnswer, toldNumbers}
 use Rattle.c_answers.proofs.Answering.{counted, short-call, put-call}
 use Rattle.c_tally.proofs.count.jugy_count.Statement.{statement}
 use Rattle.c_tally.proofs.count.jugy_count.Tie as tie
@@ -22,7 +22,7 @@ unfolding shapeOf
 returns c =
     let a = c .before .before .before .args in
     let s = shapeOf (a .candidates) (a .grades) (a .ballots) in
-    short-call 10 (a .answer .now) (c .if1 .taken) (eightNumbers (countReason s (a .bytes .now)) (plainClosing s (a .bytes .now))) [] []
+    short-call countAnswer (a .answer .now) (c .if1 .taken) (toldNumbers (countReason s (a .bytes .now)) (plainClosing s (a .bytes .now))) [] []
 
 new-requires : tie.Need-new-requires
 new-requires c κs = search needs
@@ -48,7 +48,7 @@ returns-2 c =
     let a = long .before .before .before .args in
     let s = shapeOf (a .candidates) (a .grades) (a .ballots) in
     let outside = outside-is (withinLimits s) s (sym (made .new .ensures .result) ∙ told .enum-told .given .1) in
-    put-call 10 (a .answer .now) (long .if1 .left) (eightNumbers (countReason s (a .bytes .now)) (plainClosing s (a .bytes .now))) _ _ _
+    put-call countAnswer (a .answer .now) (long .if1 .left) (toldNumbers (countReason s (a .bytes .now)) (plainClosing s (a .bytes .now))) _ _ _
     (c .before .before .put-count .ensures)
     (counted _ _ _ _ (sym (outside-reason s (a .bytes .now) outside)) (sym (outside-closing s outside (a .bytes .now)))) [] [] [] refl
 
@@ -71,7 +71,7 @@ returns-3 c =
     let a = long .before .before .before .args in
     let s = shapeOf (a .candidates) (a .grades) (a .ballots) in
     let same = shape-is (withinLimits s) s (known .shape .given .0 .0) (sym (made .new .ensures .result) ∙ known .shape .given .1) in
-    put-call 10 (a .answer .now) (long .if1 .left) (eightNumbers (countReason s (a .bytes .now)) (plainClosing s (a .bytes .now))) _ _ _
+    put-call countAnswer (a .answer .now) (long .if1 .left) (toldNumbers (countReason s (a .bytes .now)) (plainClosing s (a .bytes .now))) _ _ _
     (c .before .before .put-count2 .ensures)
     (counted _ _ _ _ (outcome .count .ensures .verdict ∙ ap (λ (z : Shape). countReason z (a .bytes .now)) same)
     (outcome .count .ensures .closing ∙ ap (λ (z : Shape). plainClosing z (a .bytes .now)) same)) [] [] [] refl

@@ -1,7 +1,7 @@
 -- `jury::ballots::test` meets its contract: each branch answers what the definition gives for the outcomes of the
 -- tests.
 -- Assumes nothing.
-use mathlib.Core.Path.{_≡_, _∙_, refl, sym}
+use mathlib.Core.Path.{_≡_, _∙_, refl, sym, ap}
 use mathlib.Core.Bool.{true, false}
 use lib.ListN.{length}
 use borrow.Author.Tests.{eq-eqb, ne-eqb}
@@ -11,10 +11,10 @@ use Rattle.gates.specs.Test.{firstAboveOne}
 use Rattle.gates.proofs.Hiding.{all-bits}
 use Rattle.jury.specs.Shape.{isRanking, gradedLimits, withinLimits, ballotBytes}
 use Rattle.jury.specs.Reason.{reasonOf, refusedFor, unless, foundAt, firstOf}
-use Rattle.jury.specs.Ballots.{ballotReasons}
+use Rattle.jury.specs.Ballots.{kindReasons, ballotReasons}
 use Rattle.basics.proofs.Flags.{T-true, true-T}
 use Rattle.jury.proofs.Limits.{grades-columns, ranked-bytes, graded-kind}
-use Rattle.jury.proofs.BallotLaws.{judged, kindReason, judged-by, judged-kind, graded-reason, ranked-reason}
+use Rattle.jury.proofs.BallotLaws.{judged, judged-by, judged-kind, graded-reasons, ranked-reasons}
 use Rattle.jury.proofs.ballots.test.Statement.{statement}
 use Rattle.jury.proofs.ballots.test.Tie as tie
 
@@ -27,7 +27,7 @@ returns c =
     let start = c .before .before .before in
     let s = start .args .shape in
     let xs = start .args .ballots .now in
-    sym (judged-by s xs false (firstAboveOne 0 xs) (kindReason s xs)
+    sym (judged-by s xs false (firstAboveOne 0 xs) (firstOf (kindReasons s xs))
     (ne-eqb (length xs) (ballotBytes s) (λ e. c .if1 .taken (e ∙ sym (c .before .ballot-bytes .ensures)))) refl refl)
 
 -- the length is right
@@ -47,7 +47,7 @@ returns-2 c =
     let start = passed .before .before .before in
     let s = start .args .shape in
     let xs = start .args .ballots .now in
-    sym (judged-by s xs true (At (c .before .i .given .0 .0)) (kindReason s xs)
+    sym (judged-by s xs true (At (c .before .i .given .0 .0)) (firstOf (kindReasons s xs))
     (eq-eqb (length xs) (ballotBytes s) (size-known passed))
     (sym (c .before .before .before .first-above-one .ensures) ∙ c .before .i .given .1) refl)
 
@@ -60,13 +60,13 @@ no-byte c = sym (c .before .before .first-above-one .ensures) ∙ c .enum-told .
 
 -- so the tests of the shape's kind decide
 by-kind : (c : tie.After-enum-told) → let a = c .before .before .before .before .before .before .args in
-    firstOf (ballotReasons (a .shape) (a .ballots .now)) ≡ kindReason (a .shape) (a .ballots .now)
+    firstOf (ballotReasons (a .shape) (a .ballots .now)) ≡ firstOf (kindReasons (a .shape) (a .ballots .now))
 by-kind c =
     let passed = c .before .before .before in
     let a = passed .before .before .before .args in
-    judged-by (a .shape) (a .ballots .now) true Nowhere (kindReason (a .shape) (a .ballots .now))
+    judged-by (a .shape) (a .ballots .now) true Nowhere (firstOf (kindReasons (a .shape) (a .ballots .now)))
     (eq-eqb (length (a .ballots .now)) (ballotBytes (a .shape)) (size-known passed)) (no-byte c) refl
-    ∙ judged-kind (kindReason (a .shape) (a .ballots .now))
+    ∙ judged-kind (firstOf (kindReasons (a .shape) (a .ballots .now)))
 
 is-ranking-requires : tie.Need-is-ranking-requires
 is-ranking-requires c κs = search needs
@@ -102,15 +102,15 @@ returns-3 : tie.Need-returns-3
 returns-3 c =
     let told = c .before .before .before in
     let a = told .before .before .before .before .before .before .args in
-    c .test-rankings .ensures ∙ sym (ranked-reason (a .shape) (a .ballots .now)
-    (ranking (c .before .before) ∙ c .before .if2 .taken)) ∙ sym (by-kind told)
+    c .test-rankings .ensures ∙ sym (ap firstOf (ranked-reasons (a .shape) (a .ballots .now)
+    (ranking (c .before .before) ∙ c .before .if2 .taken))) ∙ sym (by-kind told)
 
 returns-4 : tie.Need-returns-4
 returns-4 c =
     let told = c .before .before .before in
     let a = told .before .before .before .before .before .before .args in
-    c .test-grades .ensures ∙ sym (graded-reason (a .shape) (a .ballots .now)
-    (ranking (c .before .before) ∙ c .before .if2 .left)) ∙ sym (by-kind told)
+    c .test-grades .ensures ∙ sym (ap firstOf (graded-reasons (a .shape) (a .ballots .now)
+    (ranking (c .before .before) ∙ c .before .if2 .left))) ∙ sym (by-kind told)
 
 pub test-spec : {M : Type 1} → statement M
 test-spec =
