@@ -20,7 +20,7 @@ use Rattle.gates.proofs.Evaluating.{accepted-list}
 use Rattle.jury.specs.declared.shape.Shape.{Shape}
 use Rattle.jury.specs.Shape.{isRanking, ballotBytes}
 use Rattle.jury.specs.Reason.{Reason, reasonAt, unless, foundAt, firstOf}
-use Rattle.jury.specs.Ballots.{rowsOf, firstBadRow, gradedReasons, rankedReasons, kindReasons, kindReasonNumbers}
+use Rattle.jury.specs.Ballots.{rowsOf, firstBadRow, gradedReasons, rankedReasons, ballotKindReasons, ballotKindReasonNumbers}
 use Rattle.jury.specs.Rankings.{firstOver, firstNotAsymmetric, firstNotWeakOrder}
 use Rattle.jury.proofs.Searches.{none-first, first-none}
 use Rattle.tally.specs.Answer.{refused, outcome, hasNumberIn, Size, sizeOf}
@@ -31,7 +31,7 @@ use Rattle.tally.proofs.RunReasons.{lentFound, passed-by, firstOfThree, outcome
 use Rattle.tally.proofs.Numbering.{All, unless-fine, found-fine}
 use Rattle.batch_lanes.specs.Lane.{laneCount, laneOf}
 use Rattle.batch.specs.Call.{Call}
-use Rattle.batch.specs.Ballots.{inJury, firstJury, wordGradedReasons, wordRankedReasons, wordKindReasons, wordBallotReasons}
+use Rattle.batch.specs.Ballots.{inJury, firstJury, wordGradedReasons, wordRankedReasons, wordBallotKindReasons, wordBallotReasons}
 use Rattle.batch.specs.Run.{wordBufferReasons, wordBufferReasonNumbers, batchReasons, batchResultAfter, batchResult}
 use Rattle.tally.proofs.RunReasons.{three-passed}
 
@@ -166,53 +166,53 @@ first-last true (none ∷ os) = first-last true os
 first-last true (some r ∷ os) = refl
 
 -- what the tests of the kind answer for one jury
-pub alone-kind : (s : Shape) (xs : List ℕ) → firstOf (kindReasons s xs) ≡ kindFound (isRanking s) (badRow s xs) (clash s xs) (notWeakOrder s xs)
-unfolding kindReasons kindFound gradedReasons rankedReasons
+pub alone-kind : (s : Shape) (xs : List ℕ) → firstOf (ballotKindReasons s xs) ≡ kindFound (isRanking s) (badRow s xs) (clash s xs) (notWeakOrder s xs)
+unfolding ballotKindReasons kindFound gradedReasons rankedReasons
 alone-kind s xs = refl
 
 module _ (s : Shape) (words : List ℕ) where
   -- what the tests of the kind answer over all juries
-  pub word-kind : firstOf (wordKindReasons s words) ≡ kindFound (isRanking s) (over (λ j. badRow s (laneOf j words)))
+  pub word-kind : firstOf (wordBallotKindReasons s words) ≡ kindFound (isRanking s) (over (λ j. badRow s (laneOf j words)))
       (over (λ j. clash s (laneOf j words))) (over (λ j. notWeakOrder s (laneOf j words)))
-  unfolding wordKindReasons kindFound wordGradedReasons wordRankedReasons firstJury
+  unfolding wordBallotKindReasons kindFound wordGradedReasons wordRankedReasons firstJury
   word-kind = refl
 
-  pub graded-words : isRanking s ≡ false → wordKindReasons s words ≡ wordGradedReasons s words
-  unfolding wordKindReasons
+  pub graded-words : isRanking s ≡ false → wordBallotKindReasons s words ≡ wordGradedReasons s words
+  unfolding wordBallotKindReasons
   graded-words e = ap (λ (t : Bool). cond t (wordRankedReasons s words) (wordGradedReasons s words)) e
 
-  pub ranked-words : isRanking s ≡ true → wordKindReasons s words ≡ wordRankedReasons s words
-  unfolding wordKindReasons
+  pub ranked-words : isRanking s ≡ true → wordBallotKindReasons s words ≡ wordRankedReasons s words
+  unfolding wordBallotKindReasons
   ranked-words e = ap (λ (t : Bool). cond t (wordRankedReasons s words) (wordGradedReasons s words)) e
 
-  graded-all : All kindReasonNumbers (wordGradedReasons s words)
+  graded-all : All ballotKindReasonNumbers (wordGradedReasons s words)
   unfolding All wordGradedReasons hasNumberIn reasonAt
-  graded-all = (found-fine kindReasonNumbers 6 _ (λ j. tt), tt)
+  graded-all = (found-fine ballotKindReasonNumbers 6 _ (λ j. tt), tt)
 
-  ranked-all : All kindReasonNumbers (wordRankedReasons s words)
+  ranked-all : All ballotKindReasonNumbers (wordRankedReasons s words)
   unfolding All wordRankedReasons hasNumberIn reasonAt
-  ranked-all = (found-fine kindReasonNumbers 11 _ (λ j. tt), (found-fine kindReasonNumbers 12 _ (λ j. tt), tt))
+  ranked-all = (found-fine ballotKindReasonNumbers 11 _ (λ j. tt), (found-fine ballotKindReasonNumbers 12 _ (λ j. tt), tt))
 
-  pub kind-all : All kindReasonNumbers (wordKindReasons s words)
+  pub kind-all : All ballotKindReasonNumbers (wordBallotKindReasons s words)
   kind-all = either (isRanking s)
-      (λ e. subst (All kindReasonNumbers) (sym (ranked-words e)) ranked-all)
-      (λ e. subst (All kindReasonNumbers) (sym (graded-words e)) graded-all)
+      (λ e. subst (All ballotKindReasonNumbers) (sym (ranked-words e)) ranked-all)
+      (λ e. subst (All ballotKindReasonNumbers) (sym (graded-words e)) graded-all)
 
   pub ballots-by : (t : Bool) → eqb (length words) (ballotBytes s) ≡ t
-      → firstOf (wordBallotReasons s words) ≡ ballotsFound t (firstOf (wordKindReasons s words))
+      → firstOf (wordBallotReasons s words) ≡ ballotsFound t (firstOf (wordBallotKindReasons s words))
   unfolding wordBallotReasons
   ballots-by t e =
-      first-last (eqb (length words) (ballotBytes s)) (wordKindReasons s words)
-      ∙ ap (λ (b : Bool). ballotsFound b (firstOf (wordKindReasons s words))) e
+      first-last (eqb (length words) (ballotBytes s)) (wordBallotKindReasons s words)
+      ∙ ap (λ (b : Bool). ballotsFound b (firstOf (wordBallotKindReasons s words))) e
 
   pub record BallotsPassed : Type 0 where
     pub size : length words ≡ ballotBytes s
-    pub kinds : (j : ℕ) → j < laneCount → firstOf (kindReasons s (laneOf j words)) ≡ none
+    pub kinds : (j : ℕ) → j < laneCount → firstOf (ballotKindReasons s (laneOf j words)) ≡ none
 
   ballots-passed : firstOf (wordBallotReasons s words) ≡ none → BallotsPassed
   ballots-passed e =
       let t = eqb (length words) (ballotBytes s) in
-      let q = ballots-outcome t (firstOf (wordKindReasons s words)) (sym (ballots-by t refl) ∙ e) in
+      let q = ballots-outcome t (firstOf (wordBallotKindReasons s words)) (sym (ballots-by t refl) ∙ e) in
       record {
         size = eqb-true (length words) (ballotBytes s) (q .0);
         kinds = λ j h.

@@ -19,7 +19,7 @@ use Rattle.jury.specs.declared.shape.Shape.{Shape}
 use Rattle.jury.specs.Shape.{isRanking, ballotBytes}
 use Rattle.jury.specs.Reason.{Reason, reasonAt, unless, foundAt, firstOf}
 use Rattle.jury.specs.Rankings.{firstOver, orElse}
-use Rattle.jury.specs.Ballots.{kindReasons, kindReasonNumbers}
+use Rattle.jury.specs.Ballots.{ballotKindReasons, ballotKindReasonNumbers}
 use Rattle.jury.proofs.BallotLaws.{judged, judged-by}
 use Rattle.jury.proofs.Searches.{none-first}
 use Rattle.tally.specs.Answer.{refused, hasNumberIn, sizeOf}
@@ -32,7 +32,7 @@ use Rattle.tally.proofs.Numbering.{first-number, number-passes, test-all}
 use Rattle.batch_lanes.specs.Lane.{laneCount, laneOf}
 use Rattle.batch_lanes.proofs.ListLaws.{lanes-length, lanes-bits}
 use Rattle.batch.specs.Call.{Call}
-use Rattle.batch.specs.Ballots.{inJury, wordKindReasons}
+use Rattle.batch.specs.Ballots.{inJury, wordBallotKindReasons}
 use Rattle.batch.specs.Run.{wordBufferReasons, wordBufferReasonNumbers, batchReasons, batchResultAfter, batchResult}
 use Rattle.batch.specs.Theorems.{runAlone, isOfBallots, RefusedAsAlone, FaultAsAlone}
 use Rattle.batch.proofs.Reasons.{in-no-jury, none-over, over, lent-by, buffers-all, badRow, clash, notWeakOrder, kindFound, none-in-juries, ballotsFound, alone-kind, word-kind, kind-all, ballots-by, batch-first, result-by}
@@ -47,11 +47,11 @@ unfolding reasonAt
 place-is n place r e = let same : reasonAt n place ≡ r = cc in ap (λ (x : Reason). At (x .place)) same
 
 -- a reason with one of these numbers is not about the contents of ballots
-other : (ns : List ℕ) → T (all (λ n. not (hasNumberIn kindReasonNumbers (reasonAt n 0))) ns) → (r : Reason) → T (hasNumberIn ns r)
+other : (ns : List ℕ) → T (all (λ n. not (hasNumberIn ballotKindReasonNumbers (reasonAt n 0))) ns) → (r : Reason) → T (hasNumberIn ns r)
     → isOfBallots r ≡ false
 unfolding isOfBallots hasNumberIn reasonAt
 other ns none-of-them r h =
-    let its-number = number-passes (λ n. not (hasNumberIn kindReasonNumbers (reasonAt n 0))) ns r none-of-them h in
+    let its-number = number-passes (λ n. not (hasNumberIn ballotKindReasonNumbers (reasonAt n 0))) ns r none-of-them h in
     never-true (isOfBallots r) (λ e. subst (λ (t : Bool). T (not t)) e its-number)
 
 test-other : (s : Shape) (table : List ℕ) (r : Reason) → firstOf (testReasons s table) ≡ some r → isOfBallots r ≡ false
@@ -103,10 +103,10 @@ unfolding single.firstOfThree test.orElse ballotsFound unless firstOf
 kind-alone k l r e = ap (λ (x : Option Reason). single.firstOfThree none (ballotsFound true x) l) e
 
 -- the reasons of the shape's kind are about the contents of ballots
-kind-number : (s : Shape) (words : List ℕ) (r : Reason) → firstOf (wordKindReasons s words) ≡ some r → isOfBallots r ≡ true
+kind-number : (s : Shape) (words : List ℕ) (r : Reason) → firstOf (wordBallotKindReasons s words) ≡ some r → isOfBallots r ≡ true
 unfolding isOfBallots
 kind-number s words r e =
-    T-true (hasNumberIn kindReasonNumbers r) (first-number kindReasonNumbers (wordKindReasons s words) (kind-all s words) r e)
+    T-true (hasNumberIn ballotKindReasonNumbers r) (first-number ballotKindReasonNumbers (wordBallotKindReasons s words) (kind-all s words) r e)
 
 -- a fault over all juries is one of jury j₀, and no jury before has a fault with the same number; if the number is
 -- 12, no jury has 11
@@ -198,14 +198,15 @@ module _ (c : Call) where
 
   batch-reason : firstOf (batchReasons c)
       ≡ single.firstOfThree (firstOf (testReasons (c .shape) (c .table)))
-      (ballotsFound sizeRight (firstOf (wordKindReasons (c .shape) (c .ballots)))) (lentFound tapeRight Nowhere wiresRight boardRight)
+      (ballotsFound sizeRight (firstOf (wordBallotKindReasons (c .shape) (c .ballots)))) (lentFound tapeRight Nowhere wiresRight boardRight)
   batch-reason =
       batch-first c
       ∙ ap (λ (o : Option Reason). single.firstOfThree (firstOf (testReasons (c .shape) (c .table))) o
       (firstOf (wordBufferReasons (ballotBytes (c .shape)) (c .shape .candidates) (sizeOf (gatesOf (c .table)))
       (c .tape) (c .wires) (c .board))))
       (ballots-by (c .shape) (c .ballots) sizeRight refl)
-      ∙ ap (single.firstOfThree (firstOf (testReasons (c .shape) (c .table))) (ballotsFound sizeRight (firstOf (wordKindReasons (c .shape) (c .ballots)))))
+      ∙ ap (single.firstOfThree (firstOf (testReasons (c .shape) (c .table)))
+      (ballotsFound sizeRight (firstOf (wordBallotKindReasons (c .shape) (c .ballots)))))
       (lent-by (ballotBytes (c .shape)) (c .shape .candidates) (sizeOf (gatesOf (c .table))) (c .tape) (c .wires)
       (c .board) tapeRight wiresRight boardRight refl refl refl)
 
@@ -213,7 +214,7 @@ module _ (c : Call) where
       (runReasons (c .shape) (c .table) (laneOf j (c .ballots)) (laneOf j (c .tape)) (laneOf j (c .wires))
       (laneOf j (c .board)))
       ≡ single.firstOfThree (firstOf (testReasons (c .shape) (c .table)))
-      (ballotsFound sizeRight (firstOf (kindReasons (c .shape) (laneOf j (c .ballots)))))
+      (ballotsFound sizeRight (firstOf (ballotKindReasons (c .shape) (laneOf j (c .ballots)))))
       (lentFound tapeRight Nowhere wiresRight boardRight)
   alone-reason j =
       single.run-first (c .shape) (c .table) (laneOf j (c .ballots)) (laneOf j (c .tape)) (laneOf j (c .wires)) (laneOf j (c .board))
@@ -221,12 +222,12 @@ module _ (c : Call) where
       (firstOf (bufferReasons (ballotBytes (c .shape)) (c .shape .candidates) (sizeOf (gatesOf (c .table)))
       (laneOf j (c .tape)) (laneOf j (c .wires)) (laneOf j (c .board)))))
       (judged-by (c .shape) (laneOf j (c .ballots)) sizeRight Nowhere
-      (firstOf (kindReasons (c .shape) (laneOf j (c .ballots))))
+      (firstOf (ballotKindReasons (c .shape) (laneOf j (c .ballots))))
       (ap (λ (n : ℕ). eqb n (ballotBytes (c .shape))) (lanes-length j (c .ballots)))
       (none-above 0 (laneOf j (c .ballots)) (lanes-bits j (c .ballots))) refl
-      ∙ judged-bits sizeRight (firstOf (kindReasons (c .shape) (laneOf j (c .ballots)))))
+      ∙ judged-bits sizeRight (firstOf (ballotKindReasons (c .shape) (laneOf j (c .ballots)))))
       ∙ ap (single.firstOfThree (firstOf (testReasons (c .shape) (c .table)))
-      (ballotsFound sizeRight (firstOf (kindReasons (c .shape) (laneOf j (c .ballots))))))
+      (ballotsFound sizeRight (firstOf (ballotKindReasons (c .shape) (laneOf j (c .ballots))))))
       (single.lent-by (ballotBytes (c .shape)) (c .shape .candidates) (sizeOf (gatesOf (c .table)))
       (laneOf j (c .tape)) (laneOf j (c .wires)) (laneOf j (c .board)) tapeRight Nowhere wiresRight boardRight
       (ap (λ (n : ℕ). eqb n (sizeOf (gatesOf (c .table)) .conditional)) (lanes-length j (c .tape)))
@@ -299,8 +300,8 @@ pub refused-as-alone : RefusedAsAlone
 refused-as-alone c r e n j h =
     refused-alone c j r
     (alone-reason c j
-    ∙ same-otherwise (firstOf (testReasons (c .shape) (c .table))) _ (firstOf (wordKindReasons (c .shape) (c .ballots)))
-    (firstOf (kindReasons (c .shape) (laneOf j (c .ballots)))) _ r
+    ∙ same-otherwise (firstOf (testReasons (c .shape) (c .table))) _ (firstOf (wordBallotKindReasons (c .shape) (c .ballots)))
+    (firstOf (ballotKindReasons (c .shape) (laneOf j (c .ballots)))) _ r
     (λ none. alone-kind (c .shape) (laneOf j (c .ballots))
     ∙ none-in-juries (isRanking (c .shape)) (rows (c .shape) (c .ballots)) (clashes (c .shape) (c .ballots))
     (disorders (c .shape) (c .ballots)) (sym (word-kind (c .shape) (c .ballots)) ∙ none) j h)
@@ -313,7 +314,7 @@ no-reason q z = let o : _≡_ {A = ℕ} 0 1 = cc in omega arith
 not-4 : (q : Reason) → isOfBallots q ≡ true → q .number ≢ 4
 unfolding all isOfBallots
 not-4 q h m = subst (λ (n : ℕ). T (not (eqb n 4))) m
-    (number-passes (λ n. not (eqb n 4)) kindReasonNumbers q tt (true-T (hasNumberIn kindReasonNumbers q) h))
+    (number-passes (λ n. not (eqb n 4)) ballotKindReasonNumbers q tt (true-T (hasNumberIn ballotKindReasonNumbers q) h))
 
 same-number : (r : Reason) (place : ℕ) → isOfBallots r ≡ true → isOfBallots (reasonAt (r .number) place) ≡ true
 unfolding isOfBallots hasNumberIn reasonAt
@@ -327,7 +328,7 @@ pub fault-as-alone : FaultAsAlone
 fault-as-alone c r e n =
     let l = lentFound (tapeRight c) Nowhere (wiresRight c) (boardRight c) in
     let o = is-of-kind (firstOf (testReasons (c .shape) (c .table))) (sizeRight c)
-    (firstOf (wordKindReasons (c .shape) (c .ballots))) l r (λ t. true≢false (sym n ∙ test-other (c .shape) (c .table) r t))
+    (firstOf (wordBallotKindReasons (c .shape) (c .ballots))) l r (λ t. true≢false (sym n ∙ test-other (c .shape) (c .table) r t))
     (λ t. true≢false (sym n ∙ lent-other c r t)) (not-4 r n) (sym (batch-reason c) ∙ batch-refused c r e) in
     let f = faulty (isRanking (c .shape)) (rows (c .shape) (c .ballots)) (clashes (c .shape) (c .ballots))
     (disorders (c .shape) (c .ballots)) (over (rows (c .shape) (c .ballots)))
@@ -338,7 +339,7 @@ fault-as-alone c r e n =
         f .1 .0,
         refused-alone c (r .place) (reasonAt (r .number) (f .1 .0))
             (passed (o .0) (o .1) (r .place)
-            ∙ kind-alone (firstOf (kindReasons (c .shape) (laneOf (r .place) (c .ballots)))) l (reasonAt (r .number) (f .1 .0))
+            ∙ kind-alone (firstOf (ballotKindReasons (c .shape) (laneOf (r .place) (c .ballots)))) l (reasonAt (r .number) (f .1 .0))
             (alone-kind (c .shape) (laneOf (r .place) (c .ballots)) ∙ f .1 .1)),
       ),
       λ j place h x. f .2 j place h (its-kind (o .0) (o .1) j (reasonAt (r .number) place) (same-number r place n) x),
@@ -348,7 +349,7 @@ fault-as-alone c r e n =
     passed : firstOf (testReasons (c .shape) (c .table)) ≡ none → sizeRight c ≡ true → (j : ℕ)
         → firstOf (runReasons (c .shape) (c .table) (laneOf j (c .ballots)) (laneOf j (c .tape))
         (laneOf j (c .wires)) (laneOf j (c .board)))
-        ≡ single.firstOfThree none (ballotsFound true (firstOf (kindReasons (c .shape) (laneOf j (c .ballots)))))
+        ≡ single.firstOfThree none (ballotsFound true (firstOf (ballotKindReasons (c .shape) (laneOf j (c .ballots)))))
         (lentFound (tapeRight c) Nowhere (wiresRight c) (boardRight c))
     passed a b j = alone-reason c j ∙ rw (a, b)
 
@@ -359,5 +360,6 @@ fault-as-alone c r e n =
         (clashes (c .shape) (c .ballots) j) (disorders (c .shape) (c .ballots) j) ≡ some q
     its-kind a b j q m x =
         sym (alone-kind (c .shape) (laneOf j (c .ballots)))
-        ∙ is-of-kind none true (firstOf (kindReasons (c .shape) (laneOf j (c .ballots)))) (lentFound (tapeRight c) Nowhere (wiresRight c) (boardRight c)) q
+        ∙ is-of-kind none true (firstOf (ballotKindReasons (c .shape) (laneOf j (c .ballots))))
+        (lentFound (tapeRight c) Nowhere (wiresRight c) (boardRight c)) q
         (λ z. no-reason q z) (λ t. true≢false (sym m ∙ lent-other c q t)) (not-4 q m) (sym (passed a b j) ∙ alone-refused c j q x) .2

@@ -23,7 +23,7 @@ use Rattle.gates.proofs.Hiding.{board-finished, none-above}
 use Rattle.jury.specs.declared.shape.Shape.{Shape}
 use Rattle.jury.specs.Shape.{ballotBytes}
 use Rattle.jury.specs.Reason.{Reason, reasonAt, firstOf}
-use Rattle.jury.specs.Ballots.{kindReasons, kindReasonNumbers, ballotReasons}
+use Rattle.jury.specs.Ballots.{ballotKindReasons, ballotKindReasonNumbers, ballotReasons}
 use Rattle.jury.proofs.BallotLaws.{judged-by, judged-kind}
 use Rattle.jury.proofs.AcceptedLaws.{accepted-back}
 use Rattle.jury.proofs.AcceptedLaws as ballots-laws
@@ -43,7 +43,7 @@ use Rattle.tally.proofs.Demands.{three-demands}
 use Rattle.tally.proofs.Numbering.{All, first-number, both, unless-fine, wider, test-all}
 use Rattle.batch_lanes.specs.Lane.{laneCount, laneOf, wordsOf}
 use Rattle.batch_lanes.proofs.ListLaws.{lanes-length, lanes-bits, lanes-zeros, lanes-of-words, length-words}
-use Rattle.batch.specs.Ballots.{wordKindReasons, wordBallotReasons}
+use Rattle.batch.specs.Ballots.{wordBallotKindReasons, wordBallotReasons}
 use Rattle.batch.specs.Call.{Call}
 use Rattle.batch.specs.Run.{wordBufferReasons, wordBufferReasonNumbers, batchReasons, batchReasonNumbers, boardAlone, batchResultAfter, batchResult}
 use Rattle.batch.specs.Theorems.{runAlone, EachAsAlone, AcceptedIfAll, BatchMemory, BatchAccuracy, BatchHiding}
@@ -80,10 +80,10 @@ board-bits ws gs k tape good bits enough l x = ⊎-elim shown closing (below-or-
 
 -- for bits of the right length, only the tests of the shape's kind decide
 by-kind : (s : Shape) (xs : List ℕ) → length xs ≡ ballotBytes s → ((i : ℕ) → getD xs i 0 ≤ 1)
-    → firstOf (ballotReasons s xs) ≡ firstOf (kindReasons s xs)
+    → firstOf (ballotReasons s xs) ≡ firstOf (ballotKindReasons s xs)
 by-kind s xs size bits =
-    judged-by s xs true Nowhere (firstOf (kindReasons s xs)) (eq-eqb (length xs) (ballotBytes s) size) (none-above 0 xs bits)
-    refl ∙ judged-kind (firstOf (kindReasons s xs))
+    judged-by s xs true Nowhere (firstOf (ballotKindReasons s xs)) (eq-eqb (length xs) (ballotBytes s) size) (none-above 0 xs bits)
+    refl ∙ judged-kind (firstOf (ballotKindReasons s xs))
 
 module _ (c : Call) where
   -- if a call answers G and C, no reason applies, and both numbers are the list's
@@ -224,7 +224,7 @@ batch-all c =
     let buffers = wordBufferReasons (ballotBytes (c .shape)) (c .shape .candidates) size (c .tape) (c .wires) (c .board) in
     both ns (test ++ ballots) buffers
     (both ns test ballots (wider testReasonNumbers ns tt test (test-all (c .shape) (c .table)))
-    (unless-fine ns _ 4 tt, wider kindReasonNumbers ns tt (wordKindReasons (c .shape) (c .ballots)) (kind-all (c .shape) (c .ballots))))
+    (unless-fine ns _ 4 tt, wider ballotKindReasonNumbers ns tt (wordBallotKindReasons (c .shape) (c .ballots)) (kind-all (c .shape) (c .ballots))))
     (wider wordBufferReasonNumbers ns tt buffers (buffers-all (ballotBytes (c .shape)) (c .shape .candidates) size (c .tape) (c .wires) (c .board)))
 
 module _ (c : Call) where

@@ -34,11 +34,11 @@ wordRankedReasons s words = foundAt 11 (firstJury (firstNotAsymmetric (s .candid
     ∷ foundAt 12 (firstJury (firstNotWeakOrder (s .candidates) (s .ballots)) words) ∷ []
 
 -- The reasons of the shape's kind of ballots.
-unfoldable pub wordKindReasons : Shape → List ℕ → List (Option Reason)
-wordKindReasons s words = cond (isRanking s) (wordRankedReasons s words) (wordGradedReasons s words)
+unfoldable pub wordBallotKindReasons : Shape → List ℕ → List (Option Reason)
+wordBallotKindReasons s words = cond (isRanking s) (wordRankedReasons s words) (wordGradedReasons s words)
 
 -- The reasons of ballots, in the order of their tests: 4, which counts words, then those of the shape's kind. A bit
 -- is never above 1, so 5 never applies (request 2.11).
 unfoldable pub wordBallotReasons : Shape → List ℕ → List (Option Reason)
 wordBallotReasons s words =
-    unless (eqb (length words) (ballotBytes s)) 4 ∷ wordKindReasons s words
+    unless (eqb (length words) (ballotBytes s)) 4 ∷ wordBallotKindReasons s words

@@ -8,7 +8,7 @@ use Rattle.gates.specs.Wires.{wiresOf}
 use Rattle.gates.specs.Board.{conditionalCount, boardOf}
 use Rattle.jury.specs.Shape.{ballotBytes}
 use Rattle.jury.specs.Reason.{Reason, firstOf}
-use Rattle.jury.specs.Ballots.{kindReasonNumbers}
+use Rattle.jury.specs.Ballots.{ballotKindReasonNumbers}
 use Rattle.tally.specs.Answer.{refused, accepted, Size, sizeOf}
 use Rattle.tally.specs.Test.{testReasons, testReasonNumbers}
 use Rattle.tally.specs.Run.{RunResult, tapeReason, wiresAndBoardReasons}
@@ -34,7 +34,7 @@ batchReasons c =
     (c .board)
 
 abbrev pub batchReasonNumbers : List ℕ
-batchReasonNumbers = testReasonNumbers ++ 4 ∷ kindReasonNumbers ++ wordBufferReasonNumbers
+batchReasonNumbers = testReasonNumbers ++ 4 ∷ ballotKindReasonNumbers ++ wordBufferReasonNumbers
 
 -- The board of jury j by itself, from its own ballots and tape.
 abbrev pub boardAlone : Call → ℕ → List ℕ

@@ -6,7 +6,7 @@ use mathlib.Core.List.{List}
 use Prim.Native.Nat.{ℕ, _<_}
 use lib.ListN.{take}
 use Rattle.jury.specs.Reason.{Reason, reasonAt}
-use Rattle.jury.specs.Ballots.{kindReasonNumbers}
+use Rattle.jury.specs.Ballots.{ballotKindReasonNumbers}
 use Rattle.tally.specs.Answer.{refused, accepted, hasNumberIn, Size}
 use Rattle.tally.specs.SaysWhoWins.{SaysWhoWins}
 use Rattle.tally.specs.Memory.{BoardKeepsMemory}
@@ -43,7 +43,7 @@ AcceptedIfAll =
 
 -- The reasons that are about the contents of ballots: their place is a jury.
 unfoldable pub isOfBallots : Reason → Bool
-isOfBallots = hasNumberIn kindReasonNumbers
+isOfBallots = hasNumberIn ballotKindReasonNumbers
 
 -- If a call is refused for any other reason, every single run is refused for the same reason.
 abbrev pub RefusedAsAlone : Type 0

@@ -45,13 +45,13 @@ sizeNumbers o = answerNumbers o (sizeTold o)
 abbrev pub measureNumbers : Outcome Measures → List ℕ
 measureNumbers o = answerNumbers o (measureTold o)
 
--- Some calls give what they tell beside their reason, such as a count its closing bytes. These are zeros on a refusal
--- already.
+-- The whole answer of a count or of the dispatcher. They give their reason and what they tell separately; on a refusal
+-- they tell zeros.
 abbrev pub toldNumbers : Option Reason → (told : List ℕ) → List ℕ
 toldNumbers reason told = answerNumbers (outcome reason told) told
 
 -- How many numbers an answer has. Reason and place come first; after them one number, or G and C, or G, C and a
--- third, or all closing bytes, or G, C and all closing bytes.
+-- third, or `mostCandidates` closing bytes, or G, C and `mostCandidates` closing bytes.
 abbrev pub oneAnswer : ℕ
 oneAnswer = 3
 

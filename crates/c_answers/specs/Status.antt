@@ -19,24 +19,25 @@ isAccepted (refused r) = false
 isAccepted (accepted values) = true
 
 -- The status of a call with an answer of this length: 255 exactly if the answer array is too short; else 0 exactly if
--- the call is accepted; else the number of its reason, which is one of `numbers`.
-pub record StatusReads {Values : Type 0} (numbers : List ℕ) (needed : ℕ) (o : Outcome Values) (told answer : List ℕ)
-    : Type 0 where
+-- the call is accepted; else the number of its reason, which is one of `reasonNumbers`.
+pub record StatusReads {Values : Type 0} (reasonNumbers : List ℕ) (needed : ℕ) (o : Outcome Values)
+    (told answer : List ℕ) : Type 0 where
   pub short : (status needed (answerNumbers o told) answer ≡ shortAnswer) ↔ (length answer < needed)
   pub zero-accepted : needed ≤ length answer → (status needed (answerNumbers o told) answer ≡ 0) ↔ T (isAccepted o)
   pub reason : needed ≤ length answer → (r : Reason) → o ≡ refused r
-      → (status needed (answerNumbers o told) answer ≡ r .number) × T (hasNumberIn numbers r)
+      → (status needed (answerNumbers o told) answer ≡ r .number) × T (hasNumberIn reasonNumbers r)
 
 -- For each kind of answer: the numbers of the call's reasons, the answer array, and the outcome of the call.
-abbrev pub OneStatus : (numbers answer : List ℕ) → Outcome ℕ → Type 0
-OneStatus numbers answer o = StatusReads numbers oneAnswer o (oneTold o) answer
+abbrev pub OneStatus : (reasonNumbers answer : List ℕ) → Outcome ℕ → Type 0
+OneStatus reasonNumbers answer o = StatusReads reasonNumbers oneAnswer o (oneTold o) answer
 
-abbrev pub SizeStatus : (numbers answer : List ℕ) → Outcome Size → Type 0
-SizeStatus numbers answer o = StatusReads numbers sizeAnswer o (sizeTold o) answer
+abbrev pub SizeStatus : (reasonNumbers answer : List ℕ) → Outcome Size → Type 0
+SizeStatus reasonNumbers answer o = StatusReads reasonNumbers sizeAnswer o (sizeTold o) answer
 
-abbrev pub MeasureStatus : (numbers answer : List ℕ) → Outcome Measures → Type 0
-MeasureStatus numbers answer o = StatusReads numbers threeAnswer o (measureTold o) answer
+abbrev pub MeasureStatus : (reasonNumbers answer : List ℕ) → Outcome Measures → Type 0
+MeasureStatus reasonNumbers answer o = StatusReads reasonNumbers threeAnswer o (measureTold o) answer
 
--- The same for a call that gives what it tells beside its reason.
-abbrev pub ToldStatus : (numbers : List ℕ) (needed : ℕ) (answer : List ℕ) → Option Reason → (told : List ℕ) → Type 0
-ToldStatus numbers needed answer reason told = StatusReads numbers needed (outcome reason told) told answer
+-- The same for a call that gives its reason and what it tells separately.
+abbrev pub ToldStatus : (reasonNumbers : List ℕ) (needed : ℕ) (answer : List ℕ) → Option Reason → (told : List ℕ)
+    → Type 0
+ToldStatus reasonNumbers needed answer reason told = StatusReads reasonNumbers needed (outcome reason told) told answer

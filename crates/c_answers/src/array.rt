@@ -9,7 +9,7 @@ ghost use Rattle.c_answers.specs.inner.Puts.{Puts};
 pub const SHORT_ANSWER: usize = 255;
 
 // How long an answer is. Reason and place come first; after them one number, or G and C, or G, C and a third, or
-// all closing bytes, or G, C and all closing bytes.
+// `MOST_CANDIDATES` closing bytes, or G, C and `MOST_CANDIDATES` closing bytes.
 pub const ONE_ANSWER: usize = 3;
 
 pub const SIZE_ANSWER: usize = 4;

@@ -29,6 +29,7 @@ headersIn numbers =
 abbrev pub dispatchNumbers : DispatchResult → List ℕ
 dispatchNumbers d = toldNumbers (d .reason) (d .rounds)
 
+-- How long an answer is: reason, place, and `mostJuries` numbers of rounds.
 abbrev pub dispatchAnswer : ℕ
 dispatchAnswer = 2 + mostJuries
 

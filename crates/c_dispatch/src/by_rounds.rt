@@ -17,7 +17,7 @@ ghost use Rattle.c_answers.specs.inner.Puts.{Puts};
 ghost use Rattle.dispatch_rounds.specs.Rounds.{mostJuries};
 ghost use Rattle.c_dispatch.specs.Numbers.{headerAt, headersIn, dispatchAnswer, dispatchCall};
 
-// How long an answer is: reason, place, and a number of rounds for each jury.
+// How long an answer is: reason, place, and `MOST_JURIES` numbers of rounds.
 const DISPATCH_ANSWER: usize = 2 + MOST_JURIES;
 
 // Number i of an array, or 0 past its end.

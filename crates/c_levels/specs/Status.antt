@@ -10,8 +10,8 @@ use Rattle.c_answers.specs.Status.{StatusReads}
 use Rattle.c_levels.specs.Numbers.{depthTold}
 
 -- For an answer with G, C and R.
-abbrev pub DepthStatus : (numbers answer : List ℕ) → Outcome Depths → Type 0
-DepthStatus numbers answer o = StatusReads numbers threeAnswer o (depthTold o) answer
+abbrev pub DepthStatus : (reasonNumbers answer : List ℕ) → Outcome Depths → Type 0
+DepthStatus reasonNumbers answer o = StatusReads reasonNumbers threeAnswer o (depthTold o) answer
 
 pub record StatusMeans : Type 0 where
   pub levels : (s : Shape) (table ls answer : List ℕ)

@@ -32,7 +32,7 @@ pub(crate) fn put_measures(outcome: Measured, answer: &mut [usize]) -> usize
     }
 }
 
-// Puts reason, place and all closing bytes, and returns the status.
+// Puts reason, place and the eight closing bytes, and returns the status.
 pub(crate) fn put_count(counted: Counted, answer: &mut [usize]) -> usize
     requires { ⌜ countAnswer ≤ length (now answer) ⌝ }
     ensures { λ r.

@@ -18,7 +18,7 @@ use Rattle.gates.proofs.Hiding.{all-bits, none-above}
 use Rattle.jury.specs.declared.shape.Shape.{Shape}
 use Rattle.jury.specs.Shape.{isRanking, gradedLimits, withinLimits, ballotBytes}
 use Rattle.jury.specs.Reason.{Reason, unless, foundAt, firstOf}
-use Rattle.jury.specs.Ballots.{ones, rowsOf, firstBadRow, gradedReasons, rankedReasons, kindReasons, ballotReasons}
+use Rattle.jury.specs.Ballots.{ones, rowsOf, firstBadRow, gradedReasons, rankedReasons, ballotKindReasons, ballotReasons}
 use Rattle.jury.specs.Rankings.{before, firstNotAsymmetric, firstNotWeakOrder}
 use Rattle.jury.specs.WeakOrder.{StrictWeakOrder}
 use Rattle.jury.specs.Accepted.{AcceptedBallots, GradedBallots}
@@ -100,22 +100,22 @@ module _ (s : Shape) (xs : List ℕ) where
   row-test : Place
   row-test = firstBadRow 0 (rowsOf (s .grades) (s .ballots * s .candidates) xs)
 
-  outcome : firstOf (ballotReasons s xs) ≡ none → judged size-test byte-test (firstOf (kindReasons s xs)) ≡ none
+  outcome : firstOf (ballotReasons s xs) ≡ none → judged size-test byte-test (firstOf (ballotKindReasons s xs)) ≡ none
   unfolding size-test byte-test
-  outcome e = sym (judged-by s xs size-test byte-test (firstOf (kindReasons s xs)) refl refl refl) ∙ e
+  outcome e = sym (judged-by s xs size-test byte-test (firstOf (ballotKindReasons s xs)) refl refl refl) ∙ e
 
   size-of : firstOf (ballotReasons s xs) ≡ none → size-test ≡ true
-  size-of e = size-passed size-test byte-test (firstOf (kindReasons s xs)) (outcome e)
+  size-of e = size-passed size-test byte-test (firstOf (ballotKindReasons s xs)) (outcome e)
 
   byte-of : firstOf (ballotReasons s xs) ≡ none → byte-test ≡ Nowhere
-  byte-of e = byte-passed byte-test (firstOf (kindReasons s xs))
-      (ap (λ (t : Bool). judged t byte-test (firstOf (kindReasons s xs))) (sym (size-of e)) ∙ outcome e)
+  byte-of e = byte-passed byte-test (firstOf (ballotKindReasons s xs))
+      (ap (λ (t : Bool). judged t byte-test (firstOf (ballotKindReasons s xs))) (sym (size-of e)) ∙ outcome e)
 
-  kind-of : firstOf (ballotReasons s xs) ≡ none → firstOf (kindReasons s xs) ≡ none
+  kind-of : firstOf (ballotReasons s xs) ≡ none → firstOf (ballotKindReasons s xs) ≡ none
   kind-of e =
-      kind-passed (firstOf (kindReasons s xs))
-      (ap (λ (p : Place). judged true p (firstOf (kindReasons s xs))) (sym (byte-of e))
-      ∙ ap (λ (t : Bool). judged t byte-test (firstOf (kindReasons s xs))) (sym (size-of e)) ∙ outcome e)
+      kind-passed (firstOf (ballotKindReasons s xs))
+      (ap (λ (p : Place). judged true p (firstOf (ballotKindReasons s xs))) (sym (byte-of e))
+      ∙ ap (λ (t : Bool). judged t byte-test (firstOf (ballotKindReasons s xs))) (sym (size-of e)) ∙ outcome e)
 
   rows-of : firstOf (ballotReasons s xs) ≡ none → isRanking s ≡ false → (r : ℕ) → r < s .ballots * s .candidates
       → ones (take (s .grades) (drop (r * s .grades) xs)) ≡ 1
@@ -141,7 +141,7 @@ module _ (s : Shape) (xs : List ℕ) where
     orders = orders-of e;
   }
 
-  no-kind-reason : AcceptedBallots s xs → (t : Bool) → isRanking s ≡ t → firstOf (kindReasons s xs) ≡ none
+  no-kind-reason : AcceptedBallots s xs → (t : Bool) → isRanking s ≡ t → firstOf (ballotKindReasons s xs) ≡ none
   unfolding gradedReasons rankedReasons foundAt firstOf
   no-kind-reason a false e =
       ap firstOf (graded-reasons s xs e) ∙ ap (λ (p : Place). firstOf (foundAt 6 p ∷ []))

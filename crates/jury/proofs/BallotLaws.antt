@@ -17,7 +17,7 @@ use Rattle.gates.specs.Test.{firstAboveOne}
 use Rattle.jury.specs.declared.shape.Shape.{Shape}
 use Rattle.jury.specs.Shape.{isRanking, ballotBytes}
 use Rattle.jury.specs.Reason.{Reason, unless, foundAt, firstOf}
-use Rattle.jury.specs.Ballots.{ones, rowsOf, firstBadRow, gradedReasons, rankedReasons, kindReasons, ballotReasons}
+use Rattle.jury.specs.Ballots.{ones, rowsOf, firstBadRow, gradedReasons, rankedReasons, ballotKindReasons, ballotReasons}
 use Rattle.basics.proofs.Cases.{below-or-not}
 
 -- the ones from place i on: first byte i, then the rest
@@ -92,22 +92,22 @@ first-both none (some r) os = refl
 first-both (some r) p os = refl
 
 pub judged-by : (s : Shape) (xs : List ℕ) (size : Bool) (byte : Place) (kind : Option Reason) →
-    eqb (length xs) (ballotBytes s) ≡ size → firstAboveOne 0 xs ≡ byte → firstOf (kindReasons s xs) ≡ kind →
+    eqb (length xs) (ballotBytes s) ≡ size → firstAboveOne 0 xs ≡ byte → firstOf (ballotKindReasons s xs) ≡ kind →
     firstOf (ballotReasons s xs) ≡ judged size byte kind
 unfolding judged ballotReasons
 judged-by s xs size byte kind e₁ e₂ e₃ =
     first-both (unless (eqb (length xs) (ballotBytes s)) 4) (foundAt 5 (firstAboveOne 0 xs))
-    (kindReasons s xs)
-    ∙ ap (λ (t : Bool). judged t (firstAboveOne 0 xs) (firstOf (kindReasons s xs))) e₁
-    ∙ ap (λ (p : Place). judged size p (firstOf (kindReasons s xs))) e₂
+    (ballotKindReasons s xs)
+    ∙ ap (λ (t : Bool). judged t (firstAboveOne 0 xs) (firstOf (ballotKindReasons s xs))) e₁
+    ∙ ap (λ (p : Place). judged size p (firstOf (ballotKindReasons s xs))) e₂
     ∙ ap (λ (o : Option Reason). judged size byte o) e₃
 
-pub graded-reasons : (s : Shape) (xs : List ℕ) → isRanking s ≡ false → kindReasons s xs ≡ gradedReasons s xs
-unfolding kindReasons
+pub graded-reasons : (s : Shape) (xs : List ℕ) → isRanking s ≡ false → ballotKindReasons s xs ≡ gradedReasons s xs
+unfolding ballotKindReasons
 graded-reasons s xs e = ap (λ (t : Bool). cond t (rankedReasons s xs) (gradedReasons s xs)) e
 
-pub ranked-reasons : (s : Shape) (xs : List ℕ) → isRanking s ≡ true → kindReasons s xs ≡ rankedReasons s xs
-unfolding kindReasons
+pub ranked-reasons : (s : Shape) (xs : List ℕ) → isRanking s ≡ true → ballotKindReasons s xs ≡ rankedReasons s xs
+unfolding ballotKindReasons
 ranked-reasons s xs e = ap (λ (t : Bool). cond t (rankedReasons s xs) (gradedReasons s xs)) e
 
 pub judged-kind : (kind : Option Reason) → judged true Nowhere kind ≡ kind

@@ -11,6 +11,7 @@ use lib.Dec.{ltb, eqb}
 use lib.ListN.{getD, take, drop, length-take, List·getD-eq-default}
 use lib.Seq.{getD-take, getD-drop}
 use borrow.Author.Tests.{lt-ltb, le-ltb, eqb-true, eqb-false}
+use Rattle.jury.specs.Shape.{mostCandidates, mostGrades}
 use Rattle.jury.specs.declared.shape.Shape.{Shape}
 use Rattle.jury.specs.Counts.{byteOf, countUpTo, countOf, countArray}
 use Rattle.basics.specs.Lists.{tabulate}
@@ -41,10 +42,10 @@ unfoldable pub entryAfter : Shape → List ℕ → ℕ → ℕ → ℕ → ℕ
 entryAfter s xs b c g = cond (ltb c (s .candidates) && ltb g (s .grades)) (countUpTo s xs b c g) 0
 
 unfoldable pub rowAfter : Shape → List ℕ → ℕ → ℕ → List ℕ
-rowAfter s xs b c = tabulate 7 (entryAfter s xs b c)
+rowAfter s xs b c = tabulate mostGrades (entryAfter s xs b c)
 
 unfoldable pub arrayAfter : Shape → List ℕ → ℕ → List (List ℕ)
-arrayAfter s xs b = tabulate 8 (rowAfter s xs b)
+arrayAfter s xs b = tabulate mostCandidates (rowAfter s xs b)
 
 module _ (s : Shape) (xs : List ℕ) where
   pub entry-inside : (b c g : ℕ) → c < s .candidates → g < s .grades → entryAfter s xs b c g ≡ countUpTo s xs b c g
@@ -75,40 +76,40 @@ module _ (s : Shape) (xs : List ℕ) where
   -- so is every number that is read from the array
   pub read-most : (b c g : ℕ) → getD (getD (arrayAfter s xs b) c []) g 0 ≤ b
   unfolding arrayAfter rowAfter
-  read-most b c g = ⊎-elim inside outside (below-or-not c 8)
+  read-most b c g = ⊎-elim inside outside (below-or-not c mostCandidates)
     where
-      read-row : getD (tabulate 7 (entryAfter s xs b c)) g 0 ≤ b
+      read-row : getD (tabulate mostGrades (entryAfter s xs b c)) g 0 ≤ b
       read-row =
-          ⊎-elim (λ l. rw (getD-tabulate 7 g (entryAfter s xs b c) 0 l) (entry-most b c g))
+          ⊎-elim (λ l. rw (getD-tabulate mostGrades g (entryAfter s xs b c) 0 l) (entry-most b c g))
           (λ l. omega (
             arith,
-            List·getD-eq-default (tabulate 7 (entryAfter s xs b c)) 0 {n = g}
-                (omega (arith, length-tabulate 7 (entryAfter s xs b c))),
+            List·getD-eq-default (tabulate mostGrades (entryAfter s xs b c)) 0 {n = g}
+                (omega (arith, length-tabulate mostGrades (entryAfter s xs b c))),
           ))
-          (below-or-not g 7)
+          (below-or-not g mostGrades)
 
-      inside : c < 8 → getD (getD (tabulate 8 (rowAfter s xs b)) c []) g 0 ≤ b
-      inside l = rw (getD-tabulate 8 c (rowAfter s xs b) [] l) read-row
+      inside : c < mostCandidates → getD (getD (tabulate mostCandidates (rowAfter s xs b)) c []) g 0 ≤ b
+      inside l = rw (getD-tabulate mostCandidates c (rowAfter s xs b) [] l) read-row
 
-      outside : 8 ≤ c → getD (getD (tabulate 8 (rowAfter s xs b)) c []) g 0 ≤ b
-      outside l = rw (List·getD-eq-default (tabulate 8 (rowAfter s xs b)) [] {n = c}
-          (omega (arith, length-tabulate 8 (rowAfter s xs b)))) (omega arith)
+      outside : mostCandidates ≤ c → getD (getD (tabulate mostCandidates (rowAfter s xs b)) c []) g 0 ≤ b
+      outside l = rw (List·getD-eq-default (tabulate mostCandidates (rowAfter s xs b)) [] {n = c}
+          (omega (arith, length-tabulate mostCandidates (rowAfter s xs b)))) (omega arith)
 
   -- the array is eight by seven, and its counts have room for one more ballot
   pub array-eight-by-seven : (b : ℕ) → b < 256 → EightBySeven (arrayAfter s xs b)
   unfolding arrayAfter rowAfter
   array-eight-by-seven b h = record {
-    rows = length-tabulate 8 (rowAfter s xs b);
-    columns = λ c l. rw (getD-tabulate 8 c (rowAfter s xs b) [] l) (length-tabulate 7 (entryAfter s xs b c));
+    rows = length-tabulate mostCandidates (rowAfter s xs b);
+    columns = λ c l. rw (getD-tabulate mostCandidates c (rowAfter s xs b) [] l) (length-tabulate mostGrades (entryAfter s xs b c));
     small = λ c g. omega (arith, read-most b c g);
   }
 
   -- before the first ballot all entries are 0
-  pub array-start : arrayAfter s xs 0 ≡ tabulate 8 (λ c. tabulate 7 (λ g. 0))
+  pub array-start : arrayAfter s xs 0 ≡ tabulate mostCandidates (λ c. tabulate mostGrades (λ g. 0))
   unfolding arrayAfter rowAfter
   array-start =
-      tabulate-cong 8 (rowAfter s xs 0) (λ c. tabulate 7 (λ g. 0))
-      (λ c l. tabulate-cong 7 (entryAfter s xs 0 c) (λ g. 0) (λ g m. omega (arith, entry-most 0 c g)))
+      tabulate-cong mostCandidates (rowAfter s xs 0) (λ c. tabulate mostGrades (λ g. 0))
+      (λ c l. tabulate-cong mostGrades (entryAfter s xs 0 c) (λ g. 0) (λ g m. omega (arith, entry-most 0 c g)))
 
   -- after the last ballot this is the array of counts
   pub array-end : arrayAfter s xs (s .ballots) ≡ countArray s xs
@@ -150,27 +151,27 @@ module _ (s : Shape) (xs : List ℕ) where
     count-step b c g = ap (λ (x : ℕ). countUpTo s xs b c g + x)
         (bit-added (byteOf s xs b c g) (bits ((b * s .candidates + c) * s .grades + g)))
 
-    entry-step : (b c g : ℕ) → c < s .candidates → g < 7 → getD (rowAfter s xs b c) g 0 + getD (ballotRow b c) g 0
+    entry-step : (b c g : ℕ) → c < s .candidates → g < mostGrades → getD (rowAfter s xs b c) g 0 + getD (ballotRow b c) g 0
         ≡ entryAfter s xs (suc b) c g
     unfolding rowAfter
     entry-step b c g hc h = ⊎-elim inside beside (below-or-not g (s .grades))
       where
-        inside : g < s .grades → getD (tabulate 7 (entryAfter s xs b c)) g 0 + getD (ballotRow b c) g 0 ≡ entryAfter s xs (suc b) c g
+        inside : g < s .grades → getD (tabulate mostGrades (entryAfter s xs b c)) g 0 + getD (ballotRow b c) g 0 ≡ entryAfter s xs (suc b) c g
         inside hg =
             omega (
               arith,
-              getD-tabulate 7 g (entryAfter s xs b c) 0 h,
+              getD-tabulate mostGrades g (entryAfter s xs b c) 0 h,
               entry-inside b c g hc hg,
               entry-inside (suc b) c g hc hg,
               byte-at b c g hc hg,
               count-step b c g,
             )
 
-        beside : s .grades ≤ g → getD (tabulate 7 (entryAfter s xs b c)) g 0 + getD (ballotRow b c) g 0 ≡ entryAfter s xs (suc b) c g
+        beside : s .grades ≤ g → getD (tabulate mostGrades (entryAfter s xs b c)) g 0 + getD (ballotRow b c) g 0 ≡ entryAfter s xs (suc b) c g
         beside hg =
             omega (
               arith,
-              getD-tabulate 7 g (entryAfter s xs b c) 0 h,
+              getD-tabulate mostGrades g (entryAfter s xs b c) 0 h,
               entry-beside b c g hg,
               entry-beside (suc b) c g hg,
               List·getD-eq-default (ballotRow b c) 0 {n = g} (omega (arith, length-take (s .grades) (drop (c * s .grades) (ballotAt b)))),
@@ -179,21 +180,21 @@ module _ (s : Shape) (xs : List ℕ) where
     row-step : (b c : ℕ) → c < s .candidates → plusRow (rowAfter s xs b c) (ballotRow b c) ≡ rowAfter s xs (suc b) c
     unfolding plusRow rowAfter
     row-step b c hc =
-        tabulate-cong 7 (λ g. getD (rowAfter s xs b c) g 0 + getD (ballotRow b c) g 0) (entryAfter s xs (suc b) c)
+        tabulate-cong mostGrades (λ g. getD (rowAfter s xs b c) g 0 + getD (ballotRow b c) g 0) (entryAfter s xs (suc b) c)
         (λ g h. entry-step b c g hc h)
 
     row-kept : (b c : ℕ) → s .candidates ≤ c → rowAfter s xs b c ≡ rowAfter s xs (suc b) c
     unfolding rowAfter
-    row-kept b c hc = tabulate-cong 7 (entryAfter s xs b c) (entryAfter s xs (suc b) c)
+    row-kept b c hc = tabulate-cong mostGrades (entryAfter s xs b c) (entryAfter s xs (suc b) c)
         (λ g h. entry-below b c g hc ∙ sym (entry-below (suc b) c g hc))
 
     -- adding ballot b leads from the array after b ballots to the array after one more
     pub array-step : (b : ℕ) → plusBallot (s .candidates) (s .grades) (arrayAfter s xs b) (ballotAt b) ≡ arrayAfter s xs (suc b)
     unfolding plusBallot arrayAfter
     array-step b =
-        tabulate-cong 8 step (rowAfter s xs (suc b))
+        tabulate-cong mostCandidates step (rowAfter s xs (suc b))
         (λ c h. ap (λ (r : List ℕ). cond (ltb c (s .candidates)) (plusRow r (ballotRow b c)) r)
-        (getD-tabulate 8 c (rowAfter s xs b) [] h) ∙ ⊎-elim (added c) (kept c) (below-or-not c (s .candidates)))
+        (getD-tabulate mostCandidates c (rowAfter s xs b) [] h) ∙ ⊎-elim (added c) (kept c) (below-or-not c (s .candidates)))
       where
         step : ℕ → List ℕ
         step c = cond (ltb c (s .candidates)) (plusRow (getD (arrayAfter s xs b) c []) (ballotRow b c)) (getD (arrayAfter s xs b) c [])

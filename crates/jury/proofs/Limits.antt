@@ -9,39 +9,40 @@ use native.Mathlib.Omega.{arith}
 use lib.Dec.{T, leb}
 use borrow.Author.Tests.{leb-true, le-leb, ne-eqb}
 use Rattle.jury.specs.declared.shape.Shape.{Shape}
-use Rattle.jury.specs.Shape.{isRanking, gradedLimits, rankedLimits, withinLimits, columns, ballotBytes}
+use Rattle.jury.specs.Shape.{mostCandidates, mostGrades, mostBallots, isRanking, gradedLimits, rankedLimits, withinLimits, columns, ballotBytes}
 use Rattle.basics.proofs.Flags.{and-first, and-second, or-either, or-first, never-true, T-true, true-T}
 
 -- a graded jury
 pub record Within (s : Shape) : Type 0 where
   pub k-least : 1 ≤ s .candidates
-  pub k-most : s .candidates ≤ 8
+  pub k-most : s .candidates ≤ mostCandidates
   pub d-least : 2 ≤ s .grades
-  pub d-most : s .grades ≤ 7
+  pub d-most : s .grades ≤ mostGrades
   pub n-least : 1 ≤ s .ballots
-  pub n-most : s .ballots ≤ 255
+  pub n-most : s .ballots ≤ mostBallots
 
 -- if the test of the limits passes, the six facts hold
 pub within : (s : Shape) → gradedLimits s ≡ true → Within s
 unfolding gradedLimits
 within s e =
-    let e₅ = and-first (leb 1 (s .candidates) && leb (s .candidates) 8 && leb 2 (s .grades) && leb (s .grades) 7 &&
-    leb 1 (s .ballots)) (leb (s .ballots) 255) e in
-    let e₄ = and-first (leb 1 (s .candidates) && leb (s .candidates) 8 && leb 2 (s .grades) && leb (s .grades) 7) (leb 1 (s .ballots)) e₅ in
-    let e₃ = and-first (leb 1 (s .candidates) && leb (s .candidates) 8 && leb 2 (s .grades)) (leb (s .grades) 7) e₄ in
-    let e₂ = and-first (leb 1 (s .candidates) && leb (s .candidates) 8) (leb 2 (s .grades)) e₃ in
+    let e₅ = and-first (leb 1 (s .candidates) && leb (s .candidates) mostCandidates && leb 2 (s .grades) && leb (s .grades) mostGrades &&
+    leb 1 (s .ballots)) (leb (s .ballots) mostBallots) e in
+    let e₄ = and-first (leb 1 (s .candidates) && leb (s .candidates) mostCandidates && leb 2 (s .grades) && leb (s .grades) mostGrades)
+    (leb 1 (s .ballots)) e₅ in
+    let e₃ = and-first (leb 1 (s .candidates) && leb (s .candidates) mostCandidates && leb 2 (s .grades)) (leb (s .grades) mostGrades) e₄ in
+    let e₂ = and-first (leb 1 (s .candidates) && leb (s .candidates) mostCandidates) (leb 2 (s .grades)) e₃ in
     record {
-      k-least = leb-true 1 (s .candidates) (and-first (leb 1 (s .candidates)) (leb (s .candidates) 8) e₂);
-      k-most = leb-true (s .candidates) 8 (and-second (leb 1 (s .candidates)) (leb (s .candidates) 8) e₂);
-      d-least = leb-true 2 (s .grades) (and-second (leb 1 (s .candidates) && leb (s .candidates) 8) (leb 2 (s .grades)) e₃);
-      d-most = leb-true (s .grades) 7
-          (and-second (leb 1 (s .candidates) && leb (s .candidates) 8 && leb 2 (s .grades)) (leb (s .grades) 7) e₄);
+      k-least = leb-true 1 (s .candidates) (and-first (leb 1 (s .candidates)) (leb (s .candidates) mostCandidates) e₂);
+      k-most = leb-true (s .candidates) mostCandidates (and-second (leb 1 (s .candidates)) (leb (s .candidates) mostCandidates) e₂);
+      d-least = leb-true 2 (s .grades) (and-second (leb 1 (s .candidates) && leb (s .candidates) mostCandidates) (leb 2 (s .grades)) e₃);
+      d-most = leb-true (s .grades) mostGrades
+          (and-second (leb 1 (s .candidates) && leb (s .candidates) mostCandidates && leb 2 (s .grades)) (leb (s .grades) mostGrades) e₄);
       n-least = leb-true 1 (s .ballots)
-          (and-second (leb 1 (s .candidates) && leb (s .candidates) 8 && leb 2 (s .grades) && leb (s .grades) 7)
+          (and-second (leb 1 (s .candidates) && leb (s .candidates) mostCandidates && leb 2 (s .grades) && leb (s .grades) mostGrades)
           (leb 1 (s .ballots)) e₅);
-      n-most = leb-true (s .ballots) 255
-          (and-second (leb 1 (s .candidates) && leb (s .candidates) 8 && leb 2 (s .grades) && leb (s .grades) 7 &&
-          leb 1 (s .ballots)) (leb (s .ballots) 255) e);
+      n-most = leb-true (s .ballots) mostBallots
+          (and-second (leb 1 (s .candidates) && leb (s .candidates) mostCandidates && leb 2 (s .grades) && leb (s .grades) mostGrades &&
+          leb 1 (s .ballots)) (leb (s .ballots) mostBallots) e);
     }
 
 pub within-T : (s : Shape) → T (gradedLimits s) → Within s
@@ -61,10 +62,10 @@ within-back s w =
     )
 
 -- bounds for the rows of all ballots, and for the ballot bytes
-pub rows-bound : (s : Shape) → Within s → s .ballots * s .candidates ≤ 2040
+pub rows-bound : (s : Shape) → Within s → s .ballots * s .candidates ≤ mostBallots * mostCandidates
 rows-bound s w = mul-le-mul (w .n-most) (w .k-most)
 
-pub bytes-bound : (s : Shape) → Within s → s .ballots * s .candidates * s .grades ≤ 14280
+pub bytes-bound : (s : Shape) → Within s → s .ballots * s .candidates * s .grades ≤ mostBallots * mostCandidates * mostGrades
 bytes-bound s w = mul-le-mul (rows-bound s w) (w .d-most)
 
 pub graded-is : (s : Shape) → Within s → isRanking s ≡ false
@@ -82,26 +83,26 @@ bytes-are s w = grades-columns s (graded-is s w)
 -- a ranked jury
 pub record Ranked (s : Shape) : Type 0 where
   pub k-least : 1 ≤ s .candidates
-  pub k-most : s .candidates ≤ 8
+  pub k-most : s .candidates ≤ mostCandidates
   pub ranking : isRanking s ≡ true
   pub n-least : 1 ≤ s .ballots
-  pub n-most : s .ballots ≤ 255
+  pub n-most : s .ballots ≤ mostBallots
 
 pub ranked : (s : Shape) → rankedLimits s ≡ true → Ranked s
 unfolding rankedLimits
 ranked s e =
-    let e₄ = and-first (leb 1 (s .candidates) && leb (s .candidates) 8 && isRanking s && leb 1 (s .ballots)) (leb (s .ballots) 255) e in
-    let e₃ = and-first (leb 1 (s .candidates) && leb (s .candidates) 8 && isRanking s) (leb 1 (s .ballots)) e₄ in
-    let e₂ = and-first (leb 1 (s .candidates) && leb (s .candidates) 8) (isRanking s) e₃ in
+    let e₄ = and-first (leb 1 (s .candidates) && leb (s .candidates) mostCandidates && isRanking s && leb 1 (s .ballots)) (leb (s .ballots) mostBallots) e in
+    let e₃ = and-first (leb 1 (s .candidates) && leb (s .candidates) mostCandidates && isRanking s) (leb 1 (s .ballots)) e₄ in
+    let e₂ = and-first (leb 1 (s .candidates) && leb (s .candidates) mostCandidates) (isRanking s) e₃ in
     record {
-      k-least = leb-true 1 (s .candidates) (and-first (leb 1 (s .candidates)) (leb (s .candidates) 8) e₂);
-      k-most = leb-true (s .candidates) 8 (and-second (leb 1 (s .candidates)) (leb (s .candidates) 8) e₂);
-      ranking = and-second (leb 1 (s .candidates) && leb (s .candidates) 8) (isRanking s) e₃;
+      k-least = leb-true 1 (s .candidates) (and-first (leb 1 (s .candidates)) (leb (s .candidates) mostCandidates) e₂);
+      k-most = leb-true (s .candidates) mostCandidates (and-second (leb 1 (s .candidates)) (leb (s .candidates) mostCandidates) e₂);
+      ranking = and-second (leb 1 (s .candidates) && leb (s .candidates) mostCandidates) (isRanking s) e₃;
       n-least = leb-true 1 (s .ballots)
-          (and-second (leb 1 (s .candidates) && leb (s .candidates) 8 && isRanking s) (leb 1 (s .ballots)) e₄);
-      n-most = leb-true (s .ballots) 255
-          (and-second (leb 1 (s .candidates) && leb (s .candidates) 8 && isRanking s && leb 1 (s .ballots))
-          (leb (s .ballots) 255) e);
+          (and-second (leb 1 (s .candidates) && leb (s .candidates) mostCandidates && isRanking s) (leb 1 (s .ballots)) e₄);
+      n-most = leb-true (s .ballots) mostBallots
+          (and-second (leb 1 (s .candidates) && leb (s .candidates) mostCandidates && isRanking s && leb 1 (s .ballots))
+          (leb (s .ballots) mostBallots) e);
     }
 
 pub ranked-bytes : (s : Shape) → isRanking s ≡ true → ballotBytes s ≡ s .ballots * s .candidates * s .candidates
@@ -136,10 +137,10 @@ graded-T s h = true-T (withinLimits s) (graded-within s (T-true (gradedLimits s)
 -- what holds for both kinds
 pub record Bounds (s : Shape) : Type 0 where
   pub k-least : 1 ≤ s .candidates
-  pub k-most : s .candidates ≤ 8
-  pub c-most : columns s ≤ 8
+  pub k-most : s .candidates ≤ mostCandidates
+  pub c-most : columns s ≤ mostCandidates
   pub n-least : 1 ≤ s .ballots
-  pub n-most : s .ballots ≤ 255
+  pub n-most : s .ballots ≤ mostBallots
 
 pub bounds : (s : Shape) → withinLimits s ≡ true → Bounds s
 unfolding columns
@@ -148,14 +149,14 @@ bounds s e = ⊎-elim graded rank (kinds s e)
     graded : gradedLimits s ≡ true → Bounds s
     graded g =
         let w = within s g in
-        let few : columns s ≤ 8 = subst (λ (t : Bool). cond t (s .candidates) (s .grades) ≤ 8) (sym (graded-is s w))
+        let few : columns s ≤ mostCandidates = subst (λ (t : Bool). cond t (s .candidates) (s .grades) ≤ mostCandidates) (sym (graded-is s w))
         (omega (arith, w .d-most)) in
         record { k-least = w .k-least; k-most = w .k-most; c-most = few; n-least = w .n-least; n-most = w .n-most }
 
     rank : rankedLimits s ≡ true → Bounds s
     rank r =
         let w = ranked s r in
-        let few : columns s ≤ 8 = subst (λ (t : Bool). cond t (s .candidates) (s .grades) ≤ 8) (sym (w .ranking)) (w .k-most) in
+        let few : columns s ≤ mostCandidates = subst (λ (t : Bool). cond t (s .candidates) (s .grades) ≤ mostCandidates) (sym (w .ranking)) (w .k-most) in
         record { k-least = w .k-least; k-most = w .k-most; c-most = few; n-least = w .n-least; n-most = w .n-most }
 
 pub bounds-T : (s : Shape) → T (withinLimits s) → Bounds s
@@ -181,10 +182,10 @@ some-bytes s e = ⊎-elim graded rank (kinds s e)
         omega (arith, ranked-bytes s (w .ranking))
 
 -- a bound for the ballot bytes of either kind
-pub inputs-bound : (s : Shape) → Bounds s → ballotBytes s ≤ 16320
+pub inputs-bound : (s : Shape) → Bounds s → ballotBytes s ≤ mostBallots * mostCandidates * mostCandidates
 unfolding ballotBytes
 inputs-bound s b =
-    let rows : s .ballots * s .candidates ≤ 2040 = mul-le-mul (b .n-most) (b .k-most) in
+    let rows : s .ballots * s .candidates ≤ mostBallots * mostCandidates = mul-le-mul (b .n-most) (b .k-most) in
     mul-le-mul rows (b .c-most)
 
 -- products of two numbers of a shape fit into a machine number

@@ -6,6 +6,7 @@ use mathlib.Core.List.{List, [], map}
 use Prim.Native.Nat.{ℕ, _<_}
 use lib.Dec.{ltb}
 use lib.ListN.{length, getD, take}
+use Rattle.jury.specs.Shape.{mostCandidates, mostGrades}
 use Rattle.jury.specs.declared.shape.Shape.{Shape}
 use Rattle.jury.specs.Counts.{countOf, countsOf, countArray}
 use Rattle.basics.specs.Lists.{tabulate}
@@ -19,7 +20,7 @@ pub array-rows : (s : Shape) (xs : List ℕ) → Within s → rowsIn (s .candida
 unfolding rowsIn arrayAfter rowAfter countsOf countOf
 array-rows s xs w =
     ap (λ (m : List (List ℕ)). map (take d) (take k m)) (sym (array-end s xs))
-    ∙ ap (map (take d)) (take-tabulate k 8 (rowAfter s xs n) (w .k-most))
+    ∙ ap (map (take d)) (take-tabulate k mostCandidates (rowAfter s xs n) (w .k-most))
     ∙ map-tabulate (take d) k (rowAfter s xs n)
     ∙ tabulate-cong k (λ c. take d (rowAfter s xs n c)) (λ c. tabulate d (countOf s xs c)) row
   where
@@ -34,17 +35,17 @@ array-rows s xs w =
 
     row : (c : ℕ) → c < k → take d (rowAfter s xs n c) ≡ tabulate d (countOf s xs c)
     row c h =
-        take-tabulate d 7 (entryAfter s xs n c) (w .d-most)
+        take-tabulate d mostGrades (entryAfter s xs n c) (w .d-most)
         ∙ tabulate-cong d (entryAfter s xs n c) (countOf s xs c) (λ g l. entry-inside s xs n c g h l)
 
 -- every row of the array has seven counts
-pub array-eight : (s : Shape) (xs : List ℕ) → length (countArray s xs) ≡ 8
+pub array-eight : (s : Shape) (xs : List ℕ) → length (countArray s xs) ≡ mostCandidates
 unfolding countArray
 array-eight s xs =
-    length-tabulate 8 (λ c. tabulate 7 (λ g. cond (ltb c (s .candidates) && ltb g (s .grades)) (countOf s xs c g) 0))
+    length-tabulate mostCandidates (λ c. tabulate mostGrades (λ g. cond (ltb c (s .candidates) && ltb g (s .grades)) (countOf s xs c g) 0))
 
-pub array-columns : (s : Shape) (xs : List ℕ) (i : ℕ) → i < 8 → length (getD (countArray s xs) i []) ≡ 7
+pub array-columns : (s : Shape) (xs : List ℕ) (i : ℕ) → i < mostCandidates → length (getD (countArray s xs) i []) ≡ mostGrades
 unfolding countArray
-array-columns s xs i l = rw (getD-tabulate 8 i
-    (λ c. tabulate 7 (λ g. cond (ltb c (s .candidates) && ltb g (s .grades)) (countOf s xs c g) 0)) [] l)
-    (length-tabulate 7 (λ g. cond (ltb i (s .candidates) && ltb g (s .grades)) (countOf s xs i g) 0))
+array-columns s xs i l = rw (getD-tabulate mostCandidates i
+    (λ c. tabulate mostGrades (λ g. cond (ltb c (s .candidates) && ltb g (s .grades)) (countOf s xs c g) 0)) [] l)
+    (length-tabulate mostGrades (λ g. cond (ltb i (s .candidates) && ltb g (s .grades)) (countOf s xs i g) 0))

@@ -7,6 +7,7 @@ use Prim.Native.Nat.{ℕ, _+_, _-_, _≤_, _<_}
 use native.Mathlib.Omega.{arith}
 use lib.ListN.{length, getD, take, replicate, length-take, length-map, length-append, List·getD-map, List·getD-append, List·getD-eq-default}
 use lib.Seq.{ext-getD, getD-take, getD-append-add, take-nil, length-take-le}
+use Rattle.jury.specs.Shape.{mostCandidates}
 use Rattle.jury.specs.ClosingBytes.{eightBytes}
 use Rattle.jury.specs.inner.Counts.{rowsIn}
 use Rattle.basics.specs.Lists.{tabulate}
@@ -26,29 +27,29 @@ row-at k d counts i h =
     ∙ ap (take d) (getD-take k counts i [] h)
 
 -- the eight bytes are the given bytes, then 0
-pub eight-at : (bytes : List ℕ) (j : ℕ) → j < 8 → getD (eightBytes bytes) j 0 ≡ getD bytes j 0
+pub eight-at : (bytes : List ℕ) (j : ℕ) → j < mostCandidates → getD (eightBytes bytes) j 0 ≡ getD bytes j 0
 unfolding eightBytes
-eight-at bytes j h = getD-take 8 (bytes ++ replicate 8 0) j 0 h ∙ ⊎-elim within past (below-or-not j (length bytes))
+eight-at bytes j h = getD-take mostCandidates (bytes ++ replicate mostCandidates 0) j 0 h ∙ ⊎-elim within past (below-or-not j (length bytes))
   where
-    within : j < length bytes → getD (bytes ++ replicate 8 0) j 0 ≡ getD bytes j 0
-    within l = List·getD-append bytes (replicate 8 0) 0 j l
+    within : j < length bytes → getD (bytes ++ replicate mostCandidates 0) j 0 ≡ getD bytes j 0
+    within l = List·getD-append bytes (replicate mostCandidates 0) 0 j l
 
-    past : length bytes ≤ j → getD (bytes ++ replicate 8 0) j 0 ≡ getD bytes j 0
+    past : length bytes ≤ j → getD (bytes ++ replicate mostCandidates 0) j 0 ≡ getD bytes j 0
     past l =
-        ap (λ (m : ℕ). getD (bytes ++ replicate 8 0) m 0) {x = j} {y = length bytes + (j - length bytes)} (omega arith)
-        ∙ getD-append-add bytes (replicate 8 0) (j - length bytes) 0
-        ∙ zeros-at 8 (j - length bytes)
+        ap (λ (m : ℕ). getD (bytes ++ replicate mostCandidates 0) m 0) {x = j} {y = length bytes + (j - length bytes)} (omega arith)
+        ∙ getD-append-add bytes (replicate mostCandidates 0) (j - length bytes) 0
+        ∙ zeros-at mostCandidates (j - length bytes)
         ∙ sym (List·getD-eq-default bytes 0 {n = j} l)
 
-pub eight-length : (bytes : List ℕ) → length (eightBytes bytes) ≡ 8
+pub eight-length : (bytes : List ℕ) → length (eightBytes bytes) ≡ mostCandidates
 unfolding eightBytes
-eight-length bytes = omega (arith, length-take 8 (bytes ++ replicate 8 0), length-append bytes (replicate 8 0))
+eight-length bytes = omega (arith, length-take mostCandidates (bytes ++ replicate mostCandidates 0), length-append bytes (replicate mostCandidates 0))
 
 -- eight bytes: the first k are a table's, the others 0
-pub eight-table : (k : ℕ) (f : ℕ → ℕ) → tabulate 8 (upTo k f (λ j. 0)) ≡ eightBytes (tabulate k f)
+pub eight-table : (k : ℕ) (f : ℕ → ℕ) → tabulate mostCandidates (upTo k f (λ j. 0)) ≡ eightBytes (tabulate k f)
 eight-table k f =
-    ext-getD 0 (tabulate 8 bytes) (eightBytes (tabulate k f)) (length-tabulate 8 bytes ∙ sym (eight-length (tabulate k f)))
-    (λ j l. at j (omega (arith, length-tabulate 8 bytes)))
+    ext-getD 0 (tabulate mostCandidates bytes) (eightBytes (tabulate k f)) (length-tabulate mostCandidates bytes ∙ sym (eight-length (tabulate k f)))
+    (λ j l. at j (omega (arith, length-tabulate mostCandidates bytes)))
   where
     bytes : ℕ → ℕ
     bytes = upTo k f (λ j. 0)
@@ -60,5 +61,5 @@ eight-table k f =
         ∙ sym (List·getD-eq-default (tabulate k f) 0 {n = j} (omega (arith, length-tabulate k f))))
         (below-or-not j k)
 
-    at : (j : ℕ) → j < 8 → getD (tabulate 8 bytes) j 0 ≡ getD (eightBytes (tabulate k f)) j 0
-    at j l = getD-tabulate 8 j bytes 0 l ∙ byte j ∙ sym (eight-at (tabulate k f) j l)
+    at : (j : ℕ) → j < mostCandidates → getD (tabulate mostCandidates bytes) j 0 ≡ getD (eightBytes (tabulate k f)) j 0
+    at j l = getD-tabulate mostCandidates j bytes 0 l ∙ byte j ∙ sym (eight-at (tabulate k f) j l)

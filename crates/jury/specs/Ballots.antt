@@ -39,17 +39,18 @@ rankedReasons s xs =
     foundAt 11 (firstNotAsymmetric (s .candidates) (s .ballots) xs)
     ∷ foundAt 12 (firstNotWeakOrder (s .candidates) (s .ballots) xs) ∷ []
 
--- The reasons of the shape's kind of ballots, and their numbers.
-unfoldable pub kindReasons : Shape → List ℕ → List (Option Reason)
-kindReasons s xs = cond (isRanking s) (rankedReasons s xs) (gradedReasons s xs)
+-- The reasons of the shape's kind of ballots. The numbers are those of both kinds: 6 for grades, 11 and 12 for
+-- rankings.
+unfoldable pub ballotKindReasons : Shape → List ℕ → List (Option Reason)
+ballotKindReasons s xs = cond (isRanking s) (rankedReasons s xs) (gradedReasons s xs)
 
-abbrev pub kindReasonNumbers : List ℕ
-kindReasonNumbers = 6 ∷ 11 ∷ 12 ∷ []
+abbrev pub ballotKindReasonNumbers : List ℕ
+ballotKindReasonNumbers = 6 ∷ 11 ∷ 12 ∷ []
 
 -- The reasons of ballots, in the order of their tests: 4, then 5 over all bytes, then those of the shape's kind.
 unfoldable pub ballotReasons : Shape → List ℕ → List (Option Reason)
 ballotReasons s xs =
-    unless (eqb (length xs) (ballotBytes s)) 4 ∷ foundAt 5 (firstAboveOne 0 xs) ∷ kindReasons s xs
+    unless (eqb (length xs) (ballotBytes s)) 4 ∷ foundAt 5 (firstAboveOne 0 xs) ∷ ballotKindReasons s xs
 
 abbrev pub ballotReasonNumbers : List ℕ
-ballotReasonNumbers = 4 ∷ 5 ∷ kindReasonNumbers
+ballotReasonNumbers = 4 ∷ 5 ∷ ballotKindReasonNumbers

@@ -14,6 +14,10 @@ mostGrades = 7
 abbrev pub mostBallots : ℕ
 mostBallots = 255
 
+-- How many entries a table has that keeps one for each pair of candidates.
+abbrev pub mostPairs : ℕ
+mostPairs = mostCandidates * mostCandidates
+
 -- With 0 grades, the jurors rank the candidates (request 2.2).
 unfoldable pub isRanking : Shape → Bool
 isRanking s = eqb (s .grades) 0

@@ -11,6 +11,7 @@ use native.Mathlib.Omega.{arith}
 use lib.Dec.{eqb, leb, ltb}
 use lib.ListN.{length, set}
 use borrow.Author.Tests.{eq-eqb, ne-eqb, lt-ltb, le-ltb}
+use Rattle.jury.specs.Shape.{mostCandidates, mostPairs}
 use Rattle.gate_words.specs.Choice.{masked}
 use Rattle.gate_words.specs.Counter.{counter}
 use Rattle.basics.proofs.Arithmetic.{row-within}
@@ -25,10 +26,10 @@ use Rattle.ranked_circuit.proofs.StageLaws.{apart-all, stagePad, stage-length}
 use Rattle.ranked_blocks.specs.Ranked.{keepLinks}
 
 -- at most eight candidates have at most 64 places
-pub square-small : (k : ℕ) → k ≤ 8 → k * k ≤ 64
-square-small k h = mul-le-mul {n₁ = k} {m₁ = k} {n₂ = 8} {m₂ = 8} h h
+pub square-small : (k : ℕ) → k ≤ mostCandidates → k * k ≤ mostPairs
+square-small k h = mul-le-mul {n₁ = k} {m₁ = k} {n₂ = mostCandidates} {m₂ = mostCandidates} h h
 
-pub index-small : (k i j : ℕ) → k ≤ 8 → i < k → j < k → i * k + j < 64
+pub index-small : (k i j : ℕ) → k ≤ mostCandidates → i < k → j < k → i * k + j < mostPairs
 index-small k i j h hi hj = omega (arith, row-within i k k hi, square-small k h)
 
 -- The row and the column of block e are below k.
@@ -36,9 +37,9 @@ pub record Place (k e : ℕ) : Type 0 where
   pub row : e / k < k
   pub column : e % k < k
   pub number : e / k * k + e % k ≡ e
-  pub small : e < 64
+  pub small : e < mostPairs
 
-pub place : (k e : ℕ) → k ≤ 8 → e < k * k → Place k e
+pub place : (k e : ℕ) → k ≤ mostCandidates → e < k * k → Place k e
 place k e h l = record { row = row-low k e l; column = column-low k e l; number = number-of k e; small = omega (arith, square-small k h) }
 
 -- which words a stage leaves

@@ -15,7 +15,7 @@ ghost use Rattle.ranked_circuit.specs.Stages as spec;
 ghost use Rattle.ranked_circuit.specs.Stages.{votesBlock, linksBlock, newWord, pathBlock};
 ghost use Rattle.ranked_circuit.specs.Contests.{meetingOf, meetingsBlock};
 ghost use Rattle.ranked_blocks.specs.Ranked.{keptOf};
-ghost use Rattle.ranked_blocks.specs.inner.Entries.{EntryReady, VotesReady, PathReady, Meets, WordReady};
+ghost use Rattle.ranked_blocks.specs.inner.Entries.{BlockReady, VotesReady, PathReady, Meets, WordReady};
 ghost use Rattle.ranked_blocks.specs.inner.Entries.{Entered, WordEntered};
 
 // The public numbers from which the list is written: k, n, and the number of digits that a word has above its lowest.
@@ -55,7 +55,7 @@ pub fn links_entry(
     e: u32,
 ) -> Writer
     requires { ⌜
-        EntryReady w (now words) (now links) p (linksBlock first (keptOf (now words) (p .candidates)) (p .digits)) e
+        BlockReady w (now words) (now links) p (linksBlock first (keptOf (now words) (p .candidates)) (p .digits)) e
         ⌝ }
     ensures { λ r. ⌜
         Entered w (now (table .entry)) (linksBlock first (keptOf (now (words .entry)) (p .candidates)) (p .digits)
@@ -125,7 +125,7 @@ pub fn meetings_entry(
     e: u32,
 ) -> Writer
     requires { ⌜
-        EntryReady w (now words) (now met) p (meetingsBlock (p .candidates - 1) (keptOf (now words) (p .candidates))
+        BlockReady w (now words) (now met) p (meetingsBlock (p .candidates - 1) (keptOf (now words) (p .candidates))
         (keptOf (now met) (p .candidates)) (p .digits)) e
         ⌝ }
     ensures { λ r. ⌜

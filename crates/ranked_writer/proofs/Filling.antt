@@ -6,6 +6,7 @@ use Prim.Native.Nat.{ℕ, suc, _+_, _*_, _/_, _%_, _≤_, _<_}
 use native.Mathlib.Numerals.{add-one}
 use native.Mathlib.Omega.{arith}
 use lib.ListN.{length}
+use Rattle.jury.specs.Shape.{mostCandidates, mostPairs}
 use Rattle.gates.specs.Gate.{Gate}
 use Rattle.gate_words.specs.declared.writer.Writer.{Writer}
 use Rattle.gate_words.specs.Writing.{Room, Wrote}
@@ -55,9 +56,9 @@ pub record Turn (x k e : ℕ) : Type 0 where
   pub column : e % x < k
   pub number : e / x * k + e % x ≡ e
   pub few : e < k * k
-  pub small : e < 64
+  pub small : e < mostPairs
 
-pub turn : {x k e : ℕ} → x ≡ k → k ≤ 8 → e < x * x → Turn x k e
+pub turn : {x k e : ℕ} → x ≡ k → k ≤ mostCandidates → e < x * x → Turn x k e
 turn {x} {k} {e} q h l =
     let m : e < k * k = subst (λ (y : ℕ). e < y * y) q l in
     subst (λ (y : ℕ). Turn y k e) (sym q)

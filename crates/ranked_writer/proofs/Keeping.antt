@@ -10,6 +10,7 @@ use lib.Dec.{eqb, ltb}
 use lib.ListN.{length, getD, set, length-set}
 use lib.Seq.{getD-set-same, getD-set-other}
 use borrow.Author.Tests.{eq-eqb, ltb-true, lt-ltb, le-ltb}
+use Rattle.jury.specs.Shape.{mostCandidates, mostPairs}
 use Rattle.gates.specs.Gate.{Gate}
 use Rattle.basics.proofs.Cases.{below-or-not, same-or-not}
 use Rattle.ranked_circuit.specs.Table.{blocks, entries, table, entryEnd}
@@ -40,15 +41,15 @@ one-place k i j i′ j′ hj hj′ q =
 module _ (k : ℕ) (stay : ℕ → ℕ → Bool) (new : ℕ → ℕ → ℕ) (ws₀ : List ℕ) where
   -- after e blocks
   pub record KeptTo (e : ℕ) (ws : List ℕ) : Type 0 where
-    pub long : length ws ≡ 64
+    pub long : length ws ≡ mostPairs
     pub same : (i j : ℕ) → i < k → j < k → stay i j ≡ true → keptOf ws k i j ≡ keptOf ws₀ k i j
     pub later : (i j : ℕ) → i < k → j < k → e ≤ i * k + j → keptOf ws k i j ≡ keptOf ws₀ k i j
     pub moved : (i j : ℕ) → i < k → j < k → i * k + j < e → stay i j ≡ false → keptOf ws k i j ≡ new i j
 
-  pub kept-start : length ws₀ ≡ 64 → KeptTo 0 ws₀
+  pub kept-start : length ws₀ ≡ mostPairs → KeptTo 0 ws₀
   kept-start l = record { long = l; same = λ i j hi hj e. refl; later = λ i j hi hj e. refl; moved = λ i j hi hj e. absurd (omega arith) }
 
-  pub kept-next : (e : ℕ) (ws ws′ : List ℕ) (x : ℕ) → e < k * k → e < 64 → KeptTo e ws → ws′
+  pub kept-next : (e : ℕ) (ws ws′ : List ℕ) (x : ℕ) → e < k * k → e < mostPairs → KeptTo e ws → ws′
       ≡ keep (stay (e / k) (e % k)) ws e x → x ≡ new (e / k) (e % k) → KeptTo (e + 1) ws′
   kept-next e ws ws′ x low small t q ex = bool-cases (stay (e / k) (e % k)) stayed went
     where
@@ -112,12 +113,12 @@ module _ (k : ℕ) (stay : ℕ → ℕ → Bool) (new : ℕ → ℕ → ℕ) (ws
 -- Wires about two candidates: if j < i and `rows` holds for i, their block ends just before wire `ends i j`.
 module _ (k : ℕ) (rows : ℕ → Bool) (ends : ℕ → ℕ → ℕ) (ls₀ : List ℕ) where
   pub record LinksTo (e : ℕ) (ls : List ℕ) : Type 0 where
-    pub long : length ls ≡ 64
+    pub long : length ls ≡ mostPairs
     pub up : (i j : ℕ) → i < k → j < k → j < i → rows i ≡ true → i * k + j < e → keptOf ls k i j ≡ ends i j - 2
     pub down : (i j : ℕ) → i < k → j < k → j < i → rows i ≡ true → i * k + j < e → keptOf ls k j i ≡ ends i j - 1
     pub rest : (i j : ℕ) → i < k → j < k → rows (max i j) ≡ false → keptOf ls k i j ≡ keptOf ls₀ k i j
 
-  pub links-start : length ls₀ ≡ 64 → LinksTo 0 ls₀
+  pub links-start : length ls₀ ≡ mostPairs → LinksTo 0 ls₀
   links-start l =
       record {
         long = l;
@@ -127,7 +128,7 @@ module _ (k : ℕ) (rows : ℕ → Bool) (ends : ℕ → ℕ → ℕ) (ls₀ : L
         rest = λ i j hi hj q. refl;
       }
 
-  pub links-next : k ≤ 8 → (e : ℕ) (ls ls′ : List ℕ) (wire : ℕ) → e / k < k → e % k < k → LinksTo e ls → ls′
+  pub links-next : k ≤ mostCandidates → (e : ℕ) (ls ls′ : List ℕ) (wire : ℕ) → e / k < k → e % k < k → LinksTo e ls → ls′
       ≡ keepLinks rows ls k (e / k) (e % k) wire → wire ≡ ends (e / k) (e % k) → LinksTo (e + 1) ls′
   links-next few e ls ls′ wire row column t q ew = bool-cases (ltb (e % k) (e / k) && rows (e / k)) went stayed
     where

@@ -10,6 +10,7 @@ use native.Mathlib.Omega.{arith}
 use lib.ListN.{length, getD, List·getD-eq-default}
 use lib.Seq.{ext-getD}
 use borrow.Author.Count.{below-more}
+use Rattle.jury.specs.Shape.{mostCandidates}
 use Rattle.jury.specs.ClosingBytes.{eightBytes}
 use Rattle.basics.specs.Lists.{tabulate, sameNumbers}
 use Rattle.basics.proofs.Cases.{below-or-not}
@@ -73,10 +74,10 @@ module _ (n : ℕ) (rows : List (List ℕ)) (each : EachGets n rows) (w : ℕ) (
 
 -- the eight bytes: below k the closing bytes, then 0
 pub eight-judged : (rows : List (List ℕ))
-    → tabulate 8 (upTo (length rows) (λ j. getD (judgmentOf rows) j 0) (λ j. 0)) ≡ eightBytes (judgmentOf rows)
+    → tabulate mostCandidates (upTo (length rows) (λ j. getD (judgmentOf rows) j 0) (λ j. 0)) ≡ eightBytes (judgmentOf rows)
 eight-judged rows =
-    ext-getD 0 (tabulate 8 closing) (eightBytes (judgmentOf rows)) (length-tabulate 8 closing ∙ sym (eight-length (judgmentOf rows)))
-    (λ j l. at j (omega (arith, length-tabulate 8 closing)))
+    ext-getD 0 (tabulate mostCandidates closing) (eightBytes (judgmentOf rows)) (length-tabulate mostCandidates closing ∙ sym (eight-length (judgmentOf rows)))
+    (λ j l. at j (omega (arith, length-tabulate mostCandidates closing)))
   where
     closing : ℕ → ℕ
     closing = upTo (length rows) (λ j. getD (judgmentOf rows) j 0) (λ j. 0)
@@ -88,5 +89,5 @@ eight-judged rows =
         ∙ sym (List·getD-eq-default (judgmentOf rows) 0 {n = j} (omega (arith, judgment-length rows))))
         (below-or-not j (length rows))
 
-    at : (j : ℕ) → j < 8 → getD (tabulate 8 closing) j 0 ≡ getD (eightBytes (judgmentOf rows)) j 0
-    at j l = getD-tabulate 8 j closing 0 l ∙ entry j ∙ sym (eight-at (judgmentOf rows) j l)
+    at : (j : ℕ) → j < mostCandidates → getD (tabulate mostCandidates closing) j 0 ≡ getD (eightBytes (judgmentOf rows)) j 0
+    at j l = getD-tabulate mostCandidates j closing 0 l ∙ entry j ∙ sym (eight-at (judgmentOf rows) j l)

@@ -11,6 +11,7 @@ use native.Mathlib.Omega.{arith}
 use lib.Dec.{leb, eqb}
 use lib.ListN.{getD}
 use borrow.Author.Tests.{eq-eqb, ne-eqb, lt-leb}
+use Rattle.jury.specs.Shape.{mostBallots, mostPairs}
 use Rattle.jury.specs.Rankings.{rankPlace, before}
 use Rattle.basics.proofs.Cases.{same-or-not}
 use Rattle.basics.proofs.Flags.{never-true, or-first, or-second}
@@ -31,7 +32,7 @@ place-within k n b i j hb hi hj =
     omega arith
 
 -- bounds for the bytes of one ballot and of all ballots
-pub few-bytes : (k n : ℕ) (xs : List ℕ) → RankedSize k n xs → (k * k ≤ 64) × (n * k * k ≤ 16320)
+pub few-bytes : (k n : ℕ) (xs : List ℕ) → RankedSize k n xs → (k * k ≤ mostPairs) × (n * k * k ≤ mostBallots * mostPairs)
 few-bytes k n xs s = (
   mul-le-mul (s .most-candidates) (s .most-candidates),
   mul-le-mul (mul-le-mul (s .most-ballots) (s .most-candidates)) (s .most-candidates),

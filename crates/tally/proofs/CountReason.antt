@@ -11,16 +11,16 @@ use Rattle.jury.specs.declared.shape.Shape.{Shape}
 use Rattle.jury.specs.Shape.{withinLimits}
 use Rattle.jury.specs.Reason.{reasonAt, unless, firstOf}
 use Rattle.jury.specs.Ballots.{ballotReasons}
-use Rattle.tally.specs.Count.{countReason}
+use Rattle.tally.specs.Count.{countReason, countReasons}
 use Rattle.jury.specs.Accepted.{AcceptedBallots}
 use Rattle.jury.proofs.AcceptedLaws.{accepted, accepted-back}
 
 pub outside-reason : (s : Shape) (xs : List ℕ) → withinLimits s ≡ false → countReason s xs ≡ some (reasonAt 1 0)
-unfolding countReason unless firstOf
+unfolding countReason countReasons unless firstOf
 outside-reason s xs e = ap (λ (t : Bool). firstOf (unless t 1 ∷ ballotReasons s xs)) e
 
 pub within-reason : (s : Shape) (xs : List ℕ) → withinLimits s ≡ true → countReason s xs ≡ firstOf (ballotReasons s xs)
-unfolding countReason unless firstOf
+unfolding countReason countReasons unless firstOf
 within-reason s xs e = ap (λ (t : Bool). firstOf (unless t 1 ∷ ballotReasons s xs)) e
 
 -- a count is accepted exactly if its ballots are

@@ -16,7 +16,7 @@ use Rattle.gates.proofs.Accepting.{zeros, zeros-length, zeros-free, zeros-good,
 use Rattle.jury.specs.declared.shape.Shape.{Shape}
 use Rattle.jury.specs.Shape.{isRanking, gradedLimits, rankedLimits, withinLimits, columns, ballotBytes}
 use Rattle.jury.specs.Reason.{Reason, reasonAt, unless, foundAt, listReason, firstOf}
-use Rattle.jury.specs.Ballots.{ones, rowsOf, firstBadRow, gradedReasons, rankedReasons, kindReasons, ballotReasons}
+use Rattle.jury.specs.Ballots.{ones, rowsOf, firstBadRow, gradedReasons, rankedReasons, ballotKindReasons, ballotReasons}
 use Rattle.jury.specs.Rankings.{rankPlace, before, orElse, firstOver, notAsymmetricAt, notAsymmetricInRow, notAsymmetricInBallot, firstNotAsymmetric, neitherAfterNorBefore, notWeakOrderAfter, notWeakOrder, firstNotWeakOrder}
 use Rattle.basics.specs.Below.{someBelow}
 use Rattle.basics.specs.Lists.{sum, tabulate, all, maximum}
@@ -28,7 +28,7 @@ use Rattle.jury.proofs.Limits.{bounds}
 use Rattle.rule_schulze.specs.Schulze.{link, weakest, allCandidates, without, selections, simplePaths, strongest, wins, schulzeOf}
 use Rattle.rule_schulze.specs.Votes.{votes}
 use Rattle.tally.specs.Rule.{closingFor}
-use Rattle.tally.specs.Count.{countReason, closingAfter, plainClosing}
+use Rattle.tally.specs.Count.{countReason, countReasons, closingAfter, plainClosing}
 use Rattle.tally.specs.Answer.{refused as refusedOutcome, accepted}
 use Rattle.tally.specs.Test.{testOutcome}
 use Rattle.tally.proofs.TestReasons.{list-refused, list-accepted}
@@ -88,15 +88,15 @@ edges =
     ∷ []
 
 pub edges-reasons : map (λ (e : Edge). countReason (e .shape) (e .ballots)) edges ≡ map (λ (e : Edge). e .reason) edges
-unfolding edges refused countReason isRanking gradedLimits rankedLimits withinLimits columns ballotBytes reasonAt
-    unless foundAt firstOf ones rowsOf firstBadRow gradedReasons rankedReasons kindReasons ballotReasons rankPlace before orElse
+unfolding edges refused countReason countReasons isRanking gradedLimits rankedLimits withinLimits columns ballotBytes reasonAt
+    unless foundAt firstOf ones rowsOf firstBadRow gradedReasons rankedReasons ballotKindReasons ballotReasons rankPlace before orElse
     firstOver someBelow notAsymmetricAt notAsymmetricInRow notAsymmetricInBallot firstNotAsymmetric
     neitherAfterNorBefore notWeakOrderAfter notWeakOrder firstNotWeakOrder firstAboveOne
 edges-reasons = refl
 
 pub edges-closing : map (λ (e : Edge). plainClosing (e .shape) (e .ballots)) edges ≡ map (λ (e : Edge). e .closing) edges
-unfolding edges refused countReason isRanking gradedLimits rankedLimits withinLimits columns ballotBytes reasonAt
-    unless foundAt firstOf ones rowsOf firstBadRow gradedReasons rankedReasons kindReasons ballotReasons rankPlace before orElse
+unfolding edges refused countReason countReasons isRanking gradedLimits rankedLimits withinLimits columns ballotBytes reasonAt
+    unless foundAt firstOf ones rowsOf firstBadRow gradedReasons rankedReasons ballotKindReasons ballotReasons rankPlace before orElse
     firstOver someBelow notAsymmetricAt notAsymmetricInRow notAsymmetricInBallot firstNotAsymmetric
     neitherAfterNorBefore notWeakOrderAfter notWeakOrder firstNotWeakOrder firstAboveOne byteOf countUpTo countOf
     tabulate countsOf sum medianFrom medianOf strike strikes sequenceOf precedes nonePrecedes judgmentOf closingFor

@@ -15,7 +15,7 @@ use Rattle.gates.specs.HidingExample as gates
 use Rattle.gates.specs.declared.list.ListCheck.the-variants.{Accepted}
 use Rattle.jury.specs.Shape.{isRanking, gradedLimits, rankedLimits, withinLimits, columns, ballotBytes}
 use Rattle.jury.specs.Reason.{unless, foundAt, firstOf}
-use Rattle.jury.specs.Ballots.{ones, rowsOf, firstBadRow, gradedReasons, kindReasons, ballotReasons}
+use Rattle.jury.specs.Ballots.{ones, rowsOf, firstBadRow, gradedReasons, ballotKindReasons, ballotReasons}
 use Rattle.tally.specs.Answer.{accepted, Size}
 use Rattle.tally.specs.Run.{RunResult, bufferReasons, runResultAfter, runResult}
 use Rattle.tally.specs.Examples.{oneBallot, PairOfRuns}
@@ -60,7 +60,7 @@ module _ (ballots tape wires board : List ℕ) (b : firstOf (ballotReasons oneBa
       ∙ ap (λ (z : List ℕ). record { answer = accepted one; wires = replicate (length wires) 0; board = z }) e
 
 pub pair-of-runs : PairOfRuns
-unfolding oneBallot isRanking columns gradedReasons kindReasons ballotReasons bufferReasons ballotBytes ones rowsOf
+unfolding oneBallot isRanking columns gradedReasons ballotKindReasons ballotReasons bufferReasons ballotBytes ones rowsOf
     firstBadRow unless foundAt firstOf firstAboveOne one
 pair-of-runs =
     record {

@@ -20,11 +20,11 @@ use Rattle.gates.specs.declared.list.ListCheck.the-variants.{Accepted, PartOfAG
 use Rattle.jury.specs.declared.shape.Shape.{Shape}
 use Rattle.jury.specs.Shape.{isRanking, ballotBytes}
 use Rattle.jury.specs.Reason.{Reason, reasonAt, unless, foundAt, listReason, firstOf}
-use Rattle.jury.specs.Ballots.{gradedReasons, rankedReasons, kindReasons, kindReasonNumbers, ballotReasons, ballotReasonNumbers}
+use Rattle.jury.specs.Ballots.{gradedReasons, rankedReasons, ballotKindReasons, ballotKindReasonNumbers, ballotReasons, ballotReasonNumbers}
 use Rattle.jury.proofs.BallotLaws.{graded-reasons, ranked-reasons}
 use Rattle.tally.specs.OwnList.{ownList}
 use Rattle.tally.specs.Answer.{refused, outcome, hasNumberIn, Size, sizeOf}
-use Rattle.tally.specs.Count.{countReason, countReasonNumbers}
+use Rattle.tally.specs.Count.{countReason, countReasons, countReasonNumbers}
 use Rattle.tally.specs.Measure.{measureReasons, measureReasonNumbers, measuresOf, measureOutcome}
 use Rattle.tally.specs.Run.{bufferReasons, bufferReasonNumbers, runReasons, runReasonNumbers}
 use Rattle.tally.specs.Test.{testReasons, testReasonNumbers, testOutcome}
@@ -127,25 +127,27 @@ ranked-all : (s : Shape) (xs : List ℕ) → All (11 ∷ 12 ∷ []) (rankedReaso
 unfolding All rankedReasons hasNumberIn reasonAt
 ranked-all s xs = (found-fine (11 ∷ 12 ∷ []) 11 _ (λ i. tt), (found-fine (11 ∷ 12 ∷ []) 12 _ (λ b. tt), tt))
 
-kind-all : (s : Shape) (xs : List ℕ) → All kindReasonNumbers (kindReasons s xs)
+kind-all : (s : Shape) (xs : List ℕ) → All ballotKindReasonNumbers (ballotKindReasons s xs)
 unfolding all hasNumberIn reasonAt
 kind-all s xs = either (isRanking s)
-    (λ e. subst (All kindReasonNumbers) (sym (ranked-reasons s xs e)) (wider (11 ∷ 12 ∷ []) kindReasonNumbers tt (rankedReasons s xs) (ranked-all s xs)))
-    (λ e. subst (All kindReasonNumbers) (sym (graded-reasons s xs e)) (wider (6 ∷ []) kindReasonNumbers tt (gradedReasons s xs) (graded-all s xs)))
+    (λ e. subst (All ballotKindReasonNumbers) (sym (ranked-reasons s xs e))
+    (wider (11 ∷ 12 ∷ []) ballotKindReasonNumbers tt (rankedReasons s xs) (ranked-all s xs)))
+    (λ e. subst (All ballotKindReasonNumbers) (sym (graded-reasons s xs e))
+    (wider (6 ∷ []) ballotKindReasonNumbers tt (gradedReasons s xs) (graded-all s xs)))
 
 -- the tests of ballots, from those of their kind
-pub ballots-from : (ns : List ℕ) → Among (4 ∷ 5 ∷ []) ns → (s : Shape) (xs : List ℕ) → All ns (kindReasons s xs) → All ns (ballotReasons s xs)
+pub ballots-from : (ns : List ℕ) → Among (4 ∷ 5 ∷ []) ns → (s : Shape) (xs : List ℕ) → All ns (ballotKindReasons s xs) → All ns (ballotReasons s xs)
 unfolding All ballotReasons hasNumberIn reasonAt
 ballots-from ns among s xs a =
     let size = unless (eqb (length xs) (ballotBytes s)) 4 in
     let byte = foundAt 5 (firstAboveOne 0 xs) in
     let two : List ℕ = 4 ∷ 5 ∷ [] in
-    both ns (size ∷ byte ∷ []) (kindReasons s xs)
+    both ns (size ∷ byte ∷ []) (ballotKindReasons s xs)
     (wider two ns among (size ∷ byte ∷ []) (unless-fine two _ 4 tt, (found-fine two 5 _ (λ i. tt), tt))) a
 
 pub ballots-all : (s : Shape) (xs : List ℕ) → All ballotReasonNumbers (ballotReasons s xs)
 unfolding all hasNumberIn reasonAt
-ballots-all s xs = ballots-from ballotReasonNumbers tt s xs (wider kindReasonNumbers ballotReasonNumbers tt (kindReasons s xs) (kind-all s xs))
+ballots-all s xs = ballots-from ballotReasonNumbers tt s xs (wider ballotKindReasonNumbers ballotReasonNumbers tt (ballotKindReasons s xs) (kind-all s xs))
 
 pub test-all : (s : Shape) (table : List ℕ) → All testReasonNumbers (testReasons s table)
 unfolding All testReasons hasNumberIn reasonAt
@@ -166,7 +168,7 @@ buffers-all i k size tape wires board =
 
 -- the entry points
 pub measure-number : (s : Shape) (r : Reason) → measureOutcome s ≡ refused r → T (hasNumberIn measureReasonNumbers r)
-unfolding measureOutcome All hasNumberIn reasonAt
+unfolding measureOutcome measureReasons All hasNumberIn reasonAt
 measure-number s = refused-number measureReasonNumbers (measureReasons s) (measuresOf s) (unless-fine measureReasonNumbers _ 1 tt, tt)
 
 pub write-number : (s : Shape) (table : List ℕ) (r : Reason) → writeOutcome s table ≡ refused r → T (hasNumberIn writeReasonNumbers r)
@@ -180,7 +182,7 @@ unfolding testOutcome
 test-number s table = refused-number testReasonNumbers (testReasons s table) (sizeOf (gatesOf table)) (test-all s table)
 
 pub count-number : (s : Shape) (ballots : List ℕ) (r : Reason) → countReason s ballots ≡ some r → T (hasNumberIn countReasonNumbers r)
-unfolding countReason All all hasNumberIn reasonAt
+unfolding countReason countReasons All all hasNumberIn reasonAt
 count-number s ballots =
     let ns = countReasonNumbers in
     first-number ns _ (unless-fine ns _ 1 tt, wider ballotReasonNumbers ns tt (ballotReasons s ballots) (ballots-all s ballots))

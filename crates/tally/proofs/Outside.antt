@@ -10,14 +10,14 @@ use Rattle.jury.specs.Shape.{withinLimits}
 use Rattle.jury.specs.Reason.{reasonAt, unless, firstOf}
 use Rattle.jury.specs.ClosingBytes.{eightBytes}
 use Rattle.tally.specs.Answer.{outcome, refused}
-use Rattle.tally.specs.Measure.{measureOutcome}
+use Rattle.tally.specs.Measure.{measureReasons, measureOutcome}
 use Rattle.tally.specs.Test.{testReasons}
 use Rattle.tally.specs.Run.{runReasons, runResultAfter, runResult}
-use Rattle.tally.specs.Count.{countReason, closingAfter, plainClosing}
+use Rattle.tally.specs.Count.{countReason, countReasons, closingAfter, plainClosing}
 
 module _ (s : Shape) (w : withinLimits s ≡ false) where
   pub outside-measure : measureOutcome s ≡ refused (reasonAt 1 0)
-  unfolding measureOutcome outcome firstOf unless
+  unfolding measureOutcome measureReasons outcome firstOf unless
   outside-measure = rw w refl
 
   pub outside-run : (table ballots tape wires board : List ℕ) → runResult s table ballots tape wires board
@@ -26,5 +26,5 @@ module _ (s : Shape) (w : withinLimits s ≡ false) where
   outside-run table ballots tape wires board = rw w refl
 
   pub outside-closing : (ballots : List ℕ) → plainClosing s ballots ≡ eightBytes []
-  unfolding plainClosing countReason closingAfter firstOf unless
+  unfolding plainClosing countReason countReasons closingAfter firstOf unless
   outside-closing ballots = rw w refl

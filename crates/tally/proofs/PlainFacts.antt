@@ -9,6 +9,7 @@ use Prim.Native.Nat.{ℕ, _≤_, _<_}
 use native.Mathlib.Omega.{arith}
 use lib.ListN.{length, getD, take, replicate, List·getD-eq-default}
 use lib.Seq.{take-take, take-append-le, take-all}
+use Rattle.jury.specs.Shape.{mostCandidates}
 use Rattle.jury.specs.declared.shape.Shape.{Shape}
 use Rattle.jury.specs.Reason.{Reason}
 use Rattle.jury.specs.ClosingBytes.{eightBytes}
@@ -22,13 +23,13 @@ use Rattle.tally.proofs.CountReason.{count-accepts}
 use Rattle.tally.proofs.Rules.{closing-length, rule-says, says-same}
 use Rattle.jury.proofs.Rows.{eight-at, eight-length}
 
-after-length : (r : Option Reason) (bytes : List ℕ) → length (closingAfter r bytes) ≡ 8
+after-length : (r : Option Reason) (bytes : List ℕ) → length (closingAfter r bytes) ≡ mostCandidates
 unfolding closingAfter
 after-length none bytes = eight-length bytes
 after-length (some r) bytes = eight-length []
 
 -- there are eight bytes, whatever the shape and the ballots are
-pub plain-length : (s : Shape) (xs : List ℕ) → length (plainClosing s xs) ≡ 8
+pub plain-length : (s : Shape) (xs : List ℕ) → length (plainClosing s xs) ≡ mostCandidates
 unfolding plainClosing
 plain-length s xs = after-length (countReason s xs) (closingFor s xs)
 
@@ -45,18 +46,18 @@ module _ (s : Shape) (xs : List ℕ) (a : AcceptedBallots s xs) where
   unfolding eightBytes
   plain-first =
       ap (take (s .candidates)) plain-accepted
-      ∙ take-take (s .candidates) 8 (closingFor s xs ++ replicate 8 0) (bounds s (a .within) .k-most)
-      ∙ take-append-le (s .candidates) (closingFor s xs) (replicate 8 0) (omega (arith, bytes-length))
+      ∙ take-take (s .candidates) mostCandidates (closingFor s xs ++ replicate mostCandidates 0) (bounds s (a .within) .k-most)
+      ∙ take-append-le (s .candidates) (closingFor s xs) (replicate mostCandidates 0) (omega (arith, bytes-length))
       ∙ take-all (s .candidates) (closingFor s xs) (omega (arith, bytes-length))
 
   -- each of the eight is the rule's byte, or 0 if the rule has none at that place
   plain-byte : (i : ℕ) → getD (plainClosing s xs) i 0 ≡ getD (closingFor s xs) i 0
-  plain-byte i = ⊎-elim inside outside (below-or-not i 8)
+  plain-byte i = ⊎-elim inside outside (below-or-not i mostCandidates)
     where
-      inside : i < 8 → getD (plainClosing s xs) i 0 ≡ getD (closingFor s xs) i 0
+      inside : i < mostCandidates → getD (plainClosing s xs) i 0 ≡ getD (closingFor s xs) i 0
       inside l = ap (λ (bytes : List ℕ). getD bytes i 0) plain-accepted ∙ eight-at (closingFor s xs) i l
 
-      outside : 8 ≤ i → getD (plainClosing s xs) i 0 ≡ getD (closingFor s xs) i 0
+      outside : mostCandidates ≤ i → getD (plainClosing s xs) i 0 ≡ getD (closingFor s xs) i 0
       outside l =
           let most = bounds s (a .within) .k-most in
           List·getD-eq-default (plainClosing s xs) 0 {n = i} (omega (arith, plain-length s xs))

@@ -11,12 +11,16 @@ use Rattle.jury.specs.ClosingBytes.{eightBytes}
 use Rattle.tally.specs.Answer.{Outcome, outcome}
 use Rattle.tally.specs.Rule.{closingFor}
 
--- The first reason of a count that applies. The order is 1, 4, 5, then 6 for grades or 11 and 12 for rankings.
-unfoldable pub countReason : Shape → List ℕ → Option Reason
-countReason s xs = firstOf (unless (withinLimits s) 1 ∷ ballotReasons s xs)
+-- The reasons of a count, in the order of their tests: 1, 4, 5, then 6 for grades or 11 and 12 for rankings.
+unfoldable pub countReasons : Shape → List ℕ → List (Option Reason)
+countReasons s xs = unless (withinLimits s) 1 ∷ ballotReasons s xs
 
 abbrev pub countReasonNumbers : List ℕ
 countReasonNumbers = 1 ∷ ballotReasonNumbers
+
+-- The first of them that applies.
+unfoldable pub countReason : Shape → List ℕ → Option Reason
+countReason s xs = firstOf (countReasons s xs)
 
 -- The closing bytes of an accepted count; eight zeros on a refusal.
 unfoldable pub closingAfter : Option Reason → List ℕ → List ℕ

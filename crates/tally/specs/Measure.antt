@@ -22,12 +22,13 @@ unfoldable pub measuresOf : Shape → Measures
 measuresOf s = record { gates = length (ownList s); conditional = conditionalCount (ownList s); inputs = ballotBytes s }
 
 -- Measuring is refused only for reason 1.
-abbrev pub measureReasons : Shape → List (Option Reason)
+unfoldable pub measureReasons : Shape → List (Option Reason)
 measureReasons s = unless (withinLimits s) 1 ∷ []
 
 abbrev pub measureReasonNumbers : List ℕ
 measureReasonNumbers = 1 ∷ []
 
+-- The answer of a measure: the reason, or the numbers.
 unfoldable pub measureOutcome : Shape → Outcome Measures
 measureOutcome s = outcome (firstOf (measureReasons s)) (measuresOf s)
 

@@ -21,7 +21,7 @@ use Rattle.gates.proofs.Accepting.{good-list-accepted}
 use Rattle.gates.proofs.Evaluating.{accepted-list}
 use Rattle.gates.proofs.Reading.{whole-table}
 use Rattle.jury.specs.declared.shape.Shape.{Shape}
-use Rattle.jury.specs.Shape.{withinLimits, ballotBytes}
+use Rattle.jury.specs.Shape.{mostBallots, mostCandidates, withinLimits, ballotBytes}
 use Rattle.jury.specs.Reason.{Reason, unless, foundAt, firstOf}
 use Rattle.jury.proofs.Limits.{bounds, inputs-bound}
 use Rattle.tally.specs.Answer.{accepted, outcome, sizeOf}
@@ -104,7 +104,7 @@ back s table output numbers n e room =
     let p = accepted-values (firstOf (textReasons s table output)) (length text) n e in
     let t = test-passed s table (sizeOf gs) (test-accepted s table (test-none s table output (p .0))) in
     let f = accepted-list (ballotBytes s) (s .candidates) table _ _ (t .tests) in
-    let bound : ballotBytes s ≤ 16320 = inputs-bound s (bounds s (t .within)) in
+    let bound : ballotBytes s ≤ mostBallots * mostCandidates * mostCandidates = inputs-bound s (bounds s (t .within)) in
     let good = subst (λ (m : ℕ). AllGood m gs) (add-zero (ballotBytes s)) (all-good (ballotBytes s) 0 gs (f .good)) in
     let l = text-lines gs (all-writable (ballotBytes s) gs (omega (arith, f .few)) good) in
     let whole : numbersOf gs ≡ table = whole-table table (f .whole) in

@@ -6,6 +6,7 @@ use mathlib.Core.List.{List, _++_}
 use Prim.Native.Nat.{ℕ, _+_, _*_}
 use lib.Dec.{T}
 use lib.ListN.{length, replicate, length-replicate}
+use Rattle.jury.specs.Shape.{mostCandidates}
 use Rattle.basics.specs.Lists.{all}
 use Rattle.gates.specs.Gate.{gatesOf}
 use Rattle.jury.specs.Reason.{Reason, reasonAt, firstOf}
@@ -52,7 +53,7 @@ module _ (c : Call) where
   after-refusal : (o : Option Reason) (r : Reason) → trusteesResultAfter o c .answer ≡ refused r
       → (o ≡ some r) × (trusteesResultAfter o c .wireParts ≡ c .lent .wireParts)
       × (trusteesResultAfter o c .published ≡ c .lent .published)
-      × (trusteesResultAfter o c .closing ≡ replicate 8 0)
+      × (trusteesResultAfter o c .closing ≡ replicate mostCandidates 0)
   unfolding trusteesResultAfter eightBytes
   after-refusal none r e = never (sizeOf (gatesOf (c .table))) r (sym e)
   after-refusal (some q) r e = let same : q ≡ r = cc in (ap some same, refl, refl, refl)
@@ -60,7 +61,7 @@ module _ (c : Call) where
   refusal : (r : Reason) → trusteesResult c .answer ≡ refused r
       → (firstOf (trusteesReasons c) ≡ some r) × (trusteesResult c .wireParts ≡ c .lent .wireParts)
       × (trusteesResult c .published ≡ c .lent .published)
-      × (trusteesResult c .closing ≡ replicate 8 0)
+      × (trusteesResult c .closing ≡ replicate mostCandidates 0)
   refusal r e =
       let o = firstOf (trusteesReasons c) in
       let q = after-refusal o r (sym (ap (λ (z : TrusteesResult). z .answer) whole) ∙ e) in (

@@ -7,6 +7,7 @@ use Prim.Native.Nat.{ℕ, _≤_}
 use native.Mathlib.Omega.{arith}
 use lib.ListN.{length, getD}
 use lib.Seq.{ext-getD}
+use Rattle.jury.specs.Shape.{mostCandidates}
 use Rattle.gates.specs.Gate.{gatesOf}
 use Rattle.gates.specs.Wires.{wiresOf, outputsOf}
 use Rattle.jury.specs.ClosingBytes.{eightBytes}
@@ -22,7 +23,7 @@ use Rattle.trustees.proofs.Sums.{Ready, call-ready}
 use Rattle.trustees.proofs.Accuracy.{call-accepted, outputs-long, closing-is}
 
 -- k bytes can be read from the eight to which they are padded
-eight-same : (k : ℕ) (xs ys : List ℕ) → k ≤ 8 → length xs ≡ k → length ys ≡ k → eightBytes xs ≡ eightBytes ys → xs ≡ ys
+eight-same : (k : ℕ) (xs ys : List ℕ) → k ≤ mostCandidates → length xs ≡ k → length ys ≡ k → eightBytes xs ≡ eightBytes ys → xs ≡ ys
 eight-same k xs ys h lx ly e =
     ext-getD 0 xs ys (lx ∙ sym ly)
     (λ (i : ℕ) l. sym (eight-at xs i (omega arith)) ∙ ap (λ (bytes : List ℕ). getD bytes i 0) e ∙ eight-at ys i (omega arith))

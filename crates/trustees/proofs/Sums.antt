@@ -11,7 +11,7 @@ use Rattle.gates.specs.Board.{conditionalCount}
 use Rattle.gates.specs.Test.{firstBad}
 use Rattle.gates.proofs.Counting.{count-most}
 use Rattle.gates.proofs.Evaluating.{accepted-list}
-use Rattle.jury.specs.Shape.{ballotBytes}
+use Rattle.jury.specs.Shape.{mostCandidates, ballotBytes}
 use Rattle.basics.specs.Lists.{tabulate}
 use Rattle.jury.specs.ClosingBytes.{eightBytes}
 use Rattle.jury.proofs.Limits.{some-bytes, bounds, inputs-bound}
@@ -30,8 +30,8 @@ use Rattle.trustees.proofs.Reasons.{CallPassed}
 
 -- facts about an accepted call
 pub record Ready (c : Call) (size : Size) : Type 0 where
-  pub small : (size .conditional ≤ 1048576) × (c .shape .candidates ≤ 8)
-  pub k-most : c .shape .candidates ≤ 8
+  pub small : (size .conditional ≤ 1048576) × (c .shape .candidates ≤ mostCandidates)
+  pub k-most : c .shape .candidates ≤ mostCandidates
   pub published-length : length (c .lent .published) ≡ c .trustees * (2 * size .conditional + c .shape .candidates)
   pub evaluate : EvaluateReady (c .trustees) (length (c .ballots)) (c .table) (size .conditional) (c .shape .candidates)
       (c .lent .dealing .ballotParts) (c .lent .dealing .dealerParts) (c .lent .wireParts) (c .lent .published)

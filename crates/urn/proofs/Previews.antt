@@ -5,8 +5,8 @@ use mathlib.Core.List.{List}
 use Prim.Native.Nat.{ℕ}
 use Rattle.urn.specs.declared.facts.Facts.{Facts}
 use Rattle.urn.specs.Facts.{factsOf}
-use Rattle.urn.specs.Admit.{admitAnswer}
-use Rattle.urn.specs.Withdraw.{withdrawAnswer}
+use Rattle.urn.specs.Admit.{admitOutcomeBy}
+use Rattle.urn.specs.Withdraw.{withdrawOutcomeBy}
 use Rattle.urn.specs.Previews.{Alike, both-unsound, both-sound, PreviewsTell}
 
 -- the facts of both urns are the same
@@ -18,6 +18,6 @@ same-facts-asked k d one other j (both-sound e f ballots present free) = rw (e, 
 pub previews-tell : PreviewsTell
 previews-tell =
     record {
-      admission = λ k d one other j x t. ap (λ (f : Facts). admitAnswer k d f j x) (same-facts-asked k d one other j t);
-      withdrawal = λ k d one other j t. ap (λ (f : Facts). withdrawAnswer k d f j) (same-facts-asked k d one other j t);
+      admission = λ k d one other j x t. ap (λ (f : Facts). admitOutcomeBy k d f j x) (same-facts-asked k d one other j t);
+      withdrawal = λ k d one other j t. ap (λ (f : Facts). withdrawOutcomeBy k d f j) (same-facts-asked k d one other j t);
     }

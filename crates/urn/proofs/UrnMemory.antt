@@ -22,8 +22,8 @@ use Rattle.urn_chains.specs.Sound.{juryOfOne}
 use Rattle.urn.specs.declared.facts.Facts.{Facts}
 use Rattle.urn_chains.specs.Sound.{gradedShape}
 use Rattle.urn.specs.Facts.{factsOf}
-use Rattle.urn.specs.Admit.{admitReasons, admitReasonNumbers, admitAnswer, admitted}
-use Rattle.urn.specs.Withdraw.{withdrawReasons, withdrawReasonNumbers, withdrawAnswer, withdrawn}
+use Rattle.urn.specs.Admit.{admitReasons, admitReasonNumbers, admitOutcomeBy, admitted}
+use Rattle.urn.specs.Withdraw.{withdrawReasons, withdrawReasonNumbers, withdrawOutcomeBy, withdrawn}
 use Rattle.urn.specs.Empty.{emptyReasons, emptyReasonNumbers, emptyOutcome, emptied}
 use Rattle.urn.specs.Memory.{UrnMemory}
 use Rattle.urn.proofs.Outcomes.{refused-kept}
@@ -63,15 +63,15 @@ unfolding admitReasons
 admit-first k d f j x false e = first-of (gradedShape k d) _ e
 admit-first k d f j x true e = first-fine admitReasonNumbers (admitReasons k d f j x) (admit-fine k d f j x e)
 
-admit-numbered : (k d : ℕ) (f : Facts) (j : ℕ) (x : List ℕ) (r : Reason) → admitAnswer k d f j x ≡ refused r
+admit-numbered : (k d : ℕ) (f : Facts) (j : ℕ) (x : List ℕ) (r : Reason) → admitOutcomeBy k d f j x ≡ refused r
     → T (hasNumberIn admitReasonNumbers r)
-unfolding admitAnswer Fine
+unfolding admitOutcomeBy Fine
 admit-numbered k d f j x r e =
     subst (Fine admitReasonNumbers) (outcome-refused (firstOf (admitReasons k d f j x)) (f .ballots + 1) r e)
     (admit-first k d f j x (gradedShape k d) refl)
 
-withdraw-numbered : (k d : ℕ) (f : Facts) (j : ℕ) (r : Reason) → withdrawAnswer k d f j ≡ refused r → T (hasNumberIn withdrawReasonNumbers r)
-unfolding withdrawAnswer withdrawReasons All hasNumberIn reasonAt
+withdraw-numbered : (k d : ℕ) (f : Facts) (j : ℕ) (r : Reason) → withdrawOutcomeBy k d f j ≡ refused r → T (hasNumberIn withdrawReasonNumbers r)
+unfolding withdrawOutcomeBy withdrawReasons All hasNumberIn reasonAt
 withdraw-numbered k d f j =
     let ns = withdrawReasonNumbers in
     refused-number ns (withdrawReasons k d f j) (f .ballots - 1)
@@ -111,7 +111,7 @@ unfolding Each
 lent-nothing numbers answer fine = record { number = fine; refusal = λ r e. tt; empties = λ values e. tt; lengths = tt }
 
 pub urn-memory : UrnMemory
-unfolding admitAnswer admitted withdrawAnswer withdrawn emptyOutcome emptied
+unfolding admitOutcomeBy admitted withdrawOutcomeBy withdrawn emptyOutcome emptied
 urn-memory =
     record {
       empty = λ k d table.
@@ -129,7 +129,7 @@ urn-memory =
           lent-urn withdrawReasonNumbers o (f .ballots - 1) _ urn (withdraw-numbered k d f j)
           (kept o (f .ballots - 1) _ urn (λ count h. urn-holds .withdrawal k d urn j count h .same-length));
       preview-admit = λ k d urn j x. lent-nothing admitReasonNumbers
-          (admitAnswer k d (factsOf k d urn j) j x) (admit-numbered k d (factsOf k d urn j) j x);
-      preview-withdraw = λ k d urn j. lent-nothing withdrawReasonNumbers (withdrawAnswer k d (factsOf k d urn j) j)
+          (admitOutcomeBy k d (factsOf k d urn j) j x) (admit-numbered k d (factsOf k d urn j) j x);
+      preview-withdraw = λ k d urn j. lent-nothing withdrawReasonNumbers (withdrawOutcomeBy k d (factsOf k d urn j) j)
           (withdraw-numbered k d (factsOf k d urn j) j);
     }

@@ -23,8 +23,8 @@ use Rattle.urn_chains.specs.Sound.{entriesOf, freeOf, juryOfOne, goodJuror, goo
 use Rattle.basics.specs.Lists.{all, member, distinct}
 use Rattle.urn_chains.specs.Sound.{gradedShape}
 use Rattle.urn.specs.Facts.{isEmpty, jurorsOf, factsOf}
-use Rattle.urn.specs.Admit.{admitReasons, admitAnswer, withBallot, admitted}
-use Rattle.urn.specs.Withdraw.{withdrawReasons, withdrawAnswer, withoutJuror, slotOfJuror, withoutBallot, withdrawn}
+use Rattle.urn.specs.Admit.{admitReasons, admitOutcomeBy, withBallot, admitted}
+use Rattle.urn.specs.Withdraw.{withdrawReasons, withdrawOutcomeBy, withoutJuror, slotOfJuror, withoutBallot, withdrawn}
 use Rattle.urn.specs.Empty.{emptyReasons, emptyOutcome, allFree, emptied}
 use Rattle.urn.specs.Theorems.{AfterEmptying, AfterAdmission, AfterWithdrawal, UrnHolds}
 use Rattle.urn_chains.proofs.Lists.{all-rest, all-cons, all-move, distinct-rest, distinct-cons, distinct-move, eqb-sym}
@@ -154,8 +154,8 @@ count-outcome none v count e = cc
 count-outcome (some r) v count e = let z : _≡_ {A = ℕ} 0 1 = cc in absurd (omega arith)
 
 after-admission : (k d : ℕ) (urn : List ℕ) (j : ℕ) (x : List ℕ) (count : ℕ)
-    → admitAnswer k d (factsOf k d urn j) j x ≡ accepted count → AfterAdmission k d urn j x count
-unfolding admitAnswer admitted withBallot withdrawn withoutBallot
+    → admitOutcomeBy k d (factsOf k d urn j) j x ≡ accepted count → AfterAdmission k d urn j x count
+unfolding admitOutcomeBy admitted withBallot withdrawn withoutBallot
 after-admission k d urn j x count h =
     let f = factsOf k d urn j in
     let o = accepted-none (firstOf (admitReasons k d f j x)) (f .ballots + 1) count h in
@@ -223,9 +223,9 @@ again k d urn es s is e f j x count a = (
   a .free ∙ ap (drop 1) f,
 )
 
-after-withdrawal : (k d : ℕ) (urn : List ℕ) (j count : ℕ) → withdrawAnswer k d (factsOf k d urn j) j
+after-withdrawal : (k d : ℕ) (urn : List ℕ) (j count : ℕ) → withdrawOutcomeBy k d (factsOf k d urn j) j
     ≡ accepted count → AfterWithdrawal k d urn j count
-unfolding withdrawAnswer withdrawn withoutBallot
+unfolding withdrawOutcomeBy withdrawn withoutBallot
 after-withdrawal k d urn j count h =
     let f = factsOf k d urn j in
     let o = accepted-none (firstOf (withdrawReasons k d f j)) (f .ballots - 1) count h in

@@ -22,16 +22,17 @@ admitReasons k d facts juror ballot =
     ∷ unless (goodJuror juror && not (facts .present)) 14
     ∷ (ballotReasons (juryOfOne k d) ballot ++ (unless (not (facts .full)) 15 ∷ []))
 
+-- 11 and 12 are of rankings, which get 1.
 abbrev pub admitReasonNumbers : List ℕ
 admitReasonNumbers = 1 ∷ 13 ∷ 14 ∷ 4 ∷ 5 ∷ 6 ∷ 15 ∷ []
 
 -- The answer, given the facts about the urn: a reason, or the new number of ballots.
-unfoldable pub admitAnswer : ℕ → ℕ → Facts → ℕ → List ℕ → Outcome ℕ
-admitAnswer k d facts juror ballot = outcome (firstOf (admitReasons k d facts juror ballot)) (facts .ballots + 1)
+unfoldable pub admitOutcomeBy : ℕ → ℕ → Facts → ℕ → List ℕ → Outcome ℕ
+admitOutcomeBy k d facts juror ballot = outcome (firstOf (admitReasons k d facts juror ballot)) (facts .ballots + 1)
 
 -- The answer of an admission, and of its preview.
 abbrev pub admitOutcome : ℕ → ℕ → List ℕ → ℕ → List ℕ → Outcome ℕ
-admitOutcome k d urn juror ballot = admitAnswer k d (factsOf k d urn juror) juror ballot
+admitOutcome k d urn juror ballot = admitOutcomeBy k d (factsOf k d urn juror) juror ballot
 
 -- The slots after an admission: the ballot is in the first free slot, which has left the free chain and is now the
 -- first of the ballot chain.

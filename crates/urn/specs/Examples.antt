@@ -7,7 +7,7 @@ use Prim.Native.Nat.{ℕ}
 use Rattle.gates.specs.Test.{firstAboveOne}
 use Rattle.jury.specs.Shape.{isRanking, gradedLimits, columns, ballotBytes}
 use Rattle.jury.specs.Reason.{unless, foundAt, firstOf}
-use Rattle.jury.specs.Ballots.{ones, rowsOf, firstBadRow, gradedReasons, kindReasons, ballotReasons}
+use Rattle.jury.specs.Ballots.{ones, rowsOf, firstBadRow, gradedReasons, ballotKindReasons, ballotReasons}
 use Rattle.basics.specs.Lists.{tabulate}
 use Rattle.urn_chains.specs.Slots.{slotBytes, slotOf, slotsOf, bytesOfSlot, bytesOf, slotAt, freeSlot}
 use Rattle.urn_chains.specs.Chains.{chain, ends, entryAt, ballotSlots, ballotChain, freeChain, firstEntry, firstFree, entrySlot, withBallots, withFree, headSlot, layout}
@@ -51,7 +51,7 @@ unfolding emptyUrn oneBallotIn slotBytes slotOf slotsOf bytesOfSlot bytesOf slot
     distinct juryOfOne noReason goodBallot goodJuror inUrn eachOnce goodChains allZero emptySlot soundSlots
     slotCount urnLength urnSlots sound isEmpty jurorsOf factsOf afterwards admitReasons withBallot admitted
     isRanking gradedLimits columns ballotBytes unless foundAt firstOf ones rowsOf firstBadRow gradedReasons
-    kindReasons ballotReasons tabulate firstAboveOne
+    ballotKindReasons ballotReasons tabulate firstAboveOne
 admission-computes = refl
 
 pub withdrawal-computes : withdrawn 1 2 oneBallotIn 9 ≡ emptyUrn
@@ -60,5 +60,5 @@ unfolding emptyUrn oneBallotIn slotBytes slotOf slotsOf bytesOfSlot bytesOf slot
     distinct juryOfOne noReason goodBallot goodJuror inUrn eachOnce goodChains allZero emptySlot soundSlots
     slotCount urnLength urnSlots sound isEmpty jurorsOf factsOf afterwards withdrawReasons withoutJuror slotOfJuror
     withoutBallot withdrawn isRanking gradedLimits columns ballotBytes unless foundAt firstOf ones rowsOf
-    firstBadRow gradedReasons kindReasons ballotReasons tabulate firstAboveOne
+    firstBadRow gradedReasons ballotKindReasons ballotReasons tabulate firstAboveOne
 withdrawal-computes = refl

@@ -25,12 +25,12 @@ abbrev pub withdrawReasonNumbers : List ℕ
 withdrawReasonNumbers = 1 ∷ 13 ∷ 14 ∷ []
 
 -- The answer, given the facts about the urn: a reason, or the new number of ballots.
-unfoldable pub withdrawAnswer : ℕ → ℕ → Facts → ℕ → Outcome ℕ
-withdrawAnswer k d facts juror = outcome (firstOf (withdrawReasons k d facts juror)) (facts .ballots - 1)
+unfoldable pub withdrawOutcomeBy : ℕ → ℕ → Facts → ℕ → Outcome ℕ
+withdrawOutcomeBy k d facts juror = outcome (firstOf (withdrawReasons k d facts juror)) (facts .ballots - 1)
 
 -- The answer of a withdrawal, and of its preview.
 abbrev pub withdrawOutcome : ℕ → ℕ → List ℕ → ℕ → Outcome ℕ
-withdrawOutcome k d urn juror = withdrawAnswer k d (factsOf k d urn juror) juror
+withdrawOutcome k d urn juror = withdrawOutcomeBy k d (factsOf k d urn juror) juror
 
 -- The ballots without the first one of this juror. In a sound urn a juror has at most one.
 unfoldable pub withoutJuror : ℕ → List Entry → List Entry

@@ -12,7 +12,7 @@ ghost use Prim.Native.Nat.{_*_};
 ghost use Rattle.urn_chains.specs.Slots.{bytesOf};
 ghost use Rattle.urn_chains.specs.Sound.{gradedShape, goodJuror, urnSlots};
 ghost use Rattle.urn.specs.Facts.{countedBy};
-ghost use Rattle.urn.specs.Admit.{admitAnswer, admitOutcome, withBallot, admission};
+ghost use Rattle.urn.specs.Admit.{admitOutcomeBy, admitOutcome, withBallot, admission};
 ghost use Rattle.urn.specs.inner.Ready.{DecideReady, Admissible};
 
 // The largest number of a juror: it is kept in a byte.
@@ -40,7 +40,7 @@ pub(crate) fn is_juror(juror: usize) -> bool
 // The answer to an admission. It knows nothing about the urn except the facts.
 fn decide(k: usize, d: usize, facts: Facts, juror: usize, ballot: &[u8]) -> Answer
     requires { ⌜ DecideReady k d facts ⌝ }
-    ensures { λ r. ⌜ countedBy r ≡ admitAnswer k d facts juror (now (ballot .entry)) ⌝ }
+    ensures { λ r. ⌜ countedBy r ≡ admitOutcomeBy k d facts juror (now (ballot .entry)) ⌝ }
 {
     if !facts.sound {
         return Answer::Refused(Refusal::Urn);

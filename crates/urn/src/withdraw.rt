@@ -14,13 +14,13 @@ ghost use lib.Dec.{T};
 ghost use Rattle.urn_chains.specs.Slots.{bytesOf, slotAt};
 ghost use Rattle.urn_chains.specs.Sound.{gradedShape, urnSlots};
 ghost use Rattle.urn.specs.Facts.{countedBy};
-ghost use Rattle.urn.specs.Withdraw.{withdrawAnswer, withdrawOutcome, withoutBallot, withdrawal};
+ghost use Rattle.urn.specs.Withdraw.{withdrawOutcomeBy, withdrawOutcome, withoutBallot, withdrawal};
 ghost use Rattle.urn.specs.inner.Ready.{Present};
 
 // The answer to a withdrawal. It knows nothing about the urn except the facts.
 fn decide(k: usize, d: usize, facts: Facts, juror: usize) -> Answer
     requires { ⌜ T (gradedShape k d) ⌝ }
-    ensures { λ r. ⌜ countedBy r ≡ withdrawAnswer k d facts juror ⌝ }
+    ensures { λ r. ⌜ countedBy r ≡ withdrawOutcomeBy k d facts juror ⌝ }
 {
     if !facts.sound {
         return Answer::Refused(Refusal::Urn);

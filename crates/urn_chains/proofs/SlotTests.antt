@@ -9,7 +9,7 @@ use native.Mathlib.Nat.{zero-mul, mul-le-mul}
 use native.Mathlib.Omega.{arith}
 use lib.Dec.{T}
 use lib.ListN.{length, getD, take, drop, length-map}
-use Rattle.jury.specs.Shape.{gradedLimits}
+use Rattle.jury.specs.Shape.{mostCandidates, mostGrades, gradedLimits}
 use Rattle.basics.proofs.Flags.{never-true}
 use Rattle.jury.proofs.Limits.{within-T}
 use Rattle.urn_chains.specs.Slots.{slotBytes, slotsOf, slotAt}
@@ -133,13 +133,14 @@ module _ (t : Bool) (count r : ℕ) (is : r ≡ cond t count 0) where
   pub counted-is : (r ≡ 0 → ⊥) → r ≡ count
   counted-is n = is ∙ ap (λ (u : Bool). cond u count 0) (counted-true n)
 
-pub few-bytes : (k d : ℕ) → T (gradedLimits (juryOfOne k d)) → k * d ≤ 56
+pub few-bytes : (k d : ℕ) → T (gradedLimits (juryOfOne k d)) → k * d ≤ mostCandidates * mostGrades
 unfolding juryOfOne
 few-bytes k d h = let w = within-T (juryOfOne k d) h in let l =
-    mul-le-mul {n₁ = k} {m₁ = d} {n₂ = 8} {m₂ = 7} (w .k-most) (w .d-most) in omega arith
+    mul-le-mul {n₁ = k} {m₁ = d} {n₂ = mostCandidates} {m₂ = mostGrades} (w .k-most) (w .d-most) in omega arith
 
 -- bytes with the length of an urn are a table of slots
-pub table : (b : ℕ) (urn : List ℕ) (n : ℕ) → b ≤ 56 → urnLength b (length urn) ≡ true → n ≡ slotCount b (length urn) → SlotTable b n urn
+pub table : (b : ℕ) (urn : List ℕ) (n : ℕ) → b ≤ mostCandidates * mostGrades
+    → urnLength b (length urn) ≡ true → n ≡ slotCount b (length urn) → SlotTable b n urn
 table b urn n f e q =
     record {
       size = table-is b (length urn) e ∙ ap (λ (m : ℕ). m * slotBytes b) (sym q);

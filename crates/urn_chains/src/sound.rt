@@ -5,6 +5,7 @@ ghost use mathlib.Core.Bool.{cond};
 ghost use Prim.Native.Nat.{_*_, _≤_};
 ghost use lib.Dec.{T};
 ghost use lib.ListN.{length};
+ghost use Rattle.jury.specs.Shape.{mostCandidates, mostGrades};
 ghost use Rattle.urn_chains.specs.Slots.{slotsOf};
 ghost use Rattle.urn_chains.specs.Chains.{ballotChain};
 ghost use Rattle.urn_chains.specs.Sound.{gradedShape, slotCount, urnLength, entriesOf, soundSlots, sound};
@@ -22,7 +23,7 @@ pub enum Soundness {
 
 // How many slots `length` bytes are, if a ballot has `bytes` bytes; 0 if no urn has that length.
 pub fn slots_in(bytes: usize, length: usize) -> usize
-    requires { ⌜ bytes ≤ 56 ⌝ }
+    requires { ⌜ bytes ≤ mostCandidates * mostGrades ⌝ }
     ensures { λ r. ⌜ r ≡ cond (urnLength bytes length) (slotCount bytes length) 0 ⌝ }
 {
     let size = 2 + bytes;

@@ -8,7 +8,7 @@ use Rattle.gates.specs.Test.{firstAboveOne}
 use Rattle.gates.specs.HidingExample.{oneGate}
 use Rattle.jury.specs.Shape.{isRanking, gradedLimits, columns, ballotBytes}
 use Rattle.jury.specs.Reason.{unless, foundAt, firstOf}
-use Rattle.jury.specs.Ballots.{ones, rowsOf, firstBadRow, gradedReasons, kindReasons, ballotReasons}
+use Rattle.jury.specs.Ballots.{ones, rowsOf, firstBadRow, gradedReasons, ballotKindReasons, ballotReasons}
 use Rattle.basics.specs.Lists.{tabulate}
 use Rattle.tally.specs.Run.{RunResult, runResult}
 use Rattle.tally.specs.Examples.{oneBallot}
@@ -25,14 +25,14 @@ better-sound : sound 1 2 better ≡ true
 unfolding better slotBytes slotOf slotsOf slotAt chain ends entryAt ballotSlots ballotChain freeChain all member
     distinct juryOfOne noReason goodBallot goodJuror inUrn eachOnce goodChains allZero emptySlot soundSlots
     slotCount urnLength urnSlots sound isRanking columns ballotBytes unless foundAt firstOf ones rowsOf firstBadRow
-    gradedReasons kindReasons ballotReasons tabulate firstAboveOne
+    gradedReasons ballotKindReasons ballotReasons tabulate firstAboveOne
 better-sound = refl
 
 worse-sound : sound 1 2 worse ≡ true
 unfolding worse slotBytes slotOf slotsOf slotAt chain ends entryAt ballotSlots ballotChain freeChain all member
     distinct juryOfOne noReason goodBallot goodJuror inUrn eachOnce goodChains allZero emptySlot soundSlots
     slotCount urnLength urnSlots sound isRanking columns ballotBytes unless foundAt firstOf ones rowsOf firstBadRow
-    gradedReasons kindReasons ballotReasons tabulate firstAboveOne
+    gradedReasons ballotKindReasons ballotReasons tabulate firstAboveOne
 worse-sound = refl
 
 better-ballots : chainBallots 1 2 better ≡ 1 ∷ 0 ∷ []

@@ -18,7 +18,7 @@ use Rattle.gates.specs.inner.Step.{FinishReady}
 use Rattle.jury.specs.declared.shape.Shape.{Shape}
 use Rattle.jury.specs.Shape.{gradedLimits, withinLimits, ballotBytes}
 use Rattle.jury.specs.Reason.{Reason, reasonAt, unless, listReason, firstOf}
-use Rattle.jury.specs.Ballots.{kindReasons, ballotReasons}
+use Rattle.jury.specs.Ballots.{ballotKindReasons, ballotReasons}
 use Rattle.jury.specs.Accepted.{AcceptedBallots}
 use Rattle.basics.proofs.Flags.{never-true, true-T}
 use Rattle.jury.proofs.Limits.{within, within-back, graded-within, bytes-are}
@@ -116,7 +116,7 @@ module _ (s : Shape) (g : gradedLimits s ≡ true) where
     -- so of the reasons of ballots only 4 can apply, and it applies if n is not the number of ballots
     four : (xs : List ℕ) → length xs ≢ ballotBytes s → firstOf (ballotReasons s xs) ≡ some (reasonAt 4 0)
     unfolding judged unless firstOf
-    four xs n = judged-by s xs false (firstAboveOne 0 xs) (firstOf (kindReasons s xs)) (ne-eqb (length xs) (ballotBytes s) n) refl refl
+    four xs n = judged-by s xs false (firstAboveOne 0 xs) (firstOf (ballotKindReasons s xs)) (ne-eqb (length xs) (ballotBytes s) n) refl refl
 
     pub ballots-first : firstOf (ballotReasons s (chainBallots (s .candidates) (s .grades) urn))
         ≡ unless (eqb (ballotsIn (s .candidates) (s .grades) urn) (s .ballots)) 4

@@ -8,7 +8,7 @@ use Rattle.gates.specs.Gate.{Gate}
 use Rattle.gate_words.specs.Writing.{Room, Wrote}
 use Rattle.gate_words.specs.declared.writer.Writer.{Writer}
 use Rattle.ranked_circuit.specs.Stages.{votesBlock, stays, cutAt, newWord, pathBlock}
-use Rattle.jury.specs.Shape.{mostCandidates}
+use Rattle.jury.specs.Shape.{mostPairs, mostCandidates}
 use Rattle.ranked_blocks.specs.Ranked.{Ranked, keptOf, keep, keepLinks, WordsBelow}
 use Rattle.ranked_blocks.specs.declared.entries.Ranks.{Ranks}
 
@@ -17,7 +17,7 @@ pub record KeptReady (wires : List ℕ) (k i j : ℕ) : Type 0 where
   pub few : k ≤ mostCandidates
   pub row : i < k
   pub column : j < k
-  pub long : length wires ≡ 64
+  pub long : length wires ≡ mostPairs
 
 -- For the size of the high half: at least one candidate, and words of at most eight digits.
 pub record CutReady (k digits : ℕ) : Type 0 where
@@ -28,12 +28,12 @@ pub record CutReady (k digits : ℕ) : Type 0 where
 -- candidates.
 pub record Kept (w : Writer) (words wires : List ℕ) (p : Ranks) : Type 0 where
   pub ranked : Ranked p
-  pub words-long : length words ≡ 64
-  pub wires-long : length wires ≡ 64
+  pub words-long : length words ≡ mostPairs
+  pub wires-long : length wires ≡ mostPairs
   pub below : WordsBelow words (p .candidates) (p .digits) (w .wire)
 
 -- For block e of a table: what is kept, and room.
-pub record EntryReady (w : Writer) (words wires : List ℕ) (p : Ranks) (block : ℕ → ℕ → ℕ → List Gate) (e : ℕ)
+pub record BlockReady (w : Writer) (words wires : List ℕ) (p : Ranks) (block : ℕ → ℕ → ℕ → List Gate) (e : ℕ)
     : Type 0 where
   pub kept : Kept w words wires p
   pub number : e < p .candidates * p .candidates
@@ -46,11 +46,11 @@ pub record VotesReady (w : Writer) (words : List ℕ) (p : Ranks) (e : ℕ) : Ty
       (e % p .candidates)))
   pub number : e < p .candidates * p .candidates
   pub ballots-below : p .ballots * p .candidates * p .candidates ≤ w .wire
-  pub words-long : length words ≡ 64
+  pub words-long : length words ≡ mostPairs
 
 -- For block e of stage m of the paths.
 pub record PathReady (w : Writer) (words links : List ℕ) (p : Ranks) (m e : ℕ) : Type 0 where
-  pub entry : EntryReady w words links p (pathBlock (p .candidates) (keptOf links (p .candidates))
+  pub entry : BlockReady w words links p (pathBlock (p .candidates) (keptOf links (p .candidates))
       (keptOf words (p .candidates)) (p .digits) m) e
   pub stage : m ≤ p .candidates
 

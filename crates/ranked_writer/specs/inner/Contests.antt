@@ -4,6 +4,7 @@ use mathlib.Core.Bool.{Bool, cond}
 use mathlib.Core.List.{List, _++_}
 use Prim.Native.Nat.{ℕ, max, _+_, _*_, _≤_}
 use lib.ListN.{length}
+use Rattle.jury.specs.Shape.{mostPairs}
 use Rattle.gates.specs.Gate.{Gate}
 use Rattle.gate_words.specs.Writing.{Room, Wrote}
 use Rattle.gate_words.specs.declared.writer.Writer.{Writer}
@@ -35,7 +36,7 @@ pub record ContestsReady (w : Writer) (words wires : List ℕ) (p : Ranks) : Typ
       + length (meetings (p .candidates) (p .ballots) (p .digits)))
   pub place : w .wire ≡ duelsFrom (p .candidates) (p .ballots) (p .digits)
   pub paths : Keeps (p .candidates) words (pathsTo (p .candidates) (p .ballots) (p .digits) (p .candidates) .words)
-  pub long : length wires ≡ 64
+  pub long : length wires ≡ mostPairs
 
 -- The contests were written, and the wires that say who beats whom are kept.
 pub record ContestsDone (w : Writer) (table₀ table₁ : List ℕ) (next : Writer) (p : Ranks) (wires : List ℕ)

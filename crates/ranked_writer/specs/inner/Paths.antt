@@ -12,7 +12,7 @@ use Rattle.ranked_circuit.specs.Paths.{pathsTo, linkWire}
 use Rattle.ranked_circuit.specs.RankedList.{rankedList}
 use Rattle.ranked_blocks.specs.Ranked.{Ranked, keptOf}
 use Rattle.ranked_blocks.specs.declared.entries.Ranks.{Ranks}
-use Rattle.jury.specs.Shape.{mostCandidates}
+use Rattle.jury.specs.Shape.{mostPairs, mostCandidates}
 use Rattle.ranked_writer.specs.Tables.{Keeps}
 use Rattle.ranked_writer.specs.inner.Contests.{TableReady}
 
@@ -21,7 +21,7 @@ pub record VotesTableReady (w : Writer) (words : List ℕ) (p : Ranks) : Type 0 
   pub ranked : Ranked p
   pub room : Room w (length (table (w .wire) (p .candidates) (votesBlock (p .candidates) (p .ballots) (p .digits))))
   pub ballots-below : p .ballots * p .candidates * p .candidates ≤ w .wire
-  pub words-long : length words ≡ 64
+  pub words-long : length words ≡ mostPairs
 
 -- For stage m of the paths.
 pub record StageReady (w : Writer) (words links : List ℕ) (p : Ranks) (m : ℕ) : Type 0 where
@@ -40,8 +40,8 @@ pub record FirstReady (w : Writer) (links words : List ℕ) (p : Ranks) : Type 0
   pub ranked : Ranked p
   pub room : Room w (length (pathsTo (p .candidates) (p .ballots) (p .digits) 0 .gates))
   pub place : w .wire ≡ p .ballots * p .candidates * p .candidates
-  pub links-long : length links ≡ 64
-  pub words-long : length words ≡ 64
+  pub links-long : length links ≡ mostPairs
+  pub words-long : length words ≡ mostPairs
 
 -- Both tables were written. The first wires of the words and the wires of the links are kept.
 pub record FirstDone (w : Writer) (table₀ table₁ : List ℕ) (next : Writer) (p : Ranks) (links words : List ℕ)
@@ -55,7 +55,7 @@ pub record PathsReady (w : Writer) (words : List ℕ) (p : Ranks) : Type 0 where
   pub ranked : Ranked p
   pub room : Room w (length (pathsTo (p .candidates) (p .ballots) (p .digits) (p .candidates) .gates))
   pub place : w .wire ≡ p .ballots * p .candidates * p .candidates
-  pub words-long : length words ≡ 64
+  pub words-long : length words ≡ mostPairs
 
 -- For the list of two candidates, right after the ballots.
 pub record PairReady (w : Writer) (p : Ranks) : Type 0 where

@@ -5,6 +5,7 @@ use mathlib.Core.List.{List}
 use Prim.Native.Nat.{ℕ, _*_, _≤_}
 use lib.Dec.{T}
 use lib.ListN.{length}
+use Rattle.jury.specs.Shape.{mostCandidates, mostGrades}
 use Rattle.urn_chains.specs.Slots.{slotBytes}
 use Rattle.urn_chains.specs.Sound.{gradedShape, mostSlots}
 use Rattle.urn_chains.specs.declared.sound.Soundness.{Soundness}
@@ -15,7 +16,7 @@ pub record SlotTable (b n : ℕ) (urn : List ℕ) : Type 0 where
   pub size : length urn ≡ n * slotBytes b
   pub least : 2 ≤ n
   pub most : n ≤ mostSlots
-  pub few : b ≤ 56
+  pub few : b ≤ mostCandidates * mostGrades
 
 -- The bytes are n slots for the ballots of a graded jury.
 pub record GradedTable (k d n : ℕ) (urn : List ℕ) : Type 0 where

@@ -9,7 +9,7 @@ use Rattle.jury.specs.Shape.{isRanking, gradedLimits, withinLimits, ballotBytes
 use Rattle.jury.specs.Reason.{reasonOf, refusedFor, unless, firstOf}
 use Rattle.basics.proofs.Flags.{T-true, true-T}
 use Rattle.jury.proofs.Limits as limits
-use Rattle.batch.specs.Ballots.{wordKindReasons, wordBallotReasons}
+use Rattle.batch.specs.Ballots.{wordBallotKindReasons, wordBallotReasons}
 use Rattle.batch.proofs.Reasons.{ballotsFound, found-kind, graded-words, ranked-words, ballots-by}
 use Rattle.batch.proofs.ballots.test.Statement.{statement}
 use Rattle.batch.proofs.ballots.test.Tie as tie
@@ -31,12 +31,12 @@ size-known c = c .if1 .left ∙ c .before .ballot-bytes .ensures
 
 -- so the tests of the shape's kind decide
 by-kind : (c : tie.Else1) → let a = c .before .before .before .args in
-    firstOf (wordBallotReasons (a .shape) (a .ballots .now)) ≡ firstOf (wordKindReasons (a .shape) (a .ballots .now))
+    firstOf (wordBallotReasons (a .shape) (a .ballots .now)) ≡ firstOf (wordBallotKindReasons (a .shape) (a .ballots .now))
 by-kind c =
     let a = c .before .before .before .args in
     ballots-by (a .shape) (a .ballots .now) true
     (eq-eqb (length (a .ballots .now)) (ballotBytes (a .shape)) (size-known c))
-    ∙ found-kind (firstOf (wordKindReasons (a .shape) (a .ballots .now)))
+    ∙ found-kind (firstOf (wordBallotKindReasons (a .shape) (a .ballots .now)))
 
 is-ranking-requires : tie.Need-is-ranking-requires
 is-ranking-requires c κs = search needs

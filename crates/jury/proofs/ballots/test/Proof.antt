@@ -11,7 +11,7 @@ use Rattle.gates.specs.Test.{firstAboveOne}
 use Rattle.gates.proofs.Hiding.{all-bits}
 use Rattle.jury.specs.Shape.{isRanking, gradedLimits, withinLimits, ballotBytes}
 use Rattle.jury.specs.Reason.{reasonOf, refusedFor, unless, foundAt, firstOf}
-use Rattle.jury.specs.Ballots.{kindReasons, ballotReasons}
+use Rattle.jury.specs.Ballots.{ballotKindReasons, ballotReasons}
 use Rattle.basics.proofs.Flags.{T-true, true-T}
 use Rattle.jury.proofs.Limits.{grades-columns, ranked-bytes, graded-kind}
 use Rattle.jury.proofs.BallotLaws.{judged, judged-by, judged-kind, graded-reasons, ranked-reasons}
@@ -27,7 +27,7 @@ returns c =
     let start = c .before .before .before in
     let s = start .args .shape in
     let xs = start .args .ballots .now in
-    sym (judged-by s xs false (firstAboveOne 0 xs) (firstOf (kindReasons s xs))
+    sym (judged-by s xs false (firstAboveOne 0 xs) (firstOf (ballotKindReasons s xs))
     (ne-eqb (length xs) (ballotBytes s) (λ e. c .if1 .taken (e ∙ sym (c .before .ballot-bytes .ensures)))) refl refl)
 
 -- the length is right
@@ -47,7 +47,7 @@ returns-2 c =
     let start = passed .before .before .before in
     let s = start .args .shape in
     let xs = start .args .ballots .now in
-    sym (judged-by s xs true (At (c .before .i .given .0 .0)) (firstOf (kindReasons s xs))
+    sym (judged-by s xs true (At (c .before .i .given .0 .0)) (firstOf (ballotKindReasons s xs))
     (eq-eqb (length xs) (ballotBytes s) (size-known passed))
     (sym (c .before .before .before .first-above-one .ensures) ∙ c .before .i .given .1) refl)
 
@@ -60,13 +60,13 @@ no-byte c = sym (c .before .before .first-above-one .ensures) ∙ c .enum-told .
 
 -- so the tests of the shape's kind decide
 by-kind : (c : tie.After-enum-told) → let a = c .before .before .before .before .before .before .args in
-    firstOf (ballotReasons (a .shape) (a .ballots .now)) ≡ firstOf (kindReasons (a .shape) (a .ballots .now))
+    firstOf (ballotReasons (a .shape) (a .ballots .now)) ≡ firstOf (ballotKindReasons (a .shape) (a .ballots .now))
 by-kind c =
     let passed = c .before .before .before in
     let a = passed .before .before .before .args in
-    judged-by (a .shape) (a .ballots .now) true Nowhere (firstOf (kindReasons (a .shape) (a .ballots .now)))
+    judged-by (a .shape) (a .ballots .now) true Nowhere (firstOf (ballotKindReasons (a .shape) (a .ballots .now)))
     (eq-eqb (length (a .ballots .now)) (ballotBytes (a .shape)) (size-known passed)) (no-byte c) refl
-    ∙ judged-kind (firstOf (kindReasons (a .shape) (a .ballots .now)))
+    ∙ judged-kind (firstOf (ballotKindReasons (a .shape) (a .ballots .now)))
 
 is-ranking-requires : tie.Need-is-ranking-requires
 is-ranking-requires c κs = search needs

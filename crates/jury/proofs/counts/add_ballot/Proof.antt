@@ -9,6 +9,7 @@ use native.Mathlib.Numerals.{add-one}
 use native.Mathlib.Omega.{arith}
 use lib.ListN.{length, getD, set, take, drop, length-take}
 use Rattle.basics.specs.Lists.{tabulate}
+use Rattle.jury.specs.Shape.{mostCandidates}
 use Rattle.jury.specs.inner.Counts.{plusRow, plusBallot}
 use Rattle.basics.proofs.Tabulate.{upTo, tabulate-getD, fill-start, fill-at, fill-step}
 use Rattle.jury.proofs.counts.add_ballot.Statement.{statement}
@@ -23,7 +24,7 @@ new d counts ballot c = plusRow (getD counts c []) (take d (drop (c * d) ballot)
 
 abbrev Inv-loop : tie.InvT-loop
 Inv-loop counts₀ ballot k d at₀ c₀ counts at c =
-    (c ≤ k) × (at ≡ c * d) × (counts ≡ tabulate 8 (upTo c (new d counts₀ ballot) (old counts₀)))
+    (c ≤ k) × (at ≡ c * d) × (counts ≡ tabulate mostCandidates (upTo c (new d counts₀ ballot) (old counts₀)))
 
 abbrev μ-loop : tie.MeasureT-loop
 μ-loop counts₀ ballot k d at₀ c₀ counts at c = k - c
@@ -33,8 +34,8 @@ loop-holds c =
     let start = c .before in (
       omega arith,
       omega (arith, zero-mul (start .args .d)),
-      sym (fill-start 8 (new (start .args .d) (start .args .counts .now) (start .args .ballot .now)) (old (start .args .counts .now))
-          ∙ tabulate-getD (start .args .counts .now) 8 [] (start .pre .array .rows)),
+      sym (fill-start mostCandidates (new (start .args .d) (start .args .counts .now) (start .args .ballot .now)) (old (start .args .counts .now))
+          ∙ tabulate-getD (start .args .counts .now) mostCandidates [] (start .pre .array .rows)),
     )
 
 -- a turn's row lies within the ballot
@@ -70,7 +71,7 @@ found c =
     let at = c .before in
     let start = at .before .before in
     ap (λ (m : List (List ℕ)). getD m (at .loop .c) []) (at .loop .inv .2)
-    ∙ fill-at 8 (at .loop .c) (new (start .args .d) (start .args .counts .now) (start .args .ballot .now))
+    ∙ fill-at mostCandidates (at .loop .c) (new (start .args .d) (start .args .counts .now) (start .args .ballot .now))
     (old (start .args .counts .now)) [] (omega arith)
 
 add-row-requires : tie.Need-add-row-requires Inv-loop μ-loop
@@ -112,8 +113,8 @@ loop-again c =
       omega (arith, ap (λ (n : ℕ). n * d) (add-one i), suc-mul i d),
       ap (λ (r : List ℕ). set (at .loop .counts) i r) made
           ∙ ap (λ (m : List (List ℕ)). set m i (new d counts ballot i)) (at .loop .inv .2)
-          ∙ fill-step 8 i (new d counts ballot) (old counts) (omega arith)
-          ∙ ap (λ (j : ℕ). tabulate 8 (upTo j (new d counts ballot) (old counts))) (sym (add-one i)),
+          ∙ fill-step mostCandidates i (new d counts ballot) (old counts) (omega arith)
+          ∙ ap (λ (j : ℕ). tabulate mostCandidates (upTo j (new d counts ballot) (old counts))) (sym (add-one i)),
     )
 
 returns : tie.Need-returns Inv-loop μ-loop
@@ -122,7 +123,7 @@ returns c =
     let at = c .before in
     let start = at .before .before in
     at .loop .inv .2
-    ∙ ap (λ (i : ℕ). tabulate 8 (upTo i (new (start .args .d) (start .args .counts .now) (start .args .ballot .now))
+    ∙ ap (λ (i : ℕ). tabulate mostCandidates (upTo i (new (start .args .d) (start .args .counts .now) (start .args .ballot .now))
     (old (start .args .counts .now)))) {x = at .loop .c} {y = start .args .k} (omega arith)
 
 pub add-ballot-spec : {M : Type 1} → statement M

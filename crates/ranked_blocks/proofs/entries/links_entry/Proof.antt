@@ -9,6 +9,7 @@ use borrow.Author.Needs.{needs}
 use lib.Dec.{leb, ltb}
 use lib.ListN.{length-set}
 use borrow.Author.Tests.{le-leb, lt-leb}
+use Rattle.jury.specs.Shape.{mostPairs}
 use Rattle.gate_words.proofs.Writing.{room-less, wrote-nothing, wrote-as}
 use Rattle.ranked_circuit.proofs.BlockLaws.{length-whole}
 use Rattle.ranked_blocks.specs.Ranked.{keptOf}
@@ -38,8 +39,8 @@ pub record Facts (k e first : ℕ) : Type 0 where
   pub here : Place k e
   pub later : e % k < e / k
   pub row : (ltb (e % k) (e / k) && leb first (e / k)) ≡ true
-  pub index : e / k * k + e % k < 64
-  pub index-back : e % k * k + e / k < 64
+  pub index : e / k * k + e % k < mostPairs
+  pub index-back : e % k * k + e / k < mostPairs
 
 facts : (c : tie.Else2) → Facts (start c .args .p .candidates) (start c .args .e) (start c .args .first)
 facts c =

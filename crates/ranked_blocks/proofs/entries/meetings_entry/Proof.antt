@@ -9,6 +9,7 @@ use borrow.Author.Needs.{needs}
 use lib.Dec.{ltb}
 use lib.ListN.{length-set}
 use borrow.Author.Tests.{lt-ltb, le-ltb}
+use Rattle.jury.specs.Shape.{mostPairs}
 use Rattle.gate_words.proofs.Writing.{room-less, wrote-nothing, wrote-as}
 use Rattle.ranked_blocks.specs.Ranked.{keptOf}
 use Rattle.ranked_blocks.proofs.Entering.{Place, place, index-small, not-later, no-row, a-row, same-links, new-links, meetings-kept, meetings-moved, meeting-long, meetings-long}
@@ -37,8 +38,8 @@ pub record Facts (k e : ℕ) : Type 0 where
   pub here : Place k e
   pub later : e % k < e / k
   pub row : (ltb (e % k) (e / k) && ltb (e / k) (k - 1)) ≡ true
-  pub index : e / k * k + e % k < 64
-  pub index-back : e % k * k + e / k < 64
+  pub index : e / k * k + e % k < mostPairs
+  pub index-back : e % k * k + e / k < mostPairs
   pub other : suc (e / k) < k
 
 facts : (c : tie.Else2) → Facts (start c .args .p .candidates) (start c .args .e)

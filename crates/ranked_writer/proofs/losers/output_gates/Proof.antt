@@ -5,6 +5,7 @@ use mathlib.Core.List.{List, [], _∷_}
 use Prim.Native.Nat.{ℕ, suc, _+_, _-_, _*_, _≤_, _<_}
 use native.Mathlib.Nat.{mul-le-mul, mul-le-mul-right}
 use native.Mathlib.Omega.{arith}
+use Rattle.jury.specs.Shape.{mostCandidates, mostPairs}
 use Rattle.gates.specs.Gate.{Gate}
 use Rattle.gate_words.specs.Gates.{notOf}
 use Rattle.gate_words.proofs.Writing.{wrote-as}
@@ -29,9 +30,9 @@ loop-holds : tie.Need-loop-holds Inv-loop μ-loop
 loop-holds c = let a = (c .before .before .args) in (omega arith, fill-start (a .w) (a .table .now) (gate (a .beats .now) (a .k) (a .rows)))
 
 -- a row starts before the output gates
-row-low : (k i : ℕ) → k ≤ 8 → i < k → (i * (k - 2) ≤ 64) × (i * (k - 2) ≤ k * (k - 2))
+row-low : (k i : ℕ) → k ≤ mostCandidates → i < k → (i * (k - 2) ≤ mostPairs) × (i * (k - 2) ≤ k * (k - 2))
 row-low k i h l = (
-  mul-le-mul {n₁ = i} {m₁ = k - 2} {n₂ = 8} {m₂ = 8} (omega arith) (omega arith),
+  mul-le-mul {n₁ = i} {m₁ = k - 2} {n₂ = mostCandidates} {m₂ = mostCandidates} (omega arith) (omega arith),
   mul-le-mul-right {m = i} {n = k} (k - 2) (omega arith),
 )
 

@@ -8,6 +8,7 @@ use Prim.Native.Nat.{ℕ, _≤_, _<_}
 use native.Mathlib.Omega.{arith}
 use lib.ListN.{length, getD, take}
 use lib.Seq.{length-take-le}
+use Rattle.jury.specs.Shape.{mostCandidates}
 use Rattle.basics.specs.Lists.{tabulate, sameNumbers}
 use Rattle.basics.proofs.Cases.{below-or-not}
 use Rattle.basics.proofs.Flags.{either}
@@ -47,11 +48,11 @@ first-winner-requires c κs =
     }
 
 -- the row of each candidate, and that of the first winner, are in the array
-ready : (c : tie.After-first-winner) (i : ℕ) → i < 8
+ready : (c : tie.After-first-winner) (i : ℕ) → i < mostCandidates
     → RowsReady (c .before .args .counts .now) i (c .first-winner .result) (c .before .args .shape .grades)
 ready c i h =
     let w = within-limits (c .before) in
-    let inside : c .first-winner .result < 8 = omega (arith, w .k-most, c .first-winner .ensures .inside) in
+    let inside : c .first-winner .result < mostCandidates = omega (arith, w .k-most, c .first-winner .ensures .inside) in
     record {
       firstInside = h;
       secondInside = inside;
@@ -130,7 +131,7 @@ module _ (c : tie.After-first-winner) where
   abbrev padded : ℕ → ℕ
   padded = upTo (length (rows start)) judged (λ j. 0)
 
-  byte-is : (i : ℕ) → i < 8 → byteBeside counts k d winner i ≡ padded i
+  byte-is : (i : ℕ) → i < mostCandidates → byteBeside counts k d winner i ≡ padded i
   byte-is i h = ⊎-elim inside outside (below-or-not i k)
     where
       size : length (rows start) ≡ k
@@ -193,7 +194,7 @@ returns c =
     eight-are byte (first .closing-byte .ensures) (second .closing-byte2 .ensures) (third .closing-byte3 .ensures)
     (fourth .closing-byte4 .ensures) (fifth .closing-byte5 .ensures) (sixth .closing-byte6 .ensures)
     (seventh .closing-byte7 .ensures) (c .closing-byte8 .ensures)
-    ∙ tabulate-cong 8 byte (padded f) (byte-is f)
+    ∙ tabulate-cong mostCandidates byte (padded f) (byte-is f)
     ∙ eight-judged (rows (start f))
 
 pub winners-spec : {M : Type 1} → statement M

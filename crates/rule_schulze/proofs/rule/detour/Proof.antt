@@ -6,6 +6,7 @@ use Prim.Native.Nat.{ℕ, min, max, _-_, _≤_, _<_}
 use native.Mathlib.Omega.{arith}
 use borrow.Author.Needs.{needs}
 use lib.ListN.{length, length-set}
+use Rattle.jury.specs.Shape.{mostCandidates}
 use Rattle.rule_schulze.specs.inner.Tables.{entry}
 use Rattle.rule_schulze.proofs.Tables.{detour-tried}
 use Rattle.rule_schulze.proofs.Filling.{table-step}
@@ -13,7 +14,7 @@ use Rattle.rule_schulze.proofs.rule.detour.Statement.{statement}
 use Rattle.rule_schulze.proofs.rule.detour.Tie as tie
 
 abbrev Inv-loop : tie.InvT-loop
-Inv-loop paths k l after₀ i₀ after i = (i ≤ k) × (length after ≡ 8)
+Inv-loop paths k l after₀ i₀ after i = (i ≤ k) × (length after ≡ mostCandidates)
     × ((a m : ℕ) → a < i → m < k → entry after a m ≡ max (entry paths a m) (min (entry paths a l) (entry paths l m)))
 
 abbrev μ-loop : tie.MeasureT-loop

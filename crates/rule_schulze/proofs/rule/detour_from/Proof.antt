@@ -6,13 +6,14 @@ use Prim.Native.Nat.{ℕ, min, max, _-_, _≤_, _<_}
 use native.Mathlib.Omega.{arith}
 use borrow.Author.Needs.{needs}
 use lib.ListN.{length, getD, length-set}
+use Rattle.jury.specs.Shape.{mostCandidates}
 use Rattle.rule_schulze.specs.inner.Tables.{entry}
 use Rattle.rule_schulze.proofs.Filling.{row-step}
 use Rattle.rule_schulze.proofs.rule.detour_from.Statement.{statement}
 use Rattle.rule_schulze.proofs.rule.detour_from.Tie as tie
 
 abbrev Inv-loop : tie.InvT-loop
-Inv-loop k l i paths row₀ j₀ row j = (j ≤ k) × (length row ≡ 8)
+Inv-loop k l i paths row₀ j₀ row j = (j ≤ k) × (length row ≡ mostCandidates)
     × ((m : ℕ) → m < j → getD row m 0 ≡ max (entry paths i m) (min (entry paths i l) (entry paths l m)))
 
 abbrev μ-loop : tie.MeasureT-loop

@@ -5,6 +5,7 @@ use Prim.Native.Nat.{ℕ, _-_, _≤_, _<_}
 use native.Mathlib.Omega.{arith}
 use borrow.Author.Needs.{needs}
 use lib.ListN.{length, length-set}
+use Rattle.jury.specs.Shape.{mostCandidates}
 use Rattle.rule_schulze.specs.inner.Tables.{entry}
 use Rattle.rule_schulze.specs.Schulze.{link}
 use Rattle.rule_schulze.proofs.Filling.{table-step}
@@ -12,7 +13,7 @@ use Rattle.rule_schulze.proofs.rule.links.Statement.{statement}
 use Rattle.rule_schulze.proofs.rule.links.Tie as tie
 
 abbrev Inv-loop : tie.InvT-loop
-Inv-loop votes k links₀ i₀ links i = (i ≤ k) × (length links ≡ 8) × ((a m : ℕ) → a < i → m < k → entry links a m ≡ link (entry votes) a m)
+Inv-loop votes k links₀ i₀ links i = (i ≤ k) × (length links ≡ mostCandidates) × ((a m : ℕ) → a < i → m < k → entry links a m ≡ link (entry votes) a m)
 
 abbrev μ-loop : tie.MeasureT-loop
 μ-loop votes k links₀ i₀ links i = k - i

@@ -5,6 +5,7 @@ use Prim.Native.Nat.{ℕ, _-_, _≤_, _<_}
 use native.Mathlib.Omega.{arith}
 use borrow.Author.Needs.{needs}
 use lib.ListN.{length, getD, length-set}
+use Rattle.jury.specs.Shape.{mostCandidates}
 use Rattle.rule_schulze.specs.inner.Tables.{entry}
 use Rattle.rule_schulze.proofs.Filling.{row-step}
 use Rattle.rule_schulze.specs.Schulze.{link}
@@ -12,7 +13,7 @@ use Rattle.rule_schulze.proofs.rule.links_of.Statement.{statement}
 use Rattle.rule_schulze.proofs.rule.links_of.Tie as tie
 
 abbrev Inv-loop : tie.InvT-loop
-Inv-loop k i votes row₀ j₀ row j = (j ≤ k) × (length row ≡ 8) × ((m : ℕ) → m < j → getD row m 0 ≡ link (entry votes) i m)
+Inv-loop k i votes row₀ j₀ row j = (j ≤ k) × (length row ≡ mostCandidates) × ((m : ℕ) → m < j → getD row m 0 ≡ link (entry votes) i m)
 
 abbrev μ-loop : tie.MeasureT-loop
 μ-loop k i votes row₀ j₀ row j = k - j

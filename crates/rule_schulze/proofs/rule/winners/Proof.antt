@@ -10,6 +10,7 @@ use native.Mathlib.Omega.{arith}
 use native.Mathlib.Numerals.{add-one}
 use borrow.Author.Needs.{needs}
 use lib.ListN.{set}
+use Rattle.jury.specs.Shape.{mostCandidates}
 use Rattle.basics.specs.Lists.{tabulate}
 use Rattle.jury.specs.ClosingBytes.{eightBytes}
 use Rattle.basics.proofs.Tabulate.{upTo, fill-start, fill-step, fill-skip, tabulate-cong}
@@ -26,7 +27,7 @@ winner paths k i = cond (unbeatenIn paths k i) 1 0
 
 -- the bytes before turn i
 abbrev filled : List (List ℕ) → ℕ → ℕ → List ℕ
-filled paths k i = tabulate 8 (upTo i (winner paths k) (λ j. 0))
+filled paths k i = tabulate mostCandidates (upTo i (winner paths k) (λ j. 0))
 
 abbrev Inv-loop : tie.InvT-loop
 Inv-loop k paths closing₀ i₀ closing i = (i ≤ k) × (closing ≡ filled paths k i)
@@ -42,7 +43,7 @@ strongest-paths-requires c κs = search needs
 
 loop-holds : tie.Need-loop-holds Inv-loop μ-loop
 unfolding tabulate
-loop-holds c = (omega arith, sym (fill-start 8 (winner (c .strongest-paths .result) (c .before .before .args .k)) (λ j. 0)))
+loop-holds c = (omega arith, sym (fill-start mostCandidates (winner (c .strongest-paths .result) (c .before .before .args .k)) (λ j. 0)))
 
 wins-requires : tie.Need-wins-requires Inv-loop μ-loop
 wins-requires c κs = search needs
@@ -69,11 +70,11 @@ loop-again c =
           ∙ ap (λ (m : List ℕ). set m i 1) (at .loop .inv .1)
           ∙ ap (λ (x : ℕ). set (filled paths k i) i x)
           (sym (ap (λ (t : Bool). cond {A = ℕ} t 1 0) (sym (c .before .wins .ensures) ∙ w .0 .taken)))
-          ∙ fill-step 8 i (winner paths k) (λ j. 0) (omega arith))
+          ∙ fill-step mostCandidates i (winner paths k) (λ j. 0) (omega arith))
           (λ w.
           w .1
           ∙ at .loop .inv .1
-          ∙ fill-skip 8 i (winner paths k) (λ j. 0) (omega arith)
+          ∙ fill-skip mostCandidates i (winner paths k) (λ j. 0) (omega arith)
           (ap (λ (t : Bool). cond {A = ℕ} t 1 0) (sym (c .before .wins .ensures) ∙ w .0 .left)))
           (c .if1 .came)
           ∙ ap (filled paths k) (sym (add-one i)),

@@ -6,6 +6,7 @@ use Prim.Native.Nat.{ℕ, _+_, _*_, _-_, _≤_, _<_}
 use native.Mathlib.Nat.{mul-le-mul}
 use native.Mathlib.Omega.{arith}
 use lib.ListN.{length}
+use Rattle.jury.specs.Shape.{mostCandidates, mostPairs}
 use Rattle.rule_schulze.proofs.Tables.{place-within, few-bytes, votes-one, votes-none}
 use Rattle.rule_schulze.specs.Votes.{votes}
 use Rattle.rule_schulze.proofs.votes.count_of.Statement.{statement}
@@ -19,8 +20,8 @@ abbrev μ-loop : tie.MeasureT-loop
 μ-loop ballots k n i j ballot at₀ count₀ b₀ at count b = n - b
 
 -- a bound for the first place that is read
-first-place : (c : tie.Start Inv-loop μ-loop) → c .args .i * c .args .k ≤ 64
-first-place c = mul-le-mul {n₁ = c .args .i} {m₁ = c .args .k} {n₂ = 8} {m₂ = 8} (omega arith) (omega arith)
+first-place : (c : tie.Start Inv-loop μ-loop) → c .args .i * c .args .k ≤ mostPairs
+first-place c = mul-le-mul {n₁ = c .args .i} {m₁ = c .args .k} {n₂ = mostCandidates} {m₂ = mostCandidates} (omega arith) (omega arith)
 
 mul-ballot : tie.Need-mul-ballot Inv-loop μ-loop
 mul-ballot c = omega (arith, few-bytes (c .args .k) (c .args .n) (c .args .ballots .now) (c .pre .sized) .0)

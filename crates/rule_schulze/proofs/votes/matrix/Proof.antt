@@ -5,6 +5,7 @@ use Prim.Native.Nat.{ℕ, _-_, _≤_, _<_}
 use native.Mathlib.Omega.{arith}
 use borrow.Author.Needs.{needs}
 use lib.ListN.{length, length-set}
+use Rattle.jury.specs.Shape.{mostCandidates}
 use Rattle.rule_schulze.specs.inner.Tables.{entry}
 use Rattle.rule_schulze.specs.Votes.{votes}
 use Rattle.rule_schulze.proofs.Filling.{table-step}
@@ -12,7 +13,7 @@ use Rattle.rule_schulze.proofs.votes.matrix.Statement.{statement}
 use Rattle.rule_schulze.proofs.votes.matrix.Tie as tie
 
 abbrev Inv-loop : tie.InvT-loop
-Inv-loop ballots k n table₀ i₀ table i = (i ≤ k) × (length table ≡ 8)
+Inv-loop ballots k n table₀ i₀ table i = (i ≤ k) × (length table ≡ mostCandidates)
     × ((a m : ℕ) → a < i → m < k → entry table a m ≡ votes k n ballots a m)
 
 abbrev μ-loop : tie.MeasureT-loop

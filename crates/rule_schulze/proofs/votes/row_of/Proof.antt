@@ -5,13 +5,14 @@ use Prim.Native.Nat.{ℕ, _-_, _≤_, _<_}
 use native.Mathlib.Omega.{arith}
 use borrow.Author.Needs.{needs}
 use lib.ListN.{length, getD, length-set}
+use Rattle.jury.specs.Shape.{mostCandidates}
 use Rattle.rule_schulze.specs.Votes.{votes}
 use Rattle.rule_schulze.proofs.Filling.{row-step}
 use Rattle.rule_schulze.proofs.votes.row_of.Statement.{statement}
 use Rattle.rule_schulze.proofs.votes.row_of.Tie as tie
 
 abbrev Inv-loop : tie.InvT-loop
-Inv-loop ballots k n i row₀ j₀ row j = (j ≤ k) × (length row ≡ 8) × ((m : ℕ) → m < j → getD row m 0 ≡ votes k n ballots i m)
+Inv-loop ballots k n i row₀ j₀ row j = (j ≤ k) × (length row ≡ mostCandidates) × ((m : ℕ) → m < j → getD row m 0 ≡ votes k n ballots i m)
 
 abbrev μ-loop : tie.MeasureT-loop
 μ-loop ballots k n i row₀ j₀ row j = k - j

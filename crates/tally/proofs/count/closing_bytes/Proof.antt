@@ -7,7 +7,7 @@ use mathlib.Core.List.{List, []}
 use Prim.Native.Nat.{ℕ}
 use lib.ListN.{length, getD}
 use borrow.Author.Needs.{needs}
-use Rattle.jury.specs.Shape.{isRanking, gradedLimits}
+use Rattle.jury.specs.Shape.{mostCandidates, isRanking, gradedLimits}
 use Rattle.jury.specs.Accepted.{GradedBallots}
 use Rattle.jury.specs.ClosingBytes.{eightBytes}
 use Rattle.jury.specs.inner.Counts.{rowsIn}
@@ -60,7 +60,7 @@ winners-requires c κs =
     let array = sym (counted .counts .ensures .array) in
     record {
       within = true-T (gradedLimits s) (graded-limits graded);
-      eight = subst (λ (m : List (List ℕ)). length m ≡ 8) array (array-eight s xs);
+      eight = subst (λ (m : List (List ℕ)). length m ≡ mostCandidates) array (array-eight s xs);
       gets = subst (λ (m : List (List ℕ)). EachGets (s .ballots) (rowsIn (s .candidates) (s .grades) m))
           array (array-gets s xs (graded-ballots graded));
       columns = λ i l. subst (λ (m : List (List ℕ)). length (getD m i []) ≡ 7) array (array-columns s xs i l);

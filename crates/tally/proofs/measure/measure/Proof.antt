@@ -14,16 +14,16 @@ use Rattle.jury.specs.Reason.{reasonOf, reasonAt, unless, firstOf}
 use Rattle.basics.proofs.Flags.{true-T}
 use Rattle.tally.specs.OwnList.{ownList}
 use Rattle.tally.specs.Answer.{refused, accepted, outcome}
-use Rattle.tally.specs.Measure.{Measures, measuresOf, measureOutcome, measuredBy}
+use Rattle.tally.specs.Measure.{measureReasons, Measures, measuresOf, measureOutcome, measuredBy}
 use Rattle.tally.proofs.measure.measure.Statement.{statement}
 use Rattle.tally.proofs.measure.measure.Tie as tie
 
 outside : (s : Shape) → withinLimits s ≡ false → measureOutcome s ≡ refused (reasonAt 1 0)
-unfolding measureOutcome outcome unless firstOf
+unfolding measureOutcome measureReasons outcome unless firstOf
 outside s e = ap (λ (b : Bool). outcome (firstOf (unless b 1 ∷ [])) (measuresOf s)) e
 
 inside : (s : Shape) → withinLimits s ≡ true → measureOutcome s ≡ accepted (measuresOf s)
-unfolding measureOutcome outcome unless firstOf
+unfolding measureOutcome measureReasons outcome unless firstOf
 inside s e = ap (λ (b : Bool). outcome (firstOf (unless b 1 ∷ [])) (measuresOf s)) e
 
 -- G and C of the own list, and I

@@ -6,6 +6,7 @@ use Prim.Native.Nat.{ℕ, _+_, _-_, _≤_}
 use native.Mathlib.Numerals.{add-one}
 use native.Mathlib.Omega.{arith}
 use lib.ListN.{set}
+use Rattle.jury.specs.Shape.{mostCandidates}
 use Rattle.basics.specs.Lists.{tabulate}
 use Rattle.basics.proofs.Tabulate.{upTo, fill-start, fill-step}
 use Rattle.trustee_shares.specs.Shares.{opened, part}
@@ -19,14 +20,14 @@ abbrev bit : ℕ → ℕ → ℕ → List ℕ → ℕ → ℕ
 bit t size first published i = opened t (λ p. part (piece size published p) (first + i))
 
 abbrev Inv-loop : tie.InvT-loop
-Inv-loop t size first k published closing₀ j₀ closing j = (j ≤ k) × (closing ≡ tabulate 8 (upTo j (bit t size first published) (λ i. 0)))
+Inv-loop t size first k published closing₀ j₀ closing j = (j ≤ k) × (closing ≡ tabulate mostCandidates (upTo j (bit t size first published) (λ i. 0)))
 
 abbrev μ-loop : tie.MeasureT-loop
 μ-loop t size first k published closing₀ j₀ closing j = k - j
 
 loop-holds : tie.Need-loop-holds Inv-loop μ-loop
 unfolding tabulate
-loop-holds c = let a = c .before .args in (omega arith, sym (fill-start 8 (bit (a .t) (a .size) (a .first) (a .published .now)) (λ i. 0)))
+loop-holds c = let a = c .before .args in (omega arith, sym (fill-start mostCandidates (bit (a .t) (a .size) (a .first) (a .published .now)) (λ i. 0)))
 
 add-open : tie.Need-add-open Inv-loop μ-loop
 add-open c = omega (arith, c .before .before .before .pre)
@@ -57,8 +58,8 @@ loop-again c =
       omega arith,
       ap (λ (v : ℕ). set (l .closing) (l .j) v) (c .«open» .ensures)
           ∙ ap (λ (xs : List ℕ). set xs (l .j) (f (l .j))) (l .inv .1)
-          ∙ fill-step 8 (l .j) f (λ i. 0) (omega (arith, s .pre))
-          ∙ ap (λ (n : ℕ). tabulate 8 (upTo n f (λ i. 0))) (sym (add-one (l .j))),
+          ∙ fill-step mostCandidates (l .j) f (λ i. 0) (omega (arith, s .pre))
+          ∙ ap (λ (n : ℕ). tabulate mostCandidates (upTo n f (λ i. 0))) (sym (add-one (l .j))),
     )
 
 returns : tie.Need-returns Inv-loop μ-loop
@@ -68,7 +69,7 @@ returns c =
     let a = s .args in
     let f : ℕ → ℕ = bit (a .t) (a .size) (a .first) (a .published .now) in
     let e : l .j ≡ a .k = omega arith in
-    l .inv .1 ∙ ap (λ (n : ℕ). tabulate 8 (upTo n f (λ i. 0))) e ∙ eight-table (a .k) f
+    l .inv .1 ∙ ap (λ (n : ℕ). tabulate mostCandidates (upTo n f (λ i. 0))) e ∙ eight-table (a .k) f
 
 pub open-closing-spec : {M : Type 1} → statement M
 open-closing-spec =

@@ -7,7 +7,7 @@ use Rattle.jury.specs.Reason.{firstOf}
 use Rattle.basics.proofs.Flags.{and-first, true-T}
 use Rattle.urn_chains.specs.Sound.{goodJuror}
 use Rattle.urn.specs.Facts.{factsOf, countedBy}
-use Rattle.urn.specs.Admit.{admitReasons, admitAnswer, admitted}
+use Rattle.urn.specs.Admit.{admitReasons, admitOutcomeBy, admitted}
 use Rattle.urn_chains.proofs.BytesLaws.{good-length}
 use Rattle.urn.proofs.FactLaws.{facts-sound, facts-free}
 use Rattle.urn.proofs.Outcomes.{both-parts, admissible, accepted-none, refused-kept, none-new}
@@ -19,7 +19,7 @@ use Rattle.urn.proofs.admit.admit.Tie as tie
 no-reason : (c : tie.After-enum-told) →
     let a = c .before .before .before .before .before .before .args in
     firstOf (admitReasons (a .k) (a .d) (factsOf (a .k) (a .d) (a .urn .now) (a .juror)) (a .juror) (a .ballot .now)) ≡ none
-unfolding admitAnswer countedBy
+unfolding admitOutcomeBy countedBy
 no-reason c = accepted-none _ _ _ (sym (c .before .before .preview .ensures) ∙ ap countedBy (c .enum-told .given .1))
 
 preview-requires : tie.Need-preview-requires
@@ -61,7 +61,7 @@ same-length-2 : tie.Need-same-length-2
 same-length-2 c = search needs
 
 returns-2 : tie.Need-returns-2
-unfolding admitted admitAnswer countedBy
+unfolding admitted admitOutcomeBy countedBy
 returns-2 c =
     both-parts (c .before .before .preview .ensures)
     (sym (refused-kept _ _ _ _ _ (sym (c .before .before .preview .ensures) ∙ ap countedBy (c .enum-told2 .given .1))))

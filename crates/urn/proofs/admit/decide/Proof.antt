@@ -9,7 +9,7 @@ use Rattle.basics.proofs.Flags.{T-true}
 use Rattle.jury.proofs.Limits.{graded-T}
 use Rattle.urn_chains.specs.Sound.{juryOfOne, goodJuror}
 use Rattle.urn.specs.Facts.{countedBy}
-use Rattle.urn.specs.Admit.{admitAnswer}
+use Rattle.urn.specs.Admit.{admitOutcomeBy}
 use Rattle.urn.proofs.Outcomes.{admit-first, admit-13, admit-14, admit-ballot, admit-15, admit-none, outcome-refused, outcome-accepted, juror-present, juror-absent}
 use native.Mathlib.Omega.{arith}
 use borrow.Author.Needs.{needs}
@@ -18,7 +18,7 @@ use Rattle.urn.proofs.admit.decide.Tie as tie
 use Rattle.basics.proofs.Flags.{and-first-fails}
 
 returns : tie.Need-returns
-unfolding admitAnswer countedBy reasonOf
+unfolding admitOutcomeBy countedBy reasonOf
 returns c =
     let s = c .before .before .before in
     let a = s .args in
@@ -29,7 +29,7 @@ is-juror-requires : tie.Need-is-juror-requires
 is-juror-requires c κs = search needs
 
 returns-2 : tie.Need-returns-2
-unfolding admitAnswer countedBy reasonOf
+unfolding admitOutcomeBy countedBy reasonOf
 returns-2 c =
     let e = c .before .before in
     let s = e .before .before .before in
@@ -40,7 +40,7 @@ returns-2 c =
     (sym (c .before .is-juror .ensures) ∙ not-true _ (c .if2 .taken))))
 
 returns-3 : tie.Need-returns-3
-unfolding admitAnswer countedBy reasonOf
+unfolding admitOutcomeBy countedBy reasonOf
 returns-3 c =
     let e = c .before .before .before in
     let s = e .before .before .before in
@@ -60,7 +60,7 @@ enum-known-reason : tie.Need-enum-known-reason
 enum-known-reason c = search needs
 
 returns-4 : tie.Need-returns-4
-unfolding admitAnswer countedBy juryOfOne refusedFor
+unfolding admitOutcomeBy countedBy juryOfOne refusedFor
 returns-4 c =
     let t = c .before .before .before in
     let q = t .before in
@@ -77,7 +77,7 @@ enum-told : tie.Need-enum-told
 enum-told c = search needs
 
 returns-5 : tie.Need-returns-5
-unfolding admitAnswer countedBy juryOfOne refusedFor reasonOf
+unfolding admitOutcomeBy countedBy juryOfOne refusedFor reasonOf
 returns-5 c =
     let t = c .before .before .before in
     let q = t .before in
@@ -97,7 +97,7 @@ add-t15 c =
     omega (arith, s .pre .few)
 
 returns-6 : tie.Need-returns-6
-unfolding admitAnswer countedBy juryOfOne refusedFor
+unfolding admitOutcomeBy countedBy juryOfOne refusedFor
 returns-6 c =
     let i = c .before in
     let t = i .before .before .before in

@@ -4,6 +4,7 @@ use mathlib.Core.Path.{_≡_, _∙_, ap}
 use Prim.Native.Nat.{ℕ, _+_, _*_, _≤_, _<_}
 use mathlib.Core.List.{_∷_, _++_}
 use lib.ListN.{length, getD, set, take, drop, length-set}
+use Rattle.jury.specs.Shape.{mostCandidates, mostGrades}
 use Rattle.urn_chains.specs.Sound.{slotCount}
 use Rattle.urn_chains.proofs.SlotLaws.{size-least}
 use Rattle.urn_chains.proofs.GoodBallots.{juror-most}
@@ -28,7 +29,7 @@ inside s =
     let a = s .args in
     free-inside (a .k) (a .d) (a .urn .now) ((s .pre .graded)) (s .pre .isSound) (s .pre .room)
 
-small : (s : tie.Start) → s .args .k * s .args .d ≤ 56
+small : (s : tie.Start) → s .args .k * s .args .d ≤ mostCandidates * mostGrades
 small s = few-bytes (s .args .k) (s .args .d) ((s .pre .graded))
 
 -- The start of the call, seen from after the reading of the slot's number.

@@ -9,7 +9,7 @@ use Rattle.basics.proofs.Flags.{T-true, and-both}
 use Rattle.tally.specs.Answer.{accepted}
 use Rattle.urn_chains.specs.Sound.{goodJuror}
 use Rattle.urn.specs.Facts.{countedBy}
-use Rattle.urn.specs.Withdraw.{withdrawAnswer}
+use Rattle.urn.specs.Withdraw.{withdrawOutcomeBy}
 use Rattle.urn.proofs.Outcomes.{withdraw-first, withdraw-13, withdraw-14, withdraw-none, outcome-refused, outcome-accepted, juror-gone}
 use native.Mathlib.Omega.{arith}
 use borrow.Author.Needs.{needs}
@@ -18,7 +18,7 @@ use Rattle.urn.proofs.withdraw.decide.Tie as tie
 use Rattle.basics.proofs.Flags.{and-first-fails}
 
 returns : tie.Need-returns
-unfolding withdrawAnswer countedBy reasonOf
+unfolding withdrawOutcomeBy countedBy reasonOf
 returns c =
     let s = c .before .before in
     let a = s .args in
@@ -29,7 +29,7 @@ is-juror-requires : tie.Need-is-juror-requires
 is-juror-requires c κs = search needs
 
 returns-2 : tie.Need-returns-2
-unfolding withdrawAnswer countedBy reasonOf
+unfolding withdrawOutcomeBy countedBy reasonOf
 returns-2 c =
     let e = c .before .before in
     let s = e .before .before in
@@ -40,7 +40,7 @@ returns-2 c =
     (sym (c .before .is-juror .ensures) ∙ not-true _ (c .if2 .taken))))
 
 returns-3 : tie.Need-returns-3
-unfolding withdrawAnswer countedBy reasonOf
+unfolding withdrawOutcomeBy countedBy reasonOf
 returns-3 c =
     let i = c .before .before .before in
     let e = i .before in
@@ -52,7 +52,7 @@ returns-3 c =
     (sym (i .is-juror .ensures) ∙ not-false _ (c .before .before .if2 .left)) (not-true _ (c .if3 .taken))))
 
 returns-4 : tie.Need-returns-4
-unfolding withdrawAnswer countedBy
+unfolding withdrawOutcomeBy countedBy
 returns-4 c =
     let q = c .before in
     let i = q .before .before .before in
@@ -69,7 +69,7 @@ sub-t11 : tie.Need-sub-t11
 sub-t11 c = search needs
 
 returns-5 : tie.Need-returns-5
-unfolding withdrawAnswer countedBy
+unfolding withdrawOutcomeBy countedBy
 returns-5 c =
     let q = c .before in
     let i = q .before .before .before in

@@ -5,7 +5,7 @@ use Prim.Native.Nat.{ℕ, _+_, _-_, _*_, _≤_, _<_}
 use native.Mathlib.Nat.{sub-zero}
 use lib.Dec.{T}
 use lib.ListN.{length, getD, set, take, replicate, length-set, length-take}
-use Rattle.jury.specs.Shape.{gradedLimits}
+use Rattle.jury.specs.Shape.{mostCandidates, mostGrades, gradedLimits}
 use Rattle.urn_chains.specs.Slots.{slotsOf, slotAt}
 use Rattle.urn_chains.specs.Chains.{chain}
 use Rattle.urn_chains.specs.Sound.{juryOfOne, slotCount, urnSlots}
@@ -31,7 +31,7 @@ long s =
     let t = its-table (a .k) (a .d) (a .urn .now) (limits s) (s .pre .isSound) in
     omega (arith, t .size, size-least (a .k * a .d) (slotCount (a .k * a .d) (length (a .urn .now))) (t .least))
 
-small : (s : tie.Start) → s .args .k * s .args .d ≤ 56
+small : (s : tie.Start) → s .args .k * s .args .d ≤ mostCandidates * mostGrades
 small s = few-bytes (s .args .k) (s .args .d) (limits s)
 
 -- the juror whose ballot the slot holds
@@ -110,7 +110,7 @@ put-slot-requires c κs =
       at-inside s,
       length-set (a .urn .now) (a .before * (2 + a .k * a .d))
           (getD (a .urn .now) (a .slot * (2 + a .k * a .d)) 0),
-      length-take {A = ℕ} (a .k * a .d - 0) (replicate 56 0),
+      length-take {A = ℕ} (a .k * a .d - 0) (replicate (mostCandidates * mostGrades) 0),
     )
 
 cast-urn : tie.Need-cast-urn
@@ -157,8 +157,9 @@ returns c =
     let s = t .before in
     let a = s .args in
     withdraw-bytes (a .k) (a .d) (a .urn .now) (limits s) (s .pre .isSound) (holder s) (a .before) (a .slot)
-    (told s) (take (a .k * a .d - 0) (replicate 56 0)) (c .before .before .put-slot .last .0)
-    (ap (λ (m : ℕ). take {A = ℕ} m (replicate 56 0)) (sub-zero (a .k * a .d)) ∙ take-zeros (a .k * a .d) 56 (small s))
+    (told s) (take (a .k * a .d - 0) (replicate (mostCandidates * mostGrades) 0)) (c .before .before .put-slot .last .0)
+    (ap (λ (m : ℕ). take {A = ℕ} m (replicate (mostCandidates * mostGrades) 0)) (sub-zero (a .k * a .d))
+    ∙ take-zeros (a .k * a .d) (mostCandidates * mostGrades) (small s))
     (c .before .before .put-slot .ensures)
 
 pub take-ballot-spec : {M : Type 1} → statement M

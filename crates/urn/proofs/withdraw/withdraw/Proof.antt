@@ -20,7 +20,7 @@ use Rattle.urn.specs.declared.facts.Facts.{Facts}
 use Rattle.urn.specs.inner.Position.{positionIn}
 use Rattle.urn_chains.specs.Sound.{gradedShape}
 use Rattle.urn.specs.Facts.{jurorsOf, factsOf, countedBy}
-use Rattle.urn.specs.Withdraw.{withdrawReasons, withdrawAnswer, withoutBallot, withdrawn}
+use Rattle.urn.specs.Withdraw.{withdrawReasons, withdrawOutcomeBy, withoutBallot, withdrawn}
 use Rattle.urn.proofs.FactLaws.{link-juror, link-absent, jurors-are, facts-sound, facts-present}
 use Rattle.urn.proofs.Outcomes.{both-parts, Withdrawable, withdrawable, accepted-none, refused-kept, none-new, some-old, withdraw-first, withdraw-1, outcome-refused}
 use borrow.Author.Needs.{needs}
@@ -38,16 +38,16 @@ start e = e .before .before .before .before .before .before .before .before
 -- the answer is that of the definition
 answered : (D : tie.After-decide) →
     let a = D .before .before .before .before .before .before .args in
-    countedBy (D .decide .result) ≡ withdrawAnswer (a .k) (a .d) (factsOf (a .k) (a .d) (a .urn .now) (a .juror)) (a .juror)
+    countedBy (D .decide .result) ≡ withdrawOutcomeBy (a .k) (a .d) (factsOf (a .k) (a .d) (a .urn .now) (a .juror)) (a .juror)
 answered D =
     let a = D .before .before .before .before .before .before .args in
-    D .decide .ensures ∙ ap (λ (x : Facts). withdrawAnswer (a .k) (a .d) x (a .juror)) (D .before .check .ensures .told)
+    D .decide .ensures ∙ ap (λ (x : Facts). withdrawOutcomeBy (a .k) (a .d) x (a .juror)) (D .before .check .ensures .told)
 
 -- no reason applies to an accepted call
 no-reason : (e : tie.After-enum-told) →
     let a = start e .args in
     firstOf (withdrawReasons (a .k) (a .d) (factsOf (a .k) (a .d) (a .urn .now) (a .juror)) (a .juror)) ≡ none
-unfolding withdrawAnswer countedBy
+unfolding withdrawOutcomeBy countedBy
 no-reason e = accepted-none _ _ _ (sym (answered (e .before .before)) ∙ ap countedBy (e .enum-told .given .1))
 
 passed : (e : tie.After-enum-told) →
@@ -97,7 +97,7 @@ is-graded-requires : tie.Need-is-graded-requires
 is-graded-requires c κs = tt
 
 returns : tie.Need-returns
-unfolding withdrawAnswer withdrawn countedBy reasonOf
+unfolding withdrawOutcomeBy withdrawn countedBy reasonOf
 returns c =
     let a = c .before .before .before .args in
     let e = withdraw-first (a .k) (a .d) (factsOf (a .k) (a .d) (a .urn .now) (a .juror)) (a .juror)
@@ -168,7 +168,7 @@ same-length-3 : tie.Need-same-length-3
 same-length-3 c = search needs
 
 returns-4 : tie.Need-returns-4
-unfolding withdrawn withdrawAnswer countedBy
+unfolding withdrawn withdrawOutcomeBy countedBy
 returns-4 c =
     both-parts (answered (c .before .before))
     (sym (refused-kept _ _ _ _ _ (sym (answered (c .before .before)) ∙ ap countedBy (c .enum-told3 .given .1))))

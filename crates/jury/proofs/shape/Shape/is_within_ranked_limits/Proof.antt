@@ -5,14 +5,14 @@ use mathlib.Core.Bool.{Bool, _&&_}
 use mathlib.Core.Logic.{⊎-elim}
 use lib.Dec.{leb}
 use borrow.Author.Tests.{le-leb, lt-leb}
-use Rattle.jury.specs.Shape.{isRanking, rankedLimits}
+use Rattle.jury.specs.Shape.{mostCandidates, isRanking, rankedLimits}
 use Rattle.jury.specs.declared.shape.Shape.{Shape}
 use Rattle.basics.proofs.Flags.{and-taken, and-left}
 use Rattle.jury.proofs.shape.Shape.is_within_ranked_limits.Statement.{statement}
 use Rattle.jury.proofs.shape.Shape.is_within_ranked_limits.Tie as tie
 
 abbrev k-tests : Shape → Bool
-k-tests s = leb 1 (s .candidates) && leb (s .candidates) 8
+k-tests s = leb 1 (s .candidates) && leb (s .candidates) mostCandidates
 
 joined1 : (c : tie.Joined1) → c .if1 .if2 ≡ k-tests (c .before .before .args .self)
 joined1 c =
