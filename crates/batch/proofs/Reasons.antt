@@ -9,6 +9,7 @@ use native.Mathlib.Omega.{arith}
 use lib.Dec.{eqb}
 use lib.ListN.{length}
 use borrow.Author.Tests.{eqb-true, eq-eqb}
+use Rattle.basics.specs.Lists.{member}
 use Rattle.basics.proofs.Flags.{either}
 use Rattle.gates.specs.Gate.{gatesOf}
 use Rattle.gates.specs.Board.{conditionalCount}
@@ -23,7 +24,7 @@ use Rattle.jury.specs.Reason.{Reason, reasonAt, unless, foundAt, firstOf}
 use Rattle.jury.specs.Ballots.{rowsOf, firstBadRow, gradedReasons, rankedReasons, ballotKindReasons, ballotKindReasonNumbers}
 use Rattle.jury.specs.Rankings.{firstOver, firstNotAsymmetric, firstNotWeakOrder}
 use Rattle.jury.proofs.Searches.{none-first, first-none}
-use Rattle.tally.specs.Answer.{refused, outcome, hasNumberIn, Size, sizeOf}
+use Rattle.tally.specs.Answer.{refused, outcome, Size, sizeOf}
 use Rattle.tally.specs.Run.{RunResult}
 use Rattle.tally.specs.Test.{testReasons, testOutcome}
 use Rattle.tally.proofs.TestReasons.{orElse, first-append, TestPassed, test-passed}
@@ -44,7 +45,7 @@ module _ (i k : ℕ) (size : Size) (tape wires board : List ℕ) where
   lent-by false u v e f g = rw e
 
   pub buffers-all : All wordBufferReasonNumbers (wordBufferReasons i k size tape wires board)
-  unfolding All wordBufferReasons hasNumberIn reasonAt
+  unfolding All wordBufferReasons member reasonAt
   buffers-all =
       let ns = wordBufferReasonNumbers in
       (unless-fine ns _ 7 tt, (unless-fine ns _ 9 tt, (unless-fine ns _ 10 tt, tt)))
@@ -186,11 +187,11 @@ module _ (s : Shape) (words : List ℕ) where
   ranked-words e = ap (λ (t : Bool). cond t (wordRankedReasons s words) (wordGradedReasons s words)) e
 
   graded-all : All ballotKindReasonNumbers (wordGradedReasons s words)
-  unfolding All wordGradedReasons hasNumberIn reasonAt
+  unfolding All wordGradedReasons member reasonAt
   graded-all = (found-fine ballotKindReasonNumbers 6 _ (λ j. tt), tt)
 
   ranked-all : All ballotKindReasonNumbers (wordRankedReasons s words)
-  unfolding All wordRankedReasons hasNumberIn reasonAt
+  unfolding All wordRankedReasons member reasonAt
   ranked-all = (found-fine ballotKindReasonNumbers 11 _ (λ j. tt), (found-fine ballotKindReasonNumbers 12 _ (λ j. tt), tt))
 
   pub kind-all : All ballotKindReasonNumbers (wordBallotKindReasons s words)

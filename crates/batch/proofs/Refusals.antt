@@ -9,7 +9,7 @@ use Prim.Native.Nat.{ℕ, zero, suc, _+_, _<_}
 use native.Mathlib.Omega.{arith}
 use lib.Dec.{T, eqb}
 use lib.ListN.{length}
-use Rattle.basics.specs.Lists.{all}
+use Rattle.basics.specs.Lists.{all, member}
 use Rattle.basics.proofs.Flags.{T-true, true-T, never-true}
 use Rattle.gates.specs.Gate.{gatesOf}
 use Rattle.gates.specs.declared.place.Place.{Place}
@@ -47,15 +47,15 @@ unfolding reasonAt
 place-is n place r e = let same : reasonAt n place ≡ r = cc in ap (λ (x : Reason). At (x .place)) same
 
 -- a reason with one of these numbers is not about the contents of ballots
-other : (ns : List ℕ) → T (all (λ n. not (hasNumberIn ballotKindReasonNumbers (reasonAt n 0))) ns) → (r : Reason) → T (hasNumberIn ns r)
+other : (ns : List ℕ) → T (all (λ n. not (member n ballotKindReasonNumbers)) ns) → (r : Reason) → T (hasNumberIn ns r)
     → isOfBallots r ≡ false
-unfolding isOfBallots hasNumberIn reasonAt
+unfolding isOfBallots member reasonAt
 other ns none-of-them r h =
-    let its-number = number-passes (λ n. not (hasNumberIn ballotKindReasonNumbers (reasonAt n 0))) ns r none-of-them h in
+    let its-number = number-passes (λ n. not (member n ballotKindReasonNumbers)) ns r none-of-them h in
     never-true (isOfBallots r) (λ e. subst (λ (t : Bool). T (not t)) e its-number)
 
 test-other : (s : Shape) (table : List ℕ) (r : Reason) → firstOf (testReasons s table) ≡ some r → isOfBallots r ≡ false
-unfolding all hasNumberIn reasonAt
+unfolding all member reasonAt
 test-other s table r e = other testReasonNumbers tt r (first-number testReasonNumbers (testReasons s table) (test-all s table) r e)
 
 -- p is the first of m juries in which something is found
@@ -237,7 +237,7 @@ module _ (c : Call) where
 
   -- no reason of the buffers is about the contents of ballots
   lent-other : (r : Reason) → lentFound tapeRight Nowhere wiresRight boardRight ≡ some r → isOfBallots r ≡ false
-  unfolding all hasNumberIn reasonAt
+  unfolding all member reasonAt
   lent-other r e =
       let size = sizeOf (gatesOf (c .table)) in
       other wordBufferReasonNumbers tt r
@@ -317,11 +317,11 @@ not-4 q h m = subst (λ (n : ℕ). T (not (eqb n 4))) m
     (number-passes (λ n. not (eqb n 4)) ballotKindReasonNumbers q tt (true-T (hasNumberIn ballotKindReasonNumbers q) h))
 
 same-number : (r : Reason) (place : ℕ) → isOfBallots r ≡ true → isOfBallots (reasonAt (r .number) place) ≡ true
-unfolding isOfBallots hasNumberIn reasonAt
+unfolding isOfBallots member reasonAt
 same-number r place n = n
 
 clash-of-ballots : (place : ℕ) → isOfBallots (reasonAt 11 place) ≡ true
-unfolding isOfBallots hasNumberIn reasonAt
+unfolding isOfBallots member reasonAt
 clash-of-ballots place = refl
 
 pub fault-as-alone : FaultAsAlone

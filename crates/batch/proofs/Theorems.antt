@@ -27,9 +27,9 @@ use Rattle.jury.specs.Ballots.{ballotKindReasons, ballotKindReasonNumbers, ball
 use Rattle.jury.proofs.BallotLaws.{judged-by, judged-kind}
 use Rattle.jury.proofs.AcceptedLaws.{accepted-back}
 use Rattle.jury.proofs.AcceptedLaws as ballots-laws
-use Rattle.basics.specs.Lists.{all}
+use Rattle.basics.specs.Lists.{all, member}
 use Rattle.basics.proofs.Cases.{below-or-not}
-use Rattle.tally.specs.Answer.{refused, accepted, hasNumberIn, Size, sizeOf}
+use Rattle.tally.specs.Answer.{refused, accepted, Size, sizeOf}
 use Rattle.tally.specs.Test.{testReasons, testReasonNumbers}
 use Rattle.tally.specs.SaysWhoWins.{SaysWhoWins}
 use Rattle.tally.specs.Memory.{Each}
@@ -215,7 +215,7 @@ accepted-as-all c size e =
 
 -- the numbers of the call's reasons
 batch-all : (c : Call) → All batchReasonNumbers (batchReasons c)
-unfolding batchReasons wordBallotReasons All all hasNumberIn reasonAt
+unfolding batchReasons wordBallotReasons All all member reasonAt
 batch-all c =
     let ns = batchReasonNumbers in
     let size = sizeOf (gatesOf (c .table)) in

@@ -1,11 +1,11 @@
 -- `AllDemands` holds: each field is what a layer has proved.
 -- Assumes nothing.
+use Rattle.basics.specs.Lists.{member}
 use Rattle.jury.specs.Shape.{withinLimits}
 use Rattle.jury.specs.Reason.{reasonAt}
 use Rattle.basics.proofs.Flags.{T-true}
 use Rattle.rule_judgment.proofs.Theorems.{bytes-say, somebody, shared-win, gauge-alone}
 use Rattle.rule_schulze.proofs.Theorems.{schulze-holds}
-use Rattle.tally.specs.Answer.{hasNumberIn}
 use Rattle.tally.specs.Memory.{Each}
 use Rattle.tally.proofs.Numbering.{All, refused-number, unless-fine, found-fine}
 use Rattle.tally.proofs.OwnList.{own-list-holds}
@@ -26,7 +26,7 @@ use Rattle.batch.proofs.Refusals.{refused-as-alone, fault-as-alone}
 use Rattle.demands.specs.Demands.{SheetMemory, AllDemands}
 
 sheet-memory : SheetMemory
-unfolding All sheetReasons hasNumberIn reasonAt Each
+unfolding All sheetReasons member reasonAt Each
 sheet-memory bytes =
     let ns = sheetReasonNumbers in
     record {

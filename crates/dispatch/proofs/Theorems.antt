@@ -12,7 +12,7 @@ use lib.Dec.{T, leb}
 use lib.ListN.{length, getD, drop, replicate, length-append, length-drop, length-replicate}
 use lib.Seq.{take-at, drop-at}
 use borrow.Author.Tests.{leb-true, le-leb}
-use Rattle.basics.specs.Lists.{all}
+use Rattle.basics.specs.Lists.{all, member}
 use Rattle.basics.proofs.Cases.{below-or-not}
 use Rattle.basics.proofs.Flags.{and-first, and-second, and-both}
 use Rattle.gates.specs.Gate.{gatesOf}
@@ -540,7 +540,7 @@ lengths c = by (firstOf (dispatchReasons c)) refl
         )
 
 number : (c : Call) (r : Reason) → dispatchResult c .reason ≡ some r → T (hasNumberIn dispatchReasonNumbers r)
-unfolding all hasNumberIn reasonAt
+unfolding all member reasonAt
 number c r e = ⊎-elim (λ x. own 19 tt (x .1)) (⊎-elim (λ x. own 20 tt (x .2)) (λ x. of-jury (x .2))) (refusals .named c r e)
   where
     own : (n : ℕ) → T (hasNumberIn dispatchReasonNumbers (reasonAt n 0)) → r ≡ reasonAt n 0 → T (hasNumberIn dispatchReasonNumbers r)

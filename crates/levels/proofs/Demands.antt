@@ -9,7 +9,7 @@ use native.Mathlib.Nat.{add-zero}
 use native.Mathlib.Omega.{arith}
 use lib.Dec.{T}
 use lib.ListN.{length, getD, drop}
-use Rattle.basics.specs.Lists.{all}
+use Rattle.basics.specs.Lists.{all, member}
 use Rattle.gates.specs.Kind.{conditionalOf}
 use Rattle.gates.specs.Gate.{Gate, gatesOf, gateAt}
 use Rattle.gates.proofs.Table.{gates-from}
@@ -32,7 +32,7 @@ use Rattle.tally.proofs.Numbering.{All, refused-number, both, unless-fine, wide
 
 pub levels-number : (s : Shape) (table levels : List ℕ) (r : Reason) → levelsOutcome s table levels ≡ refused r
     → T (hasNumberIn levelsReasonNumbers r)
-unfolding levelsOutcome levelsReasons All all hasNumberIn reasonAt
+unfolding levelsOutcome levelsReasons All all member reasonAt
 levels-number s table levels =
     let ns = levelsReasonNumbers in
     refused-number ns (levelsReasons s table levels) (depthsOf (ballotBytes s) (gatesOf table))

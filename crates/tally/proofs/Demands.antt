@@ -7,7 +7,7 @@ use Prim.Native.Nat.{ℕ, _+_, _≤_}
 use native.Mathlib.Omega.{arith}
 use lib.Dec.{T, leb, leb→le}
 use lib.ListN.{length, take, length-replicate}
-use Rattle.basics.specs.Lists.{all}
+use Rattle.basics.specs.Lists.{all, member}
 use Rattle.gates.specs.Gate.{Gate, gatesOf}
 use Rattle.gates.specs.Wires.{wiresOf, outputsOf}
 use Rattle.gates.specs.Board.{MaskTape}
@@ -110,7 +110,7 @@ module _ (s : Shape) (table : List ℕ) (size : Size) (p : writing.WritePassed s
       (ap (testOutcome s) (writing.list-in s table size p) ∙ own-list-holds s (p .within) .passes ∙ ap accepted (ap sizeOf (sym gates)))
 
   number : (ballots tape wires board : List ℕ) (r : Reason) → runResult s list ballots tape wires board .answer ≡ refused r → 4 ≤ r .number
-  unfolding lateNumbers all hasNumberIn reasonAt
+  unfolding lateNumbers all member reasonAt
   number ballots tape wires board r e =
       let lent = bufferReasons (ballotBytes s) (s .candidates) (sizeOf (gatesOf list)) tape wires board in
       leb→le 4 (r .number) (number-passes (leb 4) lateNumbers r tt

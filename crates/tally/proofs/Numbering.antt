@@ -9,8 +9,8 @@ use Prim.Native.Nat.{ℕ}
 use lib.Dec.{T, eqb}
 use lib.ListN.{length}
 use borrow.Author.Tests.{eqb-true}
-use Rattle.basics.specs.Lists.{all}
-use Rattle.basics.proofs.Flags.{and-first, and-second, or-first, or-second, or-either, T-true, true-T, either}
+use Rattle.basics.specs.Lists.{all, member}
+use Rattle.basics.proofs.Flags.{and-first, and-second, or-either, T-true, true-T, either}
 use Rattle.gates.specs.Gate.{gatesOf}
 use Rattle.gates.specs.Test.{firstAboveOne}
 use Rattle.gates.specs.declared.place.Place.{Place}
@@ -82,7 +82,7 @@ module _ (ns : List ℕ) where
 
 -- a test that all these numbers pass is passed by the number of each reason that has one of them
 pub number-passes : (test : ℕ → Bool) (ns : List ℕ) (r : Reason) → T (all test ns) → T (hasNumberIn ns r) → T (test (r .number))
-unfolding all hasNumberIn
+unfolding all member
 number-passes test [] r a h = absurd h
 number-passes test (n ∷ ns) r a h =
     let passed = T-true (test n && all test ns) a in
@@ -91,23 +91,13 @@ number-passes test (n ∷ ns) r a h =
     (λ e. number-passes test ns r (true-T (all test ns) (and-second (test n) (all test ns) passed)) (true-T (hasNumberIn ns r) e))
     (or-either (eqb (r .number) n) (hasNumberIn ns r) (T-true (eqb (r .number) n || hasNumberIn ns r) h))
 
--- the place does not matter
-any-place : (ms : List ℕ) (r : Reason) → T (hasNumberIn ms (reasonAt (r .number) 0)) → T (hasNumberIn ms r)
-unfolding hasNumberIn reasonAt
-any-place [] r h = h
-any-place (m ∷ ms) r h =
-    ⊎-elim (λ e. true-T _ (or-first (eqb (r .number) m) (hasNumberIn ms r) e))
-    (λ e. true-T _ (or-second (eqb (r .number) m) (hasNumberIn ms r) (T-true _ (any-place ms r (true-T _ e)))))
-    (or-either (eqb (r .number) m) (hasNumberIn ms (reasonAt (r .number) 0)) (T-true _ h))
-
 -- numbers that are all among others
 abbrev pub Among : List ℕ → List ℕ → Type 0
-Among ns ms = T (all (λ n. hasNumberIn ms (reasonAt n 0)) ns)
+Among ns ms = T (all (λ n. member n ms) ns)
 
 pub wider-number : (ns ms : List ℕ) → Among ns ms → (r q : Reason) → r .number ≡ q .number → T (hasNumberIn ns q) → T (hasNumberIn ms r)
 wider-number ns ms among r q e h =
-    any-place ms r
-    (subst (λ (m : ℕ). T (hasNumberIn ms (reasonAt m 0))) (sym e) (number-passes (λ n. hasNumberIn ms (reasonAt n 0)) ns q among h))
+    subst (λ (m : ℕ). T (member m ms)) (sym e) (number-passes (λ n. member n ms) ns q among h)
 
 pub wider : (ns ms : List ℕ) → Among ns ms → (os : List (Option Reason)) → All ns os → All ms os
 unfolding All Fine
@@ -120,15 +110,15 @@ wider ns ms among (some r ∷ os) a = (
 
 -- the tests of each group
 pub graded-all : (s : Shape) (xs : List ℕ) → All (6 ∷ []) (gradedReasons s xs)
-unfolding All gradedReasons hasNumberIn reasonAt
+unfolding All gradedReasons member reasonAt
 graded-all s xs = (found-fine (6 ∷ []) 6 _ (λ i. tt), tt)
 
 ranked-all : (s : Shape) (xs : List ℕ) → All (11 ∷ 12 ∷ []) (rankedReasons s xs)
-unfolding All rankedReasons hasNumberIn reasonAt
+unfolding All rankedReasons member reasonAt
 ranked-all s xs = (found-fine (11 ∷ 12 ∷ []) 11 _ (λ i. tt), (found-fine (11 ∷ 12 ∷ []) 12 _ (λ b. tt), tt))
 
 kind-all : (s : Shape) (xs : List ℕ) → All ballotKindReasonNumbers (ballotKindReasons s xs)
-unfolding all hasNumberIn reasonAt
+unfolding all member reasonAt
 kind-all s xs = either (isRanking s)
     (λ e. subst (All ballotKindReasonNumbers) (sym (ranked-reasons s xs e))
     (wider (11 ∷ 12 ∷ []) ballotKindReasonNumbers tt (rankedReasons s xs) (ranked-all s xs)))
@@ -137,7 +127,7 @@ kind-all s xs = either (isRanking s)
 
 -- the tests of ballots, from those of their kind
 pub ballots-from : (ns : List ℕ) → Among (4 ∷ 5 ∷ []) ns → (s : Shape) (xs : List ℕ) → All ns (ballotKindReasons s xs) → All ns (ballotReasons s xs)
-unfolding All ballotReasons hasNumberIn reasonAt
+unfolding All ballotReasons member reasonAt
 ballots-from ns among s xs a =
     let size = unless (eqb (length xs) (ballotBytes s)) 4 in
     let byte = foundAt 5 (firstAboveOne 0 xs) in
@@ -146,11 +136,11 @@ ballots-from ns among s xs a =
     (wider two ns among (size ∷ byte ∷ []) (unless-fine two _ 4 tt, (found-fine two 5 _ (λ i. tt), tt))) a
 
 pub ballots-all : (s : Shape) (xs : List ℕ) → All ballotReasonNumbers (ballotReasons s xs)
-unfolding all hasNumberIn reasonAt
+unfolding all member reasonAt
 ballots-all s xs = ballots-from ballotReasonNumbers tt s xs (wider ballotKindReasonNumbers ballotReasonNumbers tt (ballotKindReasons s xs) (kind-all s xs))
 
 pub test-all : (s : Shape) (table : List ℕ) → All testReasonNumbers (testReasons s table)
-unfolding All testReasons hasNumberIn reasonAt
+unfolding All testReasons member reasonAt
 test-all s table = (unless-fine testReasonNumbers _ 1 tt, (list-fine testReasonNumbers _ tt (λ g. tt), tt))
 
 pub list-and-ballots-all : (ns : List ℕ) → Among testReasonNumbers ns → Among ballotReasonNumbers ns
@@ -161,18 +151,18 @@ list-and-ballots-all ns of-list of-ballots s table ballots =
     (wider ballotReasonNumbers ns of-ballots (ballotReasons s ballots) (ballots-all s ballots))
 
 pub buffers-all : (i k : ℕ) (size : Size) (tape wires board : List ℕ) → All bufferReasonNumbers (bufferReasons i k size tape wires board)
-unfolding All bufferReasons hasNumberIn reasonAt
+unfolding All bufferReasons member reasonAt
 buffers-all i k size tape wires board =
     let ns = bufferReasonNumbers in
     (unless-fine ns _ 7 tt, (found-fine ns 8 _ (λ i. tt), (unless-fine ns _ 9 tt, (unless-fine ns _ 10 tt, tt))))
 
 -- the entry points
 pub measure-number : (s : Shape) (r : Reason) → measureOutcome s ≡ refused r → T (hasNumberIn measureReasonNumbers r)
-unfolding measureOutcome measureReasons All hasNumberIn reasonAt
+unfolding measureOutcome measureReasons All member reasonAt
 measure-number s = refused-number measureReasonNumbers (measureReasons s) (measuresOf s) (unless-fine measureReasonNumbers _ 1 tt, tt)
 
 pub write-number : (s : Shape) (table : List ℕ) (r : Reason) → writeOutcome s table ≡ refused r → T (hasNumberIn writeReasonNumbers r)
-unfolding writeOutcome writeReasons All hasNumberIn reasonAt
+unfolding writeOutcome writeReasons All member reasonAt
 write-number s table =
     let ns = writeReasonNumbers in
     refused-number ns (writeReasons s table) (sizeOf (ownList s)) (unless-fine ns _ 1 tt, (unless-fine ns _ 2 tt, tt))
@@ -182,14 +172,14 @@ unfolding testOutcome
 test-number s table = refused-number testReasonNumbers (testReasons s table) (sizeOf (gatesOf table)) (test-all s table)
 
 pub count-number : (s : Shape) (ballots : List ℕ) (r : Reason) → countReason s ballots ≡ some r → T (hasNumberIn countReasonNumbers r)
-unfolding countReason countReasons All all hasNumberIn reasonAt
+unfolding countReason countReasons All all member reasonAt
 count-number s ballots =
     let ns = countReasonNumbers in
     first-number ns _ (unless-fine ns _ 1 tt, wider ballotReasonNumbers ns tt (ballotReasons s ballots) (ballots-all s ballots))
 
 pub run-number : (s : Shape) (table ballots tape wires board : List ℕ) (r : Reason)
     → firstOf (runReasons s table ballots tape wires board) ≡ some r → T (hasNumberIn runReasonNumbers r)
-unfolding runReasons all hasNumberIn reasonAt
+unfolding runReasons all member reasonAt
 run-number s table ballots tape wires board =
     let ns = runReasonNumbers in
     let buffers = bufferReasons (ballotBytes s) (s .candidates) (sizeOf (gatesOf table)) tape wires board in

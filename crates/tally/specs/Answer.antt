@@ -1,10 +1,10 @@
 -- What the entry points answer: a reason with its place [order], or the values of [accepted] and [measure].
 use mathlib.Core.Option.{Option, none, some}
-use mathlib.Core.Bool.{Bool, false, _||_}
-use mathlib.Core.List.{List, [], _∷_, _++_}
+use mathlib.Core.Bool.{Bool}
+use mathlib.Core.List.{List, _++_}
 use Prim.Native.Nat.{ℕ}
-use lib.Dec.{eqb}
 use lib.ListN.{length, drop}
+use Rattle.basics.specs.Lists.{member}
 use Rattle.gates.specs.Gate.{Gate}
 use Rattle.gates.specs.Board.{conditionalCount}
 use Rattle.jury.specs.Reason.{Reason, reasonOf}
@@ -32,9 +32,8 @@ overwritten (some r) new old = old
 overwritten none new old = new ++ drop (length new) old
 
 -- Whether the reason's number is one of these.
-unfoldable pub hasNumberIn : List ℕ → Reason → Bool
-hasNumberIn [] r = false
-hasNumberIn (n ∷ ns) r = eqb (r .number) n || hasNumberIn ns r
+abbrev pub hasNumberIn : List ℕ → Reason → Bool
+hasNumberIn ns r = member (r .number) ns
 
 -- What write, test and run answer if they are accepted.
 pub record Size : Type 0 where

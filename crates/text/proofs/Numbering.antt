@@ -5,7 +5,7 @@ use mathlib.Core.List.{List}
 use Prim.Native.Nat.{ℕ, _*_}
 use lib.Dec.{T}
 use lib.ListN.{length}
-use Rattle.basics.specs.Lists.{all}
+use Rattle.basics.specs.Lists.{all, member}
 use Rattle.gates.specs.Gate.{gatesOf}
 use Rattle.jury.specs.declared.shape.Shape.{Shape}
 use Rattle.jury.specs.Reason.{Reason, reasonAt}
@@ -18,7 +18,7 @@ use Rattle.text.specs.Read.{readReasons, readReasonNumbers, readOutcome}
 
 pub text-number : (s : Shape) (table output : List ℕ) (r : Reason) → textOutcome s table output ≡ refused r
     → T (hasNumberIn textReasonNumbers r)
-unfolding textOutcome textReasons All all hasNumberIn reasonAt
+unfolding textOutcome textReasons All all member reasonAt
 text-number s table output =
     let ns = textReasonNumbers in
     refused-number ns (textReasons s table output) (length (textOf (gatesOf table)))
@@ -26,7 +26,7 @@ text-number s table output =
 
 pub read-number : (s : Shape) (text output : List ℕ) (r : Reason) → readOutcome s text output ≡ refused r
     → T (hasNumberIn readReasonNumbers r)
-unfolding readOutcome readReasons All hasNumberIn reasonAt
+unfolding readOutcome readReasons All member reasonAt
 read-number s text output =
     let ns = readReasonNumbers in
     refused-number ns (readReasons s text output) (4 * length (linesOf text)) (

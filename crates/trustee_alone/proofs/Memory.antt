@@ -9,7 +9,7 @@ use lib.Dec.{T, eqb}
 use lib.ListN.{length, replicate, length-append, length-replicate}
 use lib.Seq.{sets, length-sets}
 use borrow.Author.Tests.{eqb-true}
-use Rattle.basics.specs.Lists.{all}
+use Rattle.basics.specs.Lists.{all, member}
 use Rattle.gates.specs.Gate.{gatesOf}
 use Rattle.gates.specs.Board.{conditionalCount}
 use Rattle.jury.specs.declared.shape.Shape.{Shape}
@@ -36,7 +36,7 @@ use Rattle.trustee_alone.proofs.Sizes.{fit}
 
 pub start-number : (s : Shape) (table : List ℕ) (t p : ℕ) (shares triples ws published : List ℕ) (r : Reason)
     → startOutcome s table t p shares triples ws published ≡ refused r → T (hasNumberIn startReasonNumbers r)
-unfolding startOutcome startReasons ownReasons All all hasNumberIn reasonAt
+unfolding startOutcome startReasons ownReasons All all member reasonAt
 start-number s table t p shares triples ws published =
     let ns = startReasonNumbers in
     refused-number ns (startReasons s table t p shares triples ws published) (sizeOf (gatesOf table))
@@ -46,7 +46,7 @@ start-number s table t p shares triples ws published =
 pub round-number : (s : Shape) (table : List ℕ) (t p round : ℕ) (levels triples heard ws published : List ℕ)
     (r : Reason) → roundOutcome s table t p round levels triples heard ws published ≡ refused r
     → T (hasNumberIn roundReasonNumbers r)
-unfolding roundOutcome roundReasons tableReasons All all hasNumberIn reasonAt
+unfolding roundOutcome roundReasons tableReasons All all member reasonAt
 round-number s table t p round levels triples heard ws published =
     let ns = roundReasonNumbers in
     refused-number ns (roundReasons s table t p round levels triples heard ws published)
@@ -64,7 +64,7 @@ round-number s table t p round levels triples heard ws published =
 
 pub finish-number : (s : Shape) (table ws : List ℕ) (r : Reason) → finishOutcome s table ws ≡ refused r
     → T (hasNumberIn finishReasonNumbers r)
-unfolding finishOutcome finishReasons All all hasNumberIn reasonAt
+unfolding finishOutcome finishReasons All all member reasonAt
 finish-number s table ws =
     let ns = finishReasonNumbers in
     refused-number ns (finishReasons s table ws) (sizeOf (gatesOf table))

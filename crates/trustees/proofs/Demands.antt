@@ -7,7 +7,7 @@ use Prim.Native.Nat.{ℕ, _+_, _*_}
 use lib.Dec.{T}
 use lib.ListN.{length, replicate, length-replicate}
 use Rattle.jury.specs.Shape.{mostCandidates}
-use Rattle.basics.specs.Lists.{all}
+use Rattle.basics.specs.Lists.{all, member}
 use Rattle.gates.specs.Gate.{gatesOf}
 use Rattle.jury.specs.Reason.{Reason, reasonAt, firstOf}
 use Rattle.jury.specs.Ballots.{ballotReasons}
@@ -29,14 +29,14 @@ use Rattle.trustees.proofs.Accuracy.{call-accepted, accuracy, own-list}
 use Rattle.trustees.proofs.Hiding.{views-tell-no-more}
 
 parts-all : (k : ℕ) (size : Size) (ballots : List ℕ) (t : ℕ) (lent : PartTables) → All partReasonNumbers (partReasons k size ballots t lent)
-unfolding All partReasons hasNumberIn reasonAt
+unfolding All partReasons member reasonAt
 parts-all k size ballots t lent =
     let ns = partReasonNumbers in
     (unless-fine ns _ 16 tt, (unless-fine ns _ 17 tt, (unless-fine ns _ 18 tt, tt)))
 
 module _ (c : Call) where
   all-fine : All trusteesReasonNumbers (trusteesReasons c)
-  unfolding trusteesReasons all hasNumberIn reasonAt
+  unfolding trusteesReasons all member reasonAt
   all-fine =
       let ns = trusteesReasonNumbers in
       let test = testReasons (c .shape) (c .table) in

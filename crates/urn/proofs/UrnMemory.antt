@@ -7,7 +7,7 @@ use mathlib.Core.List.{List, [], _∷_}
 use Prim.Native.Nat.{ℕ, _+_, _-_}
 use lib.Dec.{T}
 use lib.ListN.{length}
-use Rattle.basics.specs.Lists.{all}
+use Rattle.basics.specs.Lists.{all, member}
 use Rattle.jury.specs.declared.shape.Shape.{Shape}
 use Rattle.jury.specs.Reason.{Reason, reasonAt, unless, firstOf}
 use Rattle.jury.specs.Shape.{isRanking}
@@ -31,13 +31,13 @@ use Rattle.urn.proofs.UrnTheorems.{urn-holds}
 
 -- the reasons of graded ballots are 4, 5 and 6
 ballots-fine : (s : Shape) (xs : List ℕ) → isRanking s ≡ false → All admitReasonNumbers (ballotReasons s xs)
-unfolding all hasNumberIn reasonAt
+unfolding all member reasonAt
 ballots-fine s xs graded =
     ballots-from admitReasonNumbers tt s xs
     (subst (All admitReasonNumbers) (sym (graded-reasons s xs graded)) (wider (6 ∷ []) admitReasonNumbers tt (gradedReasons s xs) (graded-all s xs)))
 
 admit-fine : (k d : ℕ) (f : Facts) (j : ℕ) (x : List ℕ) → gradedShape k d ≡ true → All admitReasonNumbers (admitReasons k d f j x)
-unfolding All admitReasons hasNumberIn reasonAt
+unfolding All admitReasons member reasonAt
 admit-fine k d f j x e =
     let ns = admitReasonNumbers in (
       unless-fine ns _ 1 tt,
@@ -54,7 +54,7 @@ admit-fine k d f j x e =
 
 -- if the shape is not that of a graded jury, the reason is 1
 first-of : (t : Bool) (rest : List (Option Reason)) → t ≡ false → Fine admitReasonNumbers (firstOf (unless t 1 ∷ rest))
-unfolding Fine hasNumberIn reasonAt unless firstOf
+unfolding Fine member reasonAt unless firstOf
 first-of t rest e = subst (λ (t : Bool). Fine admitReasonNumbers (firstOf (unless t 1 ∷ rest))) (sym e) tt
 
 admit-first : (k d : ℕ) (f : Facts) (j : ℕ) (x : List ℕ) (t : Bool) → gradedShape k d ≡ t
@@ -71,14 +71,14 @@ admit-numbered k d f j x r e =
     (admit-first k d f j x (gradedShape k d) refl)
 
 withdraw-numbered : (k d : ℕ) (f : Facts) (j : ℕ) (r : Reason) → withdrawOutcomeBy k d f j ≡ refused r → T (hasNumberIn withdrawReasonNumbers r)
-unfolding withdrawOutcomeBy withdrawReasons All hasNumberIn reasonAt
+unfolding withdrawOutcomeBy withdrawReasons All member reasonAt
 withdraw-numbered k d f j =
     let ns = withdrawReasonNumbers in
     refused-number ns (withdrawReasons k d f j) (f .ballots - 1)
     (unless-fine ns _ 1 tt, (unless-fine ns _ 13 tt, (unless-fine ns _ 14 tt, tt)))
 
 empty-numbered : (k d : ℕ) (table : List ℕ) (r : Reason) → emptyOutcome k d table ≡ refused r → T (hasNumberIn emptyReasonNumbers r)
-unfolding emptyOutcome emptyReasons All hasNumberIn reasonAt
+unfolding emptyOutcome emptyReasons All member reasonAt
 empty-numbered k d table =
     let ns = emptyReasonNumbers in
     refused-number ns (emptyReasons k d table) 0 (unless-fine ns _ 1 tt, (unless-fine ns _ 13 tt, tt))

@@ -22,7 +22,7 @@ admitReasons k d facts juror ballot =
     ∷ unless (goodJuror juror && not (facts .present)) 14
     ∷ (ballotReasons (juryOfOne k d) ballot ++ (unless (not (facts .full)) 15 ∷ []))
 
--- 11 and 12 are of rankings, which get 1.
+-- 11 and 12 never apply: a shape of rankings is refused for 1.
 abbrev pub admitReasonNumbers : List ℕ
 admitReasonNumbers = 1 ∷ 13 ∷ 14 ∷ 4 ∷ 5 ∷ 6 ∷ 15 ∷ []
 

@@ -8,14 +8,14 @@ use mathlib.Core.List.{List}
 use Prim.Native.Nat.{ℕ}
 use native.Mathlib.Omega.{arith}
 use lib.ListN.{length, replicate}
-use Rattle.basics.specs.Lists.{all}
+use Rattle.basics.specs.Lists.{all, member}
 use Rattle.gates.specs.Gate.{gatesOf}
 use Rattle.gates.specs.Wires.{wiresOf}
 use Rattle.gates.specs.Hiding.{Finished}
 use Rattle.jury.specs.declared.shape.Shape.{Shape}
 use Rattle.jury.specs.Shape.{gradedLimits, ballotBytes}
 use Rattle.jury.specs.Reason.{Reason, reasonAt, firstOf}
-use Rattle.tally.specs.Answer.{Outcome, refused, accepted, hasNumberIn, Size, sizeOf}
+use Rattle.tally.specs.Answer.{Outcome, refused, accepted, Size, sizeOf}
 use Rattle.tally.specs.Run.{RunResult, bufferReasons, bufferReasonNumbers, runResultAfter, runResult}
 use Rattle.tally.specs.SaysWhoWins.{SaysWhoWins}
 use Rattle.tally.specs.Memory.{Each}
@@ -84,7 +84,7 @@ module _ (s : Shape) (table urn tape wires board : List ℕ) where
 
 -- the numbers of the reasons of a run on an urn
 urn-run-all : (s : Shape) (table urn tape wires board : List ℕ) → All urnRunReasonNumbers (urnRunReasons s table urn tape wires board)
-unfolding All urnRunReasons all hasNumberIn reasonAt
+unfolding All urnRunReasons all member reasonAt
 urn-run-all s table urn tape wires board =
     let ns = urnRunReasonNumbers in
     let size = sizeOf (gatesOf table) in (
