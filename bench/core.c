@@ -16,12 +16,7 @@ static size_t put(struct outcome s, size_t *answer) {
     return s.reason;
 }
 
-/* With 0 grades the jurors rank the candidates. */
-static int within(size_t k, size_t d, size_t n) {
-    return 1 <= k && k <= 8 && (d == 0 || (2 <= d && d <= 7)) && 1 <= n && n <= 255;
-}
-
-static size_t ballot_bytes(size_t k, size_t d, size_t n) { return n * k * (d ? d : k); }
+static int within(size_t k, size_t d, size_t n) { return 1 <= k && k <= 8 && 2 <= d && d <= 7 && 1 <= n && n <= 255; }
 
 /* ---- writing: the circuit of crates/graded_circuit, gate for gate */
 
@@ -439,7 +434,7 @@ size_t core_write(size_t k, size_t d, size_t n, uint32_t *table, size_t table_le
                   size_t answer_length) {
     if (answer_length < 4)
         return 255;
-    if (!within(k, d, n) || d == 0)
+    if (!within(k, d, n))
         return put(refused(1, 0), answer);
     struct plan p = plan_of((uint32_t)k, (uint32_t)d, (uint32_t)n);
     if (table_length / 4 < (k == 1 ? 1 : list_gates(&p)))
@@ -459,7 +454,7 @@ static int good_operand(int used, uint32_t x, size_t own) { return used ? x < ow
 static struct outcome test(size_t k, size_t d, size_t n, const uint32_t *table, size_t length) {
     if (!within(k, d, n))
         return refused(1, 0);
-    size_t gates = length / 4, own = ballot_bytes(k, d, n);
+    size_t gates = length / 4, own = n * k * d;
     if (length % 4 || gates < k || gates > 1048576)
         return refused(2, 0);
     struct outcome s = {0, 0, gates, 0};
@@ -492,79 +487,13 @@ static size_t first_above_one(const uint8_t *bytes, size_t length) {
     return length;
 }
 
-/* A ranking as bits: row i has those that i is before, column j those that are before j. */
-struct ranking {
-    uint8_t rows[MOST_CANDIDATES], columns[MOST_CANDIDATES];
-};
-
-static inline struct ranking ranking_of(const uint8_t *ballot, size_t k) {
-    struct ranking r;
-    for (size_t i = 0; i < k; i++) {
-        uint32_t row = 0, column = 0;
-        for (size_t j = 0; j < k; j++) {
-            row |= (uint32_t)ballot[i * k + j] << j;
-            column |= (uint32_t)ballot[j * k + i] << j;
-        }
-        r.rows[i] = (uint8_t)row;
-        r.columns[i] = (uint8_t)column;
-    }
-    return r;
-}
-
-/* Bits are left if two are before each other. */
-static inline uint32_t not_asymmetric(const struct ranking *r, size_t k) {
-    uint32_t faults = 0;
-    for (size_t i = 0; i < k; i++)
-        faults |= r->rows[i] & r->columns[i];
-    return faults;
-}
-
-/* Bits are left if i is before j, and a third is not after i and not before j. */
-static inline uint32_t not_weak_order(const struct ranking *r, size_t k) {
-    uint32_t faults = 0;
-    for (size_t i = 0; i < k; i++) {
-        uint32_t row = r->rows[i];
-        for (size_t j = 0; j < k; j++)
-            faults |= -(row >> j & 1u) & ~(row | r->columns[j]);
-    }
-    return faults & ((1u << k) - 1);
-}
-
-static size_t first_not_asymmetric(const uint8_t *ballots, size_t k) {
-    for (size_t at = 0;; at++) {
-        const uint8_t *ballot = ballots + at / (k * k) * (k * k);
-        if (ballots[at] && ballot[at % k * k + at / k % k])
-            return at;
-    }
-}
-
-/* Reasons 11 and 12: all rankings are looked at, and only a refusal looks for the first fault. */
-static struct outcome test_rankings(size_t k, size_t n, const uint8_t *ballots) {
-    uint32_t clash = 0, gap = 0;
-    for (size_t b = 0; b < n; b++) {
-        struct ranking r = ranking_of(ballots + b * k * k, k);
-        clash |= not_asymmetric(&r, k);
-        gap |= not_weak_order(&r, k);
-    }
-    if (clash)
-        return refused(11, first_not_asymmetric(ballots, k));
-    for (size_t b = 0; gap; b++) {
-        struct ranking r = ranking_of(ballots + b * k * k, k);
-        if (not_weak_order(&r, k))
-            return refused(12, b);
-    }
-    return refused(0, 0);
-}
-
-/* Reasons 4 to 6, 11 and 12, or reason 0 if the ballots are accepted. */
+/* Reasons 4 to 6, or reason 0 if the ballots are accepted. */
 static struct outcome test_ballots(size_t k, size_t d, size_t n, const uint8_t *ballots, size_t length) {
-    if (length != ballot_bytes(k, d, n))
+    if (length != n * k * d)
         return refused(4, 0);
     size_t bad = first_above_one(ballots, length);
     if (bad < length)
         return refused(5, bad);
-    if (d == 0)
-        return test_rankings(k, n, ballots);
     for (size_t row = 0; row < n * k; row++) {
         size_t ones = 0;
         for (size_t g = 0; g < d; g++)
@@ -661,45 +590,6 @@ static int comes_before(const uint16_t *a, const uint16_t *b, size_t d, size_t n
     return lower_x > lower_y;
 }
 
-static void judgment(size_t k, size_t d, size_t n, const uint8_t *ballots, size_t *wins) {
-    uint16_t counts[MOST_CANDIDATES][MOST_GRADES] = {{0}};
-    for (size_t b = 0; b < n; b++)
-        for (size_t c = 0; c < k; c++)
-            for (size_t g = 0; g < d; g++)
-                counts[c][g] += ballots[(b * k + c) * d + g];
-    size_t first = 0;
-    for (size_t c = 1; c < k; c++)
-        if (comes_before(counts[c], counts[first], d, n))
-            first = c;
-    for (size_t c = 0; c < k; c++)
-        wins[c] = !memcmp(counts[c], counts[first], d * sizeof *counts[c]);
-}
-
-/* The strengths of the strongest paths by the algorithm of Floyd and Warshall. */
-static void schulze(size_t k, size_t d, size_t n, const uint8_t *ballots, size_t *wins) {
-    (void)d;
-    uint16_t votes[MOST_CANDIDATES][MOST_CANDIDATES] = {{0}}, paths[MOST_CANDIDATES][MOST_CANDIDATES];
-    for (size_t b = 0; b < n; b++)
-        for (size_t i = 0; i < k; i++)
-            for (size_t j = 0; j < k; j++)
-                votes[i][j] += ballots[(b * k + i) * k + j];
-    for (size_t i = 0; i < k; i++)
-        for (size_t j = 0; j < k; j++)
-            paths[i][j] = votes[i][j] > votes[j][i] ? votes[i][j] : 0;
-    for (size_t l = 0; l < k; l++)
-        for (size_t i = 0; i < k; i++)
-            for (size_t j = 0; j < k; j++) {
-                uint16_t way = paths[i][l] < paths[l][j] ? paths[i][l] : paths[l][j];
-                if (i != j && paths[i][j] < way)
-                    paths[i][j] = way;
-            }
-    for (size_t i = 0; i < k; i++) {
-        wins[i] = 1;
-        for (size_t j = 0; j < k; j++)
-            wins[i] &= i == j || paths[j][i] <= paths[i][j];
-    }
-}
-
 size_t core_count(size_t k, size_t d, size_t n, const uint8_t *ballots, size_t ballots_length, size_t *answer,
                   size_t answer_length) {
     if (answer_length < 10)
@@ -711,6 +601,16 @@ size_t core_count(size_t k, size_t d, size_t n, const uint8_t *ballots, size_t b
         answer[2 + i] = 0;
     if (s.reason)
         return s.reason;
-    (d ? judgment : schulze)(k, d, n, ballots, answer + 2);
+    uint16_t counts[8][7] = {{0}};
+    for (size_t b = 0; b < n; b++)
+        for (size_t c = 0; c < k; c++)
+            for (size_t g = 0; g < d; g++)
+                counts[c][g] += ballots[(b * k + c) * d + g];
+    size_t first = 0;
+    for (size_t c = 1; c < k; c++)
+        if (comes_before(counts[c], counts[first], d, n))
+            first = c;
+    for (size_t c = 0; c < k; c++)
+        answer[2 + c] = !memcmp(counts[c], counts[first], d * sizeof *counts[c]);
     return 0;
 }

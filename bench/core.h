@@ -1,5 +1,5 @@
 /* The same work as the core's entry points, in C, with the same tests and the same answers: the benchmark compares the
- * core with it. The answer array is that of c/jugyvaros.h. core_write writes graded lists only. */
+ * core with it. The answer array is that of c/jugyvaros.h. */
 #ifndef CORE_H
 #define CORE_H
 

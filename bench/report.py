@@ -14,7 +14,6 @@ OPS = ["write", "test", "run", "count"]
 GOALS = {"write": 2.0, "test": 1.1, "run": 1.1, "count": 1.1}
 URN_GOAL = 1.2
 TEXT_GOAL = 1.1
-TRUSTEES_GOAL = 1.1
 # The same for eight juries in rounds of 4,096 gates, compared with undivided runs.
 DISPATCH_GOAL = (4096, 1.1)
 # How many times faster 64 juries at once should be; request 2.11 asks for 8.
@@ -125,16 +124,12 @@ def text_table(folder):
 def trustees_table(folder):
     """The tally by 2 and by 5 trustees, and how its time grows between them."""
     times = read_times(folder, 4)
-    rows, above = [], []
+    rows = []
     for (trustees, *numbers), (gates, core, c, ratio) in times.items():
         growth = [f"{core / times[(2, *numbers)][1]:.2f}", f"{trustees / 2:.2f}"]
-        took = [micro(core), micro(c), f"{ratio:.2f}", TRUSTEES_GOAL]
-        rows.append([shape_of(numbers), gates, trustees, *took, *growth])
-        if round(ratio, 2) > TRUSTEES_GOAL:
-            above.append(f"{trustees} at {shape_of(numbers)}")
-    took = ["core, µs", "C, µs", "time ratio", "goal"]
-    columns = ["shape"], ["gates", "trustees", *took, "time / time of 2", "trustees / 2"]
-    return table_of(columns, rows, above)
+        rows.append([shape_of(numbers), gates, trustees, micro(core), micro(c), f"{ratio:.2f}", *growth])
+    columns = ["shape"], ["gates", "trustees", "core, µs", "C, µs", "time ratio", "time / time of 2", "trustees / 2"]
+    return table_of(columns, rows)
 
 
 def dispatch_table(folder):
@@ -163,8 +158,8 @@ def batch_table(folder):
 
 
 def plot(times, counts):
-    """A bar for the time ratio, and a mark for the ratio of instructions, by call and graded shape."""
-    times = {(op, tuple(shape)): row for (op, *shape), row in times.items() if shape[1]}
+    """A bar for the time ratio, and a mark for the ratio of instructions, by call and shape."""
+    times = {(op, tuple(shape)): row for (op, *shape), row in times.items()}
     shapes = sorted({shape for _, shape in times}, key=lambda s: s[0] * s[1] * s[2])
     left, top, height, bar, gap = 60, 40, 260, 22, 30
     group = bar * len(shapes) + gap
@@ -244,7 +239,6 @@ compiled by `gcc -O2`; it makes the same tests.
   change nothing: the core first works out how long the list will be. For a graded list it adds up the sizes of the
   parts; for a ranked list it makes a dry run with an empty table.
 - Instructions are those of one call, counted by callgrind. They are the same in every run.
-- Shapes with 0 grades are rankings. C tests them by rows of bits; it writes no ranked lists.
 """
 
 # Title, text, and the name of the table.

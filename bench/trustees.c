@@ -45,7 +45,7 @@ __attribute__((noinline)) static int tally(size_t k, size_t d, size_t n, const u
                                            const uint8_t *triples, uint8_t *wires, uint8_t *published,
                                            size_t *closing) {
     struct outcome s = test(k, d, n, table, 4 * gates);
-    size_t I = ballot_bytes(k, d, n), C = s.conditional, W = I + gates, D = 3 * C, P = 2 * C + k, i = 0;
+    size_t I = n * k * d, C = s.conditional, W = I + gates, D = 3 * C, P = 2 * C + k, i = 0;
     if (s.reason || test_ballots(k, d, n, ballots, I).reason || !dealing_is_good(t, I, C, ballots, shares, triples))
         return 0;
     for (size_t p = 0; p < t; p++)
@@ -84,7 +84,7 @@ __attribute__((noinline)) static int tally(size_t k, size_t d, size_t n, const u
     return 1;
 }
 
-static const size_t shapes[][3] = {{2, 3, 3}, {5, 6, 100}, {8, 7, 255}, {5, 0, 31}};
+static const size_t shapes[][3] = {{2, 3, 3}, {5, 6, 100}, {8, 7, 255}};
 
 static struct jury j;
 static size_t trustees, sizes[4], closing[2][8];

@@ -37,18 +37,13 @@
  * The rest of the array is not touched. A refusal changes the answer array and nothing else. If the answer array is
  * shorter than the function needs, it returns JUGY_SHORT_ANSWER and changes nothing, not even that array.
  *
- * Time: an accepted run, on ballots, on an urn, in rounds, for 64 juries or by trustees, takes the same instructions,
- * branches and addresses for all ballots, tapes, shares and triples of one shape and list, as this library's compiler
- * made it. That is tested, not proved. It is not promised of jugy_count, nor of the order in an urn's chains. The time
- * of a refusal may tell the place of the fault, as its answer does.
- *
  * What the caller must guarantee; the proofs rely on it, and no function can test it:
  *   - each pointer is valid, during the call, for as many elements as the length after it says: for reading if it is
  *     const, else for reading and writing; it is aligned for its type, and not NULL, even if the length is 0
  *   - a buffer that is not const overlaps no other buffer of the same call
  *   - during the call no other thread writes to the buffers, nor reads those that are not const
- * The functions hold no state: calls with different buffers may run at the same time. They allocate nothing, and call
- * only memcpy and memset of the C library. */
+ * The functions hold no state: calls with different buffers may run at the same time. They call no other library and
+ * allocate nothing. */
 #ifndef JUGYVAROS_H
 #define JUGYVAROS_H
 
@@ -59,13 +54,8 @@
 extern "C" {
 #endif
 
-/* The version of the header, the library and the wrappers: a number that #if compares, two digits for each part but the
- * first, and a text. */
-#define JUGY_VERSION_NUMBER 100
-#define JUGY_VERSION "0.1.0"
-
 /* The reasons, and what their place counts. A call makes the tests that apply to it, in the order 19, 20, 1, 13, 14, 2,
- * 23, 3, 24, 4, 5, 6 for grades or 11 and 12 for rankings, 15, 16 to 18, 7 to 10, 200 to 204. */
+ * 23, 3, 24, 4, 5, 6 for grades or 11 and 12 for rankings, 15, 16 to 18, 7 to 10. */
 #define JUGY_ACCEPTED 0
 #define JUGY_SHAPE 1            /* k, d or n is outside its limits */
 #define JUGY_TABLE 2            /* writing: the table is too short; otherwise: not k to 1,048,576 whole gates */
@@ -82,8 +72,8 @@ extern "C" {
 #define JUGY_URN 13             /* the urn is not sound */
 #define JUGY_JUROR 14           /* the juror is not 1 to 255, or is already in (admission), or not in (withdrawal) */
 #define JUGY_FULL_URN 15        /* the urn has no free slot */
-#define JUGY_TRUSTEES 16        /* there are fewer than 2 or more than 5 trustees, or no such trustee among them */
-#define JUGY_PART_TABLES 17     /* one of the trustees' tables has the wrong length */
+#define JUGY_TRUSTEES 16        /* there are fewer than 2 or more than 5 trustees */
+#define JUGY_PART_TABLES 17     /* one of the trustees' four tables has the wrong length */
 #define JUGY_DEALING 18         /* a share is neither 0 nor 1, or shares do not add up to a ballot byte or product */
 #define JUGY_JURIES 19          /* there are no juries, or more than 8 */
 #define JUGY_GATES_PER_ROUND 20 /* gates_per_round is 0 or above 65,536 */
@@ -106,7 +96,7 @@ extern "C" {
 #define JUGY_TEXT_ANSWER 3
 #define JUGY_URN_ANSWER 3
 #define JUGY_TRUSTEES_ANSWER 12
-#define JUGY_DISPATCH_ANSWER 10 /* jugy_dispatch and jugy_dispatch_round */
+#define JUGY_DISPATCH_ANSWER 10
 
 /* Measures the shape's own list, the circuit that the core generates for it: answer[2] is G, its gates, answer[3] is
  * C, its conditional gates, answer[4] is I, the ballot bytes. Reason 1. */
@@ -248,9 +238,8 @@ size_t jugy_run_urn(size_t candidates, size_t grades, size_t ballot_count, const
  * call only.
  *
  * This function takes the plain ballots and the pieces of all trustees, and does every trustee's work in one place.
- * So its caller knows the ballots, and so does the dealer: run it only if the jurors trust the unit, and let no
- * trustee call it. For trustees who keep their shares to themselves, see jugy_trustee_start below; docs/TRUSTEES.md
- * says who is trusted with what, and what somebody who does not follow the protocol can do. */
+ * So its caller knows the ballots, and so does the dealer: run it only where the jurors trust the unit, and let no
+ * trustee call it. For trustees who keep their shares to themselves, see jugy_trustee_start below. */
 
 /* Runs a list on ballots that trustees hold in shares: answer[2] is G, answer[3] is C, answer[4 + i], for i below 8, is
  * the sum modulo 2 of candidate i's closing bits, which is its closing byte in a plain run, or 0 if there is no
@@ -279,31 +268,14 @@ size_t jugy_trustees(size_t candidates, size_t grades, size_t ballot_count, cons
  * piece begins where the one before it ends, as the headers say: a tape that is not C bytes long shifts the next
  * jury's tape, and no test can tell. Whatever follows the last pieces is not touched.
  *
- * answer[2 + j], for j below 8, is the number of rounds in which jury j was given a gate, G_j / gates_per_round rounded
- * up, or 0 if there is no jury j. Each jury's board is that of jugy_run on its pieces, and its wires are all zero.
- * Reasons 19 and 20, then those of a run, one jury after another; the place is the jury. If a table is too short for a
- * piece, the piece counts as empty, which gives 2, 4, 7, 9 or 10. */
+ * answer[2 + j], for j below 8, is jury j's number of rounds, G_j / gates_per_round rounded up, or 0 if there is no
+ * jury j. Each jury's board is that of jugy_run on its pieces, and its wires are all zero. Reasons 19 and 20, then
+ * those of a run, one jury after another; the place is the jury. If a table is too short for a piece, the piece counts
+ * as empty, which gives 2, 4, 7, 9 or 10. */
 size_t jugy_dispatch(size_t juries, size_t gates_per_round, const size_t *headers, size_t headers_length,
                      const uint32_t *lists, size_t lists_length, const uint8_t *ballots, size_t ballots_length,
                      const uint8_t *tapes, size_t tapes_length, uint8_t *wires, size_t wires_length, uint8_t *boards,
                      size_t boards_length, size_t *answer, size_t answer_length);
-
-/* One round of jugy_dispatch as a call of its own, so that a short jury's board can be published while a long jury
- * still runs. Call it for round 0, 1, .. with the same arguments, and leave the tables as they are in between. Round r
- * gives each jury its gates from r gates_per_round on; the ballots are put into the wires with the first gate, and the
- * closing bytes onto the board with the last. It works on whatever wires and boards hold: nothing tells it what was
- * called before.
- *
- * answer[2 + j], for j below 8, is jury j's number of gates done after this round, or 0 if there is no jury j. If it
- * is G_j, its board is that of jugy_run on its pieces. The wires stay filled: they are secret, so overwrite them with
- * zeros after the last round, and also if you stop before. Reasons as for jugy_dispatch, then 204. */
-#define JUGY_NO_ROUND 204     /* all juries have done all their gates before this round */
-
-size_t jugy_dispatch_round(size_t juries, size_t gates_per_round, size_t round, const size_t *headers,
-                           size_t headers_length, const uint32_t *lists, size_t lists_length, const uint8_t *ballots,
-                           size_t ballots_length, const uint8_t *tapes, size_t tapes_length, uint8_t *wires,
-                           size_t wires_length, uint8_t *boards, size_t boards_length, size_t *answer,
-                           size_t answer_length);
 
 /* Levels (beyond the customers' requests, as are reasons from 200 on). A wire's level is its multiplicative depth: 0
  * for a ballot byte; for a gate the largest level of its operands, plus one if it is conditional. R, the rounds of a
@@ -322,36 +294,24 @@ size_t jugy_levels(size_t candidates, size_t grades, size_t ballot_count, const 
 
 /* A trustee on its own machine (beyond the customers' requests). jugy_trustees takes the tables of all trustees; these
  * three calls take those of one, who learns nothing from the others but opened sums. The t trustees, 2 to 5, are
- * numbered from 0. Each starts; then all do the rounds 0, 1, .. R together, each once. Before each round they are told
- * the sums, modulo 2, of what all have published so far. After round R the sums of the k closing bits are the closing
- * bytes. No call adds up: the caller does. Together they publish what jugy_trustees does, in R + 1 exchanges. The
- * caller keeps one trustee's tables between calls:
- *   ballot_shares  I bytes, its share of each ballot byte. Secret: wipe them after the start
- *   triples        3 C bytes, its shares of u, v and u v for each conditional gate in order. Secret: wipe them after
- *                  round R
+ * numbered from 0. Each starts; then all do the rounds 0, 1, .. R together. Before each round they are told the sums,
+ * modulo 2, of what all have published so far. After round R the sums of the k closing bits are the closing bytes.
+ * Together they publish what jugy_trustees does, in R + 1 exchanges. The caller keeps one trustee's tables between
+ * calls:
+ *   ballot_shares  I bytes, its share of each ballot byte
+ *   triples        3 C bytes, its shares of u, v and u v for each conditional gate in order
  *   levels         G numbers, the list's levels, which jugy_levels writes
  *   heard          2 C bytes, the two opened sums of each conditional gate in order, 0 if not known yet
  *   wires          I + G bytes, its shares of all wires. They are secret; jugy_trustee_finish empties them
- *   published      2 C + k bytes: both masked factors of each conditional gate in order, JUGY_NOT_YET until the round
- *                  before its level; then the k closing bits, JUGY_NOT_YET until round R. The bits are what a trustee
- *                  may send. This table is also the trustee's state: keep it, and change nothing in it
- * Each byte of ballot_shares, triples, heard and, in a round, wires is 0 or 1: a round refuses wires with another byte
- * by reason 18. No single trustee can tell whether shares add up.
- *
- * A round is accepted only in its turn: 0 after the start, then each next one; after round R and after the finish none
- * is. So no place is published twice, and whoever tells a trustee other sums cannot make it answer again. What no lent
- * table can show is an old copy of the tables, or a second start with the same triples: both use masks twice, which
- * reveals wires. Store wires and published before you send anything, and after a crash deal anew. Zeroed triples are
- * bits too: a start takes them, and its factors would go out without a mask. Use a dealing for one tally only. */
+ *   published      2 C + k bytes: both masked factors of each conditional gate in order, 0 until the round before its
+ *                  level; then the k closing bits, 0 until round R. This is what a trustee may send
+ * Each byte of ballot_shares, triples and heard is 0 or 1. No single trustee can tell whether shares add up. Use a
+ * dealing for one tally only. */
 #define JUGY_ROUND 201        /* the round is above R */
 #define JUGY_HEARD 202        /* the sums heard are not 2 C bits */
-#define JUGY_OUT_OF_TURN 203  /* it is not this round's turn: published is not as the round finds it; place: the byte */
 
-/* What a place of `published` holds until its round. */
-#define JUGY_NOT_YET 2
-
-/* Trustee number `trustee` of `trustees` starts: wires are its ballot shares, then zeros; published is all
- * JUGY_NOT_YET. answer[2] is G, answer[3] is C; JUGY_RUN_ANSWER numbers. Reasons 1, 2, 3, 16, 17 (the length of a
+/* Trustee number `trustee` of `trustees` starts: wires are its ballot shares, then zeros; published is all zero.
+ * answer[2] is G, answer[3] is C; JUGY_RUN_ANSWER numbers. Reasons 1, 2, 3, 16 (no such trustee), 17 (the length of a
  * table), 18 (a share above 1). */
 size_t jugy_trustee_start(size_t candidates, size_t grades, size_t ballot_count, const uint32_t *table,
                           size_t table_length, size_t trustees, size_t trustee, const uint8_t *ballot_shares,
@@ -361,20 +321,17 @@ size_t jugy_trustee_start(size_t candidates, size_t grades, size_t ballot_count,
 
 /* Does round `round`: each gate of this level gets the trustee's share of its wire, each conditional gate of the next
  * level publishes, and round R publishes the closing bits. answer[2] is G, answer[3] is C, answer[4] is R;
- * JUGY_LEVELS_ANSWER numbers. Reasons 1, 2, 3, 16, 17, 18 (of triples and wires), 200 (not the list's levels), 201,
- * 202, 203: the places of conditional gates of levels up to `round` must hold bits, all others JUGY_NOT_YET. */
+ * JUGY_LEVELS_ANSWER numbers. Reasons 1, 2, 3, 16, 17, 18 (of triples), 200 (not the list's levels), 201, 202. */
 size_t jugy_trustee_round(size_t candidates, size_t grades, size_t ballot_count, const uint32_t *table,
                           size_t table_length, size_t trustees, size_t trustee, size_t round, const uint32_t *levels,
                           size_t levels_length, const uint8_t *triples, size_t triples_length, const uint8_t *heard,
                           size_t heard_length, uint8_t *wires, size_t wires_length, uint8_t *published,
                           size_t published_length, size_t *answer, size_t answer_length);
 
-/* Empties the shares of the wires, and turns each JUGY_NOT_YET that is left into 0, so that no round is accepted
- * afterwards. It is accepted at any time. answer[2] is G, answer[3] is C; JUGY_RUN_ANSWER numbers. Reasons 1, 2, 3,
- * 17. */
+/* Empties the shares of the wires. answer[2] is G, answer[3] is C; JUGY_RUN_ANSWER numbers. Reasons 1, 2, 3, 17. */
 size_t jugy_trustee_finish(size_t candidates, size_t grades, size_t ballot_count, const uint32_t *table,
-                           size_t table_length, uint8_t *wires, size_t wires_length, uint8_t *published,
-                           size_t published_length, size_t *answer, size_t answer_length);
+                           size_t table_length, uint8_t *wires, size_t wires_length, size_t *answer,
+                           size_t answer_length);
 
 #ifdef __cplusplus
 }

@@ -7,12 +7,7 @@ fn main() {
         Some(folder) => PathBuf::from(folder),
         None => PathBuf::from(env!("CARGO_MANIFEST_DIR")).join("../target/staticlib"),
     };
-    let library = folder.join("libjugyvaros.a");
-    println!("cargo:rerun-if-changed={}", library.display());
-    if !library.is_file() {
-        eprintln!("{} is missing: run tools/library, or set JUGYVAROS_LIB to its folder", library.display());
-        std::process::exit(1);
-    }
+    println!("cargo:rerun-if-changed={}", folder.join("libjugyvaros.a").display());
     println!("cargo:rustc-link-search=native={}", folder.display());
     println!("cargo:rustc-link-lib=static=jugyvaros");
 }

@@ -19,7 +19,6 @@ from running import flat, random_gates
 
 MOST_SIZE = 2 ** 64 - 1
 TABLES = ("lists", "ballots", "tapes", "wires", "boards")
-ROUND_REASONS = {*range(1, 13), 19, 20, 204}
 OLD = 9                                                      # what wire tables and boards hold before a call
 
 
@@ -115,49 +114,6 @@ def dispatch(core, call):
     return (reason, place, rounds, arguments[-2].items(), arguments[-1].items())
 
 
-def model_round(call, number):
-    """Reason, place, eight numbers of gates done, wires and boards after a round, whatever bits they hold before."""
-    reason, place, *_ = model(call)
-    refusal = [0] * 8, list(call.wires), list(call.boards)
-    if reason:
-        return (reason, place, *refusal)
-    first, headers = number * call.gates_per_round, call.headers
-    if all(first >= headers[4 * j + 3] for j in range(call.count)):
-        return (204, 0, *refusal)
-    done, wires, boards, at = [], list(call.wires), list(call.boards), dict.fromkeys(TABLES, 0)
-    for j in range(call.count):
-        k, d, n, gates = headers[4 * j:4 * j + 4]
-        inputs, last = doc.ballot_bytes(k, d, n), min(first + call.gates_per_round, gates)
-        own = doc.gates_of(call.lists[at["lists"]:at["lists"] + 4 * gates])
-        base, shown = at["wires"], at["boards"] + doc.conditional_count(own[:first])
-        count = doc.conditional_count(own)
-        if first == 0:
-            wires[base:base + inputs] = call.ballots[at["ballots"]:at["ballots"] + inputs]
-        for g in range(first, last):
-            kind, a, b, c = own[g]
-            if doc.CONDITIONAL[kind]:
-                mask = call.tapes[at["tapes"] + shown - at["boards"]]
-                boards[shown] = (wires[base + a] + mask) % 2
-                shown += 1
-            wires[base + inputs + g] = doc.gate_value(kind, wires[base + a], wires[base + b], wires[base + c])
-        if first < gates == last:
-            closing = at["boards"] + count
-            boards[closing:closing + k] = wires[base + inputs + gates - k:base + inputs + gates]
-        done.append(last)
-        for name, length in zip(TABLES, (4 * gates, inputs, count, inputs + gates, count + k)):
-            at[name] += length
-    return (0, 0, done + [0] * (8 - len(done)), wires, boards)
-
-
-def one_round(core, call, number):
-    """What the library answers and leaves after one round, in the same form."""
-    arguments = lent_to(call)
-    arguments.insert(2, number)
-    said, *values = core.call("jugy_dispatch_round", *arguments, answers=10)
-    reason, place, done = (*values, [0] * 8) if said == "refused" else (0, 0, values)
-    return (reason, place, done, arguments[-2].items(), arguments[-1].items())
-
-
 def bad_juries(jury):
     """The fault's name, and the jury with this one fault, for each fault."""
     def but(**changes):
@@ -250,62 +206,16 @@ class Tests:
             said, _, board = self.core.run((one.k, one.d, one.n), one.list, one.ballots, one.tape, *buffers)
             assert said[0] == "accepted" and board == alone[4]
 
-    def check_round(self, call, number):
-        found = one_round(self.core, call, number)
-        assert found == model_round(call, number), (call.__dict__, number, found)
-        return found
-
-    def rounds(self):
-        """Rounds in a row leave what the single call leaves, but for the wires; a board is whole once all is done."""
-        for _ in range(100):
-            juries = [self.jury() for _ in range(self.rng.randint(1, 8))]
-            call = Call(juries, self.rng.choice((1, 2, 7, 64, 65536)), self.rng.randrange(3))
-            whole, now, number, took = self.check(call), call, 0, [0] * 8
-            while True:
-                reason, _, done, wires, boards = self.check_round(now, number)
-                if reason:
-                    assert reason == 204
-                    break
-                number += 1
-                for j, jury in enumerate(juries):
-                    took[j] = number if not took[j] and done[j] == jury.stated else took[j]
-                    start = sum(other.board for other in juries[:j])
-                    whole_board = whole[4][start:start + jury.board]
-                    assert done[j] < jury.stated or boards[start:start + jury.board] == whole_board
-                now = now.but(wires=wires, boards=boards)
-            assert took == whole[2] and now.boards == whole[4]
-
-    def rounds_on_anything(self):
-        """A round works on whatever bits are there, and refuses what the single call refuses."""
-        for _ in range(200):
-            call = Call([self.jury() for _ in range(self.rng.randint(1, 4))], self.rng.choice((1, 3, 16)))
-            bits = {name: [self.rng.randrange(2) for _ in getattr(call, name)] for name in ("wires", "boards")}
-            self.check_round(call.but(**bits), self.rng.randrange(12))
-        good = self.good.but(wires=[0] * len(self.good.wires), boards=[1] * len(self.good.boards))
-        for number in (0, 1, MOST_SIZE // 2, MOST_SIZE):
-            self.check_round(good, number)
-            for bad in (good.but(count=0), good.but(count=9), good.but(gates_per_round=0),
-                        good.but(gates_per_round=65537), *(good.but(**{name: []}) for name in TABLES)):
-                self.check_round(bad, number)
-        for jury in [self.jury() for _ in range(30)]:
-            for _, bad in bad_juries(jury):
-                self.check_round(Call([self.jury(), bad], 3), 0)
-
     def short_answers(self):
         for call in (self.good, self.good.but(count=0), self.good.but(boards=[])):
             self.core.ignores_short_answers("jugy_dispatch", *lent_to(call), answers=10)
-            arguments = lent_to(call)
-            arguments.insert(2, 0)
-            self.core.ignores_short_answers("jugy_dispatch_round", *arguments, answers=10)
 
 
 def main():
     tests = Tests()
-    for part in (tests.accepted, tests.limits, tests.short_tables, tests.bad_pieces, tests.alone, tests.rounds,
-                 tests.rounds_on_anything, tests.short_answers):
+    for part in (tests.accepted, tests.limits, tests.short_tables, tests.bad_pieces, tests.alone, tests.short_answers):
         part()
-    given = tests.core.saw(dispatch={*range(1, 13), 19, 20}, dispatch_round=ROUND_REASONS)
-    print(f"tests/dispatch.py: {tests.core.calls} calls as expected:", given)
+    print(f"tests/dispatch.py: {tests.core.calls} calls as expected:", tests.core.saw(dispatch={*range(1, 13), 19, 20}))
 
 
 if __name__ == "__main__":

@@ -1,11 +1,8 @@
 """Runs programs of target/bin, and counts comparisons, for tests/rehearsal.py, tests/season.py and tests/tools.py."""
 
-import os
-import pty
 import subprocess
 import sys
 import time
-import tty
 
 from core import ROOT
 
@@ -29,23 +26,6 @@ class Program:
         text = program.stdout.read().decode()
         assert program.wait() == 0
         return text
-
-    def said_before_a_fault(self, data):
-        """What it prints if these bytes can be read and the next read fails: a terminal whose other end is closed."""
-        ours, theirs = pty.openpty()
-        tty.setraw(theirs)
-        os.write(theirs, data)
-        os.close(theirs)
-        with os.fdopen(ours, "rb", buffering=0) as end:
-            return subprocess.run([self.path], stdin=end, stdout=subprocess.PIPE, check=True).stdout.decode()
-
-    def said_of_a_folder(self):
-        """What it prints if already the first read fails: a folder cannot be read."""
-        folder = os.open(ROOT, os.O_RDONLY)
-        try:
-            return subprocess.run([self.path], stdin=folder, stdout=subprocess.PIPE, check=True).stdout.decode()
-        finally:
-            os.close(folder)
 
 
 class Comparisons:
@@ -75,11 +55,6 @@ class Comparisons:
             ends = [0, *way, len(data)]
             pieces = [data[start:end] for start, end in zip(ends, ends[1:])]
             self.compare("in pieces", program.said_in_pieces(pieces), expected(data))
-
-    def failed_reads(self, program, data):
-        """A program prints nothing if a read fails, at once or after this input, which it would accept."""
-        self.compare("a folder as input", program.said_of_a_folder(), "")
-        self.compare("a read that fails after the input", program.said_before_a_fault(data), "")
 
     def end(self, name):
         """Prints how many there were, and ends the test."""

@@ -10,24 +10,19 @@ built.
 """
 
 import array
-import copy
 import doctest
 import importlib
 import inspect
 import itertools
 import os
 import pathlib
-import pickle
 import pkgutil
 import random
-import re
 import shutil
 import subprocess
 import sys
 import tempfile
-import threading
 
-import randomness
 import reference as doc
 from core import ROOT
 from levels import depths
@@ -35,11 +30,9 @@ from random_juries import random_ballots
 from running import flat, random_gates
 
 import jugyvaros
-from jugyvaros import _header, jury_file
 from jugyvaros import (Dealing, GateList, Jury, Refused, Shape, Trustee, Urn, batch, count, deal, dispatch, fresh_tape,
                        library, tally)
 from jugyvaros.reasons import ADVICE, REASONS
-from jugyvaros.trustee import heard
 
 HUGE = 2 ** 64
 SEEN = set()
@@ -169,8 +162,7 @@ def bad_lists():
     refused(6, 0, good.run, bytes([1, 1, 0, 1]))
     refused(7, 0, good.run, ballots, b"\1")
     refused(8, 1, good.run, ballots, [0, 2])
-    for number in (2 ** 32, -1):
-        wrong(GateList, shape, [number, 0, 0, 0] * 2)
+    wrong(GateList, shape, [2 ** 32, 0, 0, 0] * 2, error=OverflowError)
     # a buffer of the wrong type, or a wrong number of arguments, never reaches the function
     words = array.array("I", ballots)
     for given in ((*shape, words), (*shape, 7), (*shape, ballots, ballots), (2, 2, ballots), (2, 2, ballots, 1)):
@@ -235,12 +227,12 @@ def urns(rng):
 
 def bad_urns():
     urn, ballot = Urn(2, 2, 3), bytes([1, 0, 0, 1])
-    wrong(urn.run)
+    refused(1, 0, urn.run)                                   # an empty urn has no ballots, so its shape has n = 0
     for bad in ((0, 2), (2, 0), (9, 2), (2, 8), (HUGE + 2, 2), (-1, -2)):
         refused(1, 0, Urn, *bad)
         refused(1, 0, Urn.from_bytes, *bad, b"")
     for slots in (0, 1, 257, HUGE, -3):
-        wrong(Urn, 2, 2, slots)
+        refused(13, 0, Urn, 2, 2, slots)
     refused(13, 0, Urn.from_bytes, 2, 2, bytes(urn)[:-1])
     refused(13, 0, Urn.from_bytes, 2, 2, b"\1" * 18)
     for juror in (0, 256, HUGE + 1, -1):
@@ -283,33 +275,25 @@ def trustees(rng):
 
 
 def apart(rng):
-    """Separate trustees publish what the tally by all of them does, each round once and in order."""
+    """Separate trustees publish what the tally by all of them does, and a round above the last is refused."""
     for shape, number in itertools.product(SHAPES, (2, 5)):
         gates, ballots = GateList.own(shape), bytes(random_ballots(rng, *shape))
         dealing, opened = deal(gates, ballots, number), 2 * gates.conditional
         trustees = [Trustee(gates, number, place) for place in range(number)]
         for trustee, shares, triples in zip(trustees, *dealing):
             trustee.start(shares, triples)
-            wrong(trustee.start, shares, triples, error=RuntimeError)
-        told = bytes(opened)
+        sums = bytes(opened)
         for turn in range(gates.levels + 1):
-            assert {trustee.next_round for trustee in trustees} == {turn}
-            said = [trustee.round(turn, told) for trustee in trustees]
-            added = heard(gates, said)
-            told = added.sums
-            asked_twice(trustees[-1], told, said[-1])
+            said = [trustee.round(turn, sums[:opened]) for trustee in trustees]
+            sums = bytes(sum(bits) % 2 for bits in zip(*said))
         together = tally(gates, ballots, dealing)
-        assert said == together.published and added.closing == together.closing
-        assert added.winners == count(shape, ballots) == together.winners
-        refused(201, 0, trustees[0].round, gates.levels + 1, told)
-        refused(202, 0, trustees[0].round, 0, told + b"\0")
+        assert said == together.published and sums[opened:] == together.closing
+        refused(201, 0, trustees[0].round, gates.levels + 1, sums[:opened])
+        refused(202, 0, trustees[0].round, 0, sums[:opened] + b"\0")
         for trustee in trustees:
             assert trustee.rounds == gates.levels
             trustee.finish()
-            trustee.finish()
             assert not any(trustee._wires) and not any(trustee._triples)
-            wrong(trustee.start, dealing.ballot_shares[0], dealing.triples[0], error=RuntimeError)
-        asked_twice(trustees[0], told, said[0])
     for number, place in ((1, 0), (6, 0), (3, 3), (HUGE, 0), (3, -1)):
         refused(16, 0, Trustee(gates, number, place).start, dealing.ballot_shares[0], dealing.triples[0])
     one = Trustee(gates, 3, 0)
@@ -317,38 +301,6 @@ def apart(rng):
     refused(17, 0, one.start, dealing.ballot_shares[0], dealing.triples[0] + b"\0")
     refused(18, 0, one.start, b"\2" + dealing.ballot_shares[0][1:], dealing.triples[0])
     assert not any(one._wires) and not any(one._triples)
-    refused(203, 0, one.round, 0, bytes(opened))
-    with one:
-        one.start(dealing.ballot_shares[0], dealing.triples[0])
-        held = one._triples
-        # a trustee that is ahead of the others, and one piece too few
-        said = one.round(0, bytes(opened)), bytes([2] * (opened + gates.shape.candidates))
-        refused(203, len(said[0]) + first_bit(said[0]), heard, gates, said)
-        refused(17, 0, heard, gates, [said[0][1:], said[1] + b"\2"])
-        refused(16, 0, heard, gates, said[:1])
-    assert not any(held) and not any(one._wires) and 2 not in one._published
-    gone = Trustee(gates, 3, 0)
-    gone.start(dealing.ballot_shares[0], dealing.triples[0])
-    held = gone._triples, gone._wires
-    del gone
-    assert not any(map(any, held))
-
-
-def first_bit(published):
-    """The first place where something is published."""
-    return next(place for place, byte in enumerate(published) if byte < 2)
-
-
-def asked_twice(trustee, told, said):
-    """Whoever asks for a round again, or too early, is refused, whatever sums they tell, and nothing changes."""
-    levels = [level for gate, level in zip(trustee.gates, trustee._levels) if doc.CONDITIONAL[gate.kind]]
-    turn = trustee.rounds + 1 if trustee.next_round is None else trustee.next_round
-    for other in {0, turn - 1, turn + 1} & set(range(trustee.rounds + 1)) - {turn}:
-        due = [level <= other for level in levels for _ in range(2)] + [False] * trustee.gates.shape.candidates
-        place = next(place for place, byte in enumerate(said) if (byte < 2) != due[place])
-        for sums in (told, bytes(1 - bit for bit in told)):
-            refused(203, place, trustee.round, other, sums)
-    assert bytes(trustee._published) == said and trustee.next_round == (None if turn > trustee.rounds else turn)
 
 
 def dispatched(rng):
@@ -409,128 +361,6 @@ def batches(rng):
     wrong(batch, gates, [good] * 2, [tape])
 
 
-class Untouched:
-    """Nothing reaches the core while this is in force."""
-
-    def __enter__(self):
-        self.function, library.function = library.function, self.reached
-
-    @staticmethod
-    def reached(name):
-        raise AssertionError(f"{name} is reached")
-
-    def __exit__(self, *_):
-        library.function = self.function
-
-
-def misused(rng):
-    """A number, a text, a float or nothing where bytes are meant, and a number that is not whole, are TypeErrors, and
-    do not reach the core. An int must never become as many zeros: as a tape these would mask nothing."""
-    shape = Shape(2, 3, 3)
-    gates, ballots = GateList.own(shape), bytes(random_ballots(rng, *shape))
-    tape, urn, one = bytes(gates.conditional), Urn(2, 3), bytes([1, 0, 0, 0, 1, 0])
-    urn.admit(1, one)
-    dealing, trustee, of_urn = deal(gates, ballots, 2), Trustee(gates, 2, 0), GateList.own(urn.shape)
-    shares, triples = dealing
-    takes_bytes = [
-        lambda x: count(shape, x), lambda x: gates.run(x), lambda x: gates.counterpart(x, tape, ballots),
-        lambda x: gates.counterpart(ballots, x, ballots), lambda x: gates.counterpart(ballots, tape, x),
-        lambda x: Urn.from_bytes(2, 3, x), lambda x: urn.admit(2, x), lambda x: urn.preview_admit(2, x),
-        lambda x: deal(gates, x, 2), lambda x: tally(gates, x, dealing),
-        lambda x: tally(gates, ballots, Dealing([x, *shares[1:]], triples)),
-        lambda x: tally(gates, ballots, Dealing(shares, [*triples[:-1], x])),
-        lambda x: trustee.start(x, triples[0]), lambda x: trustee.start(shares[0], x), lambda x: trustee.round(0, x),
-        lambda x: dispatch([Jury(gates, x)]), lambda x: batch(gates, [x]), lambda x: batch(gates, [ballots, x]),
-        lambda x: jury_file.parse(x),
-    ]
-    takes_tapes = [
-        lambda x: gates.run(ballots, x), lambda x: urn.run(of_urn, x),
-        lambda x: dispatch([Jury(gates, ballots, x)]), lambda x: batch(gates, [ballots], [x]),
-    ]
-    takes_numbers = [
-        lambda x: Shape(x, 3, 3), lambda x: Shape(2, x, 3), lambda x: Shape(2, 3, x),
-        lambda x: shape.encode([[1, x]] * 3), lambda x: Shape(2, 0, 1).encode([[x, 1]]),
-        lambda x: GateList(shape, [x, 0, 0, 0] * 2), lambda x: Urn(x, 3), lambda x: Urn(2, x), lambda x: Urn(2, 3, x),
-        lambda x: urn.admit(x, one), lambda x: urn.withdraw(x), lambda x: urn.preview_admit(x, one),
-        lambda x: urn.preview_withdraw(x), lambda x: Urn.from_bytes(x, 3, bytes(urn)),
-        lambda x: deal(gates, ballots, x), lambda x: Trustee(gates, x, 0), lambda x: Trustee(gates, 2, x),
-        lambda x: trustee.round(x, bytes(2 * gates.conditional)), lambda x: dispatch([Jury(gates, ballots)], x),
-        lambda x: fresh_tape(x), lambda x: gates.run([x] * len(ballots)),
-        lambda x: gates.run(ballots, [x] * len(tape)),
-    ]
-    numbers = [0, 18, gates.conditional, 1.5, True, "1" * len(tape), {0: 1}, {0, 1}, array.array("I", [0, 1])]
-    with Untouched():
-        for functions, bad in ((takes_bytes, [*numbers, None]), (takes_tapes, numbers),
-                               (takes_numbers, [1.0, 1.5, "1", None, b"1"])):
-            for function, given in itertools.product(functions, bad):
-                wrong(function, given, error=TypeError)
-        for given in (5, 1.5, None, [1.5], {"2 0"}):
-            wrong(GateList.from_text, shape, given, error=TypeError)
-        for given in (bytes(32), "0" * 8, bytearray(32), 8, None):
-            wrong(GateList, shape, given, error=TypeError)
-        wrong(batch, gates, ballots, error=TypeError)
-        wrong(gates.run, [256] * len(ballots))
-        wrong(gates.run, [-1] * len(ballots))
-    # whatever holds bytes is taken
-    for kind in (bytearray, memoryview, list, tuple, lambda data: array.array("B", data)):
-        assert gates.run(kind(ballots), kind(tape)) == gates.run(ballots, tape)
-    assert "place" not in str(refused(19, 0, dispatch, []))
-    major, minor, patch = map(int, jugyvaros.__version__.split("."))
-    header = (ROOT / "c/jugyvaros.h").read_text()
-    assert f"#define JUGY_VERSION_NUMBER {10000 * major + 100 * minor + patch}\n" in header
-    assert f'version = "{jugyvaros.__version__}"\n' in (ROOT / "rust/Cargo.toml").read_text()
-
-
-def threads():
-    """Four threads admit and withdraw different jurors, 10,000 admissions in all: none is lost and none is refused."""
-    urn, ballot, faults = Urn(8, 7), Shape(8, 7, 1).encode([[1, 2, 3, 4, 5, 6, 7, 1]]), []
-
-    def work(first):
-        try:
-            for _ in range(50):
-                for juror in range(first, first + 50):
-                    urn.admit(juror, ballot)
-                assert set(range(first, first + 50)) <= set(urn.jurors) and urn.shape.ballots <= 200
-                for juror in range(first, first + 50):
-                    urn.withdraw(juror)
-            urn.admit(first, ballot)
-        except Exception as error:
-            faults.append(error)
-
-    before = sys.getswitchinterval()
-    sys.setswitchinterval(1e-6)
-    workers = [threading.Thread(target=work, args=(first,)) for first in (1, 51, 101, 151)]
-    for worker in workers:
-        worker.start()
-    for worker in workers:
-        worker.join()
-    sys.setswitchinterval(before)
-    assert not faults and set(urn.jurors) == {1, 51, 101, 151}, (faults[:3], urn.jurors)
-    twin = copy.deepcopy(urn)
-    twin.withdraw(1)
-    assert len(urn) == 4 and len(twin) == 3 and bytes(pickle.loads(pickle.dumps(urn))) == bytes(urn)
-
-
-# The constant of the header that says how long each function's answer is.
-ANSWERS = {"jugy_run_urn": "RUN", "jugy_run_batch": "RUN", "jugy_write_text": "TEXT", "jugy_read_text": "TEXT",
-           "jugy_trustee_start": "RUN", "jugy_trustee_round": "LEVELS", "jugy_trustee_finish": "RUN",
-           "jugy_dispatch_round": "DISPATCH",
-           "jugy_empty_urn": "URN", "jugy_admit": "URN", "jugy_withdraw": "URN", "jugy_preview_admit": "URN",
-           "jugy_preview_withdraw": "URN"}
-
-
-def answers():
-    """Each function's constant in the header is as long as its answer: one number fewer is too short."""
-    header = (ROOT / "c/jugyvaros.h").read_text()
-    lengths = {name: int(length) for name, length in re.findall(r"#define JUGY_(\w+)_ANSWER (\d+)", header)}
-    for name, codes in _header.SIGNATURES.items():
-        length = lengths[ANSWERS.get(name, name[len("jugy_"):].upper())]
-        room = array.array("L", [7] * length)
-        given = [x for code in codes[:-1] for x in ([0] if code == "n" else [room.buffer_info()[0], 0])]
-        said = [library.function(name)(*given, room.buffer_info()[0], long) for long in (length - 1, length)]
-        assert said[0] == library.SHORT_ANSWER != said[1], (name, length, said)
-
-
 def python(program, folder, **variables):
     """Runs a program in Python in another folder, with JUGYVAROS_LIBRARY set only if it is given."""
     plain = {name: value for name, value in os.environ.items() if name != "JUGYVAROS_LIBRARY"}
@@ -549,8 +379,7 @@ def emptied():
     bad, dealing, inputs = b"\1" * 8, deal(gates, ballots, 2), shape.inputs
     calls = [
         (gates.run, [(ballots,), (bad,)], [gates.conditional]),
-        (dispatch, [([Jury(gates, ballots)],), ([Jury(gates, bad)],)],
-         [gates.conditional, inputs, gates.conditional, inputs + len(gates)]),
+        (dispatch, [([Jury(gates, ballots)],), ([Jury(gates, bad)],)], [inputs, gates.conditional, gates.conditional]),
         (batch, [(gates, [ballots]), (gates, [bad])], [inputs, gates.conditional]),
         (tally, [(gates, ballots, dealing), (gates, bad, dealing)], [2 * inputs, 6 * gates.conditional]),
     ]
@@ -595,7 +424,7 @@ echo 'rt: c_tally proved (2 s)'
 echo 'rt: ok, 3 crates proved'
 """
 FAKE_LIBRARY = """#!/bin/sh
-mkdir -p target/staticlib && cp {archive} target/staticlib/ && cp {shared} target/staticlib/
+mkdir -p target/staticlib && cp {archive} target/staticlib/
 echo 'rt: target/staticlib/libc_tally.a has its functions'
 """
 PROGRESS = """rt: gates proved (1 s)
@@ -610,7 +439,7 @@ def built():
         folder = pathlib.Path(name)
         shutil.copytree(ROOT / "python/jugyvaros", folder / "python/jugyvaros")
         archive = ROOT / "target/staticlib/libjugyvaros.a"
-        scripts = {"tools/library": FAKE_LIBRARY.format(archive=archive, shared=library.path()), "bin/rt": FAKE_RT}
+        scripts = {"tools/library": FAKE_LIBRARY.format(archive=archive), "bin/rt": FAKE_RT}
         for path, text in {**scripts, "crates.txt": "gates:\nc_tally: gates\n", "crates/gates/src/lib.rt": ""}.items():
             (folder / path).parent.mkdir(parents=True, exist_ok=True)
             (folder / path).write_text(text)
@@ -648,15 +477,11 @@ def built():
 def main():
     rng = random.Random(33)
     documented()
-    for part in (shapes, lists, counterparts, urns, trustees, apart, dispatched, batches, misused):
+    for part in (shapes, lists, counterparts, urns, trustees, apart, dispatched, batches):
         part(rng)
     bad_lists()
-    threads()
-    answers()
-    randomness.runs()
-    randomness.dealings()
     # 9, 10, 24 and 200 are about tables that the package makes itself; 21 and 22 are the season sheet's
-    assert SEEN == {*range(1, 9), *range(11, 21), 23, 201, 202, 203}, sorted(SEEN)
+    assert SEEN == {*range(1, 9), *range(11, 21), 23, 201, 202}, sorted(SEEN)
     emptied()
     installed()
     built()

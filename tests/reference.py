@@ -10,7 +10,7 @@ MOST_GATES = 1_048_576
 OPERANDS = {0: 0, 1: 0, 2: 1, 3: 1, 4: 2, 5: 2, 6: 2, 7: 3}
 CONDITIONAL = {0: False, 1: False, 2: False, 3: False, 4: True, 5: True, 6: False, 7: True}
 
-# The smallest number that is not a kind.
+# The smallest number that is no kind.
 NO_KIND = len(OPERANDS)
 
 

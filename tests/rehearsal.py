@@ -46,31 +46,22 @@ TEXTS = [
     ("grades 2 : a\n2\n", bytes([1, 2, 1, 0, 1])),
     ("grades 2: a b\n1\n", "-: line 2: 1 grades, but the names have 2"),
     ("grades 2\n1 2\n1\n", "-: line 3: 1 grades, but the ballots before have 2"),
-    ("grades 2: a a\n1 1\n", "-: line 1, column 13: two candidates"),
+    ("grades 2: a a\n1 1\n", "-: line 1: two candidates"),
     ("grades 2:\n1 1\n", "-: line 1: 'grades' and a colon are followed"),
     ("grades 2: a b c d e f g h i\n1\n", "-: line 1: 'grades' and a colon are followed"),
-    ("grades: a b\n1 1\n", "-: line 1, column 1: the first line"),
+    ("grades: a b\n1 1\n", "-: line 1: the first line"),
     ("", "-: line 1: the file has no jury"),
-    ("\ufeffgrades 2\r\n1\r\n", bytes([1, 2, 1, 1, 0])),
-    ("grades 2\n1 2\f2 1\n", "-: line 2, column 4: the control character \\x0c"),
-    ("grades 2\n1 2 # \u20282 1\n", "-: line 2, column 7: the control character \\u2028"),
-    ("grades 2\n1\r2\n", "-: line 2, column 2: the control character \\r"),
-    ("grades 2: a\x1b[31m b\n1 2\n", "-: line 1, column 12: the control character \\x1b"),
-    ("grades 2: \u202ea\u202c b\n1 3\n", "-: line 2, column 3: a grade"),
-    ("grades 2\n1 " + "9" * 5000, "-: line 2, column 3: '" + "9" * 60 + "…' is too large"),
-    ("grades 2\n1 " + "x" * 2 ** 20, "-: line 2, column 3: '" + "x" * 60 + "…' is not a number"),
-    ("grades 2\n1 -1\n", "-: line 2, column 3: '-1' is not a number"),
-    ("grades 2\n1 ²\n", "-: line 2, column 3: '²' is not a number"),
-    ("ranking a b\na > c\n", "-: line 2, column 5: 'c' is not one"),
-    ("ranking a b\na > a\n", "-: line 2, column 5: 'a' is named twice"),
-    ("ranking a b\na > > b\n", "-: line 2, column 5: '' is not one"),
-    ("ranking a a\na\n", "-: line 1, column 11: two candidates"),
+    ("\ufeffgrades 2\n1\n", "-: line 1: begins with a byte-order mark"),
+    ("ranking a b\na > c\n", "-: line 2: 'c' is not one"),
+    ("ranking a b\na > a\n", "-: line 2: 'a' is named twice"),
+    ("ranking a b\na > > b\n", "-: line 2: '' is not one"),
+    ("ranking a a\na\n", "-: line 1: two candidates"),
     ("ranking\na\n", "-: line 1: 'ranking' is followed"),
     ("ranking a b c d e f g h i\na\n", "-: line 1: 'ranking' is followed"),
     ("ranking a\n", "-: line 1: no ballot"),
     ("ranking a\n" + "a\n" * 256, "-: line 257: there are at most 255"),
-    ("ranks a\na\n", "-: line 1, column 1: the first line"),
-    ("grades 2\n1 3\n", "-: line 2, column 3: a grade is 1 to 2"),
+    ("ranks a\na\n", "-: line 1: the first line"),
+    ("grades 2\n1 3\n", "-: line 2: a grade is 1 to 2"),
 ]
 
 
@@ -180,7 +171,6 @@ def main():
     for data in [jury(rng, 2, 3, 3), jury(rng, 3, 5, 15), jury(rng, 8, 7, 3), jury(rng, 4, 0, 6)]:
         each_byte = range(1, min(40, len(data)) + 1)
         compared.in_pieces(PROGRAM, data, expected, [rng.randrange(len(data))], [1, 2, 4], each_byte)
-    compared.failed_reads(PROGRAM, jury(rng, 2, 3, 3))
     for name, wanted in EXAMPLES.items():
         data = subprocess.run([ROOT / "tools" / "jury", ROOT / "examples" / f"{name}.txt"], stdout=subprocess.PIPE,
                               check=True).stdout

@@ -146,7 +146,6 @@ def main():
     compared.inputs(PROGRAM, inputs(rng), expected, {21, 22})
     for data in [random_sheet(rng, 3), random_sheet(rng, 4096), random_sheet(rng, 4097)]:
         compared.in_pieces(PROGRAM, data, expected, [rng.randrange(len(data))], [1, 13], range(1, 37))
-    compared.failed_reads(PROGRAM, random_sheet(rng, 2))
     compare("the largest totals", expected(run_bytes(8, 7, 255, 255, LARGEST, LARGEST) * 4096),
             "runs 4096\ngates 17592186040320\nconditional 17592186040320\nballots 1044480\nshared 4096\n")
     tools_agree(compare)

@@ -7,9 +7,7 @@ Also: names of winners on a terminal and the program's own bytes elsewhere, boar
 that makes them so, pages that fetch nothing, and names that look like HTML.
 """
 
-import csv
 import html.parser
-import io
 import os
 import pathlib
 import pty
@@ -18,13 +16,13 @@ import tempfile
 import xml.etree.ElementTree
 
 from core import ROOT
-from jugyvaros import GateList, Shape, __version__, jury_file
+from jugyvaros import GateList, jury_file
 from jugyvaros.reasons import ADVICE, REASONS
 from programs import Comparisons, Program
 
 EXAMPLES = ROOT / "examples"
 NAMED, CLOSE = EXAMPLES / "named-blends.txt", EXAMPLES / "close-call.txt"
-TOOLS = ("board", "fair", "jury", "list", "rehearse", "season")
+TOOLS = ("board", "jury", "list", "rehearse", "season")
 # Calls that are wrong: status 2.
 MISUSED = [
     ["board"], ["board", NAMED], ["board", NAMED, CLOSE, CLOSE], ["board", "--nonsense"],
@@ -69,8 +67,6 @@ def manners(compare):
     for name in TOOLS:
         run = tool(name, "--help")
         compare(f"{name} --help", (run.returncode, run.stderr), (0, b""))
-        said = tool(name, "--version").stdout.decode()
-        compare(f"{name} --version", said, f"tools/{name} {__version__}\n")
         compare(f"{name}'s help", lacks(run.stdout.decode(), [f"usage: tools/{name}"]), [])
     for arguments in MISUSED:
         run = tool(*arguments)
@@ -226,61 +222,6 @@ def seasons(compare, folder):
     compare("nothing to append", (run.returncode, one_line("season", run)), (1, True))
 
 
-def kept_seasons(compare, folder):
-    """A season's runs in order, as a list and as a table; the last one taken off; a damaged file mended; its limit."""
-    season, one, shared = folder / "kept", b"jury 3 5 7\nwinners 0 1 0\n", b"jury 2 3 3\nwinners 1 1\n"
-    for data in (one, shared, one):
-        compare("a run", (tool("season", "append", season, data=data).returncode), 0)
-    data, many = season.read_bytes(), Shape(3, 5, 7).measure()
-    lines = tool("season", "list", season).stdout.decode().splitlines()
-    compare("the list", [line.split(";")[1] for line in lines],
-            [" blend 1 wins", " blend 0 and blend 1 share the win", " blend 1 wins"])
-    words = tool("season", "sheet", "-", data=data).stdout.decode()
-    compare("one is shared", lacks(words, ["3 runs with 17 ballots", "1 of the runs ended in a shared win"]), [])
-    rows = list(csv.DictReader(io.StringIO(tool("season", "export", season).stdout.decode())))
-    compare("the table", [(row["run"], row["winners"], row["shared"]) for row in rows],
-            [("0", "1", "0"), ("1", "0 1", "1"), ("2", "1", "0")])
-    sizes = [str(many.gates), str(many.conditional)]
-    compare("its first row", list(rows[0].values())[1:], ["3", "5", "7", "1", "0", *sizes])
-    compare("undo", (tool("season", "undo", season).stdout[:24], season.read_bytes()),
-            (b"taken off: the last run:", data[:24]))
-    season.write_bytes(data[:12] + bytes(12) + data[24:] + b"cut")
-    refused = tool("season", "sheet", season)
-    compare("damaged", (refused.returncode, lacks(refused.stderr.decode(), ["season repair"])), (1, []))
-    compare("mended", (tool("season", "repair", season).returncode, season.read_bytes()), (0, data[:12] + data[24:]))
-    compare("a copy", (folder / "kept.damaged").read_bytes(), data[:12] + bytes(12) + data[24:] + b"cut")
-    compare("again", tool("season", "repair", season).stdout, b"nothing to repair\n")
-    season.write_bytes(data[:12] * 4095)
-    statuses = [tool("season", "append", season, data=one).returncode for _ in range(2)]
-    compare("4,096 runs and no more", (statuses, season.read_bytes()), ([0, 1], data[:12] * 4096))
-    for path in (folder / "link", folder / "plain"):
-        path.symlink_to(season) if path.name == "link" else path.write_bytes(b"")
-        path.chmod(0o640)
-        tool("season", "undo" if path.name == "link" else "append", path, data=one)
-        kept = path.stat().st_mode & 0o777, path.is_symlink()
-        compare(f"{path.name} keeps its rights", kept, (0o640, path.name == "link"))
-
-
-def names(compare, folder):
-    """Blends are matched by name, whatever their order; other names are refused; names are safe to print."""
-    texts = {"ab": "grades 3: lime yuzu\n1 2\n1 3\n", "ba": "grades 3: yuzu lime\n3 1\n2 1\n",
-             "xy": "grades 3: a b\n1 2\n1 3\n", "none": "grades 3\n1 2\n1 3\n",
-             "bad": "grades 3: li\u202eme yuzu\n1 2\n1 3\n",
-             "long": f"grades 3: {'z' * 500} yuzu\n1 2\n1 3\n"}
-    for name, text in texts.items():
-        (folder / name).write_text(text)
-    run = tool("board", folder / "ab", folder / "ba")
-    compare("another order", (run.returncode, lacks(run.stdout.decode(), ["lime wins"])), (0, []))
-    compare("their tapes", "differ at 0 places" in run.stdout.decode(), False)
-    for other, words in (("xy", "the blends are a and b, not lime and yuzu"), ("none", "only one of the files names")):
-        run = tool("board", folder / "ab", folder / other)
-        compare(f"{other}", (run.returncode, run.stdout, lacks(run.stderr.decode(), [words])), (1, b"", []))
-    for name, words in (("bad", "li\\u202eme wins"), ("long", f"{'z' * 60}… wins")):
-        run = tool("board", folder / name, folder / name, "--html", folder / "page")
-        compare(name, (run.returncode, lacks(run.stdout.decode(), [words])), (0, []))
-        compare(f"{name} on a page", lacks((folder / "page").read_text(), ["\u202e", "z" * 61]), ["\u202e", "z" * 61])
-
-
 def main():
     compared = Comparisons()
     manners(compared.compare)
@@ -288,8 +229,6 @@ def main():
     with tempfile.TemporaryDirectory() as folder:
         boards(compared.compare, pathlib.Path(folder))
         seasons(compared.compare, pathlib.Path(folder))
-        kept_seasons(compared.compare, pathlib.Path(folder))
-        names(compared.compare, pathlib.Path(folder))
     compared.end("tests/tools.py")
 
 

@@ -12,9 +12,8 @@ Grades are counted by majority judgment, rankings (grades=0) by Schulze's rule. 
 tested, lends it buffers of the right lengths. `jugyvaros.library` says where it looks for the core's shared object.
 """
 
-from ._header import VERSION
 from .batch import batch
-from .dispatch import Dispatched, Jury, dispatch, finishing
+from .dispatch import Dispatched, Jury, dispatch
 from .gates import Board, Gate, GateList, fresh_tape
 from .reasons import Refused
 from .repository import NotBuilt
@@ -23,8 +22,7 @@ from .trustee import Trustee
 from .trustees import Dealing, Tally, deal, tally
 from .urn import Urn
 
-__version__: str = VERSION
 __all__ = [
     "Board", "Dealing", "Dispatched", "Gate", "GateList", "Jury", "Measure", "NotBuilt", "Refused", "Shape", "Tally",
-    "Trustee", "Urn", "batch", "count", "deal", "dispatch", "finishing", "fresh_tape", "tally",
+    "Trustee", "Urn", "batch", "count", "deal", "dispatch", "fresh_tape", "tally",
 ]

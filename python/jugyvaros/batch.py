@@ -6,7 +6,6 @@ import array
 import secrets
 from collections.abc import Sequence
 
-from .checks import as_bytes
 from .gates import Board, GateList
 from .library import call, wipe
 from .reasons import Refused
@@ -19,7 +18,6 @@ def batch(gates: GateList, juries: Sequence[bytes], tapes: Sequence[bytes] | Non
 
     If ballots are refused, the place of the refusal is the first jury with the fault.
     """
-    juries = [as_bytes(jury, f"jury {place}") for place, jury in enumerate(juries)]
     if not 1 <= len(juries) <= LANES:
         raise ValueError(f"a batch has 1 to {LANES} juries, not {len(juries)}")
     words = pack(juries, gates.shape.inputs, 4, 5)
@@ -28,7 +26,6 @@ def batch(gates: GateList, juries: Sequence[bytes], tapes: Sequence[bytes] | Non
     elif len(tapes) != len(juries):
         raise ValueError(f"{len(juries)} juries need {len(juries)} tapes, not {len(tapes)}")
     else:
-        tapes = [as_bytes(tape, f"tape {place}") for place, tape in enumerate(tapes)]
         masks = pack(tapes, gates.conditional, 7, 8)
     wires = array.array("Q", bytes(8 * (gates.shape.inputs + len(gates))))
     board = array.array("Q", bytes(8 * (gates.conditional + gates.shape.candidates)))

@@ -3,10 +3,9 @@
 from __future__ import annotations
 
 import array
-from collections.abc import Iterator, Sequence
+from collections.abc import Sequence
 from typing import NamedTuple
 
-from .checks import as_bytes, whole
 from .gates import Board, GateList, fresh_tape
 from .library import call, wipe
 from .reasons import Refused
@@ -30,75 +29,34 @@ class Dispatched(NamedTuple):
     rounds: int
 
 
-class _Lent:
-    """The tables that the core is lent for these juries: in each, the juries' pieces follow each other."""
-
-    def __init__(self, juries: Sequence[Jury]) -> None:
-        juries = [Jury(jury.gates, bytes(as_bytes(jury.ballots, f"jury {place}'s ballots")), jury.tape)
-                  for place, jury in enumerate(juries)]
-        tapes = [fresh_tape(jury.gates.conditional) if jury.tape is None else
-                 bytearray(as_bytes(jury.tape, f"jury {place}'s tape")) for place, jury in enumerate(juries)]
-        self.bad = _first_misfit(juries, tapes)
-        # if a jury's piece has the wrong length, the core gets an empty one instead, and no later jury: so it tests
-        # all earlier juries in order, and this one up to that piece
-        lent = list(juries) if self.bad is None else list(juries[:self.bad + 1])
-        self.number = len(juries) if len(juries) > MOST_JURIES else len(lent)
-        self.ballots = bytearray().join(_whole(jury.ballots, jury.gates.shape.inputs) for jury in lent)
-        self.masks = bytearray().join(_whole(tape, jury.gates.conditional) for tape, jury in zip(tapes, lent))
-        self.headers = array.array("L", [n for jury in lent for n in (*jury.gates.shape, len(jury.gates))])
-        self.lists = array.array("I")
-        for jury in lent:
-            self.lists.extend(jury.gates.table)
-        self.wires = bytearray(sum(jury.gates.shape.inputs + len(jury.gates) for jury in lent))
-        self.boards = bytearray(sum(jury.gates.conditional + jury.gates.shape.candidates for jury in lent))
-        wipe(*tapes)
-
-    def call(self, name: str, *numbers: int) -> Sequence[int]:
-        """Calls the core, and returns a number for each jury."""
-        found = call(name, self.number, *numbers, self.headers, self.lists, self.ballots, self.masks, self.wires,
-                     self.boards, answers=10, place_of="the jury")
-        if self.bad is not None:
-            # the list has no conditional gate, so the core accepted the empty tape that replaced a longer one
-            raise Refused(7, self.bad, "the jury")
-        return found
-
-    def wipe(self) -> None:
-        """Overwrites what is secret."""
-        wipe(self.ballots, self.masks, self.wires)
-
-
 def dispatch(juries: Sequence[Jury], gates_per_round: int = GATES_PER_ROUND) -> list[Dispatched]:
     """Runs 1 to 8 juries in rounds; in each round every unfinished jury does up to `gates_per_round` of its gates.
 
     If one jury is refused, none runs: the refusal has the first reason of the first bad jury, and that jury as place.
     """
-    share = whole(gates_per_round, "gates_per_round")
-    lent = _Lent(juries)
+    tapes = [fresh_tape(jury.gates.conditional) if jury.tape is None else bytearray(jury.tape) for jury in juries]
+    bad = _first_misfit(juries, tapes)
+    # if a jury's piece has the wrong length, the core gets an empty one instead, and no later jury: so it tests all
+    # earlier juries in order, and this one up to that piece
+    lent = list(juries) if bad is None else list(juries[:bad + 1])
+    ballots = bytearray().join(_whole(jury.ballots, jury.gates.shape.inputs) for jury in lent)
+    masks = bytearray().join(_whole(tape, jury.gates.conditional) for tape, jury in zip(tapes, lent))
+    headers = array.array("L", [number for jury in lent for number in (*jury.gates.shape, len(jury.gates))])
+    table = array.array("I")
+    for jury in lent:
+        table.extend(jury.gates.table)
+    wires = bytearray(sum(jury.gates.shape.inputs + len(jury.gates) for jury in lent))
+    boards = bytearray(sum(jury.gates.conditional + jury.gates.shape.candidates for jury in lent))
+    number = len(juries) if len(juries) > MOST_JURIES else len(lent)
     try:
-        rounds = lent.call("jugy_dispatch", share)
+        rounds = call("jugy_dispatch", number, gates_per_round, headers, table, ballots, masks, wires, boards,
+                      answers=10, place_of="the jury")
     finally:
-        lent.wipe()
-    return [Dispatched(board, number) for board, number in zip(_cut(juries, lent.boards), rounds)]
-
-
-def finishing(juries: Sequence[Jury], gates_per_round: int = GATES_PER_ROUND) -> Iterator[tuple[int, Dispatched]]:
-    """Runs 1 to 8 juries in rounds, and yields each jury's number with its board as soon as it is finished.
-
-    So a short jury is there while a long one still runs. Refusals are those of `dispatch`, before the first jury. If
-    you stop before the end, close the iterator: ballots, tapes and wires are overwritten then, as they are at the end.
-    """
-    share = whole(gates_per_round, "gates_per_round")
-    lent = _Lent(juries)
-    try:
-        done, round_number = [0] * len(juries), 0
-        while round_number == 0 or any(had < len(jury.gates) for had, jury in zip(done, juries)):
-            before, done = done, lent.call("jugy_dispatch_round", share, round_number)
-            round_number += 1
-            for place, (jury, board) in enumerate(zip(juries, _cut(juries, lent.boards))):
-                if before[place] < done[place] == len(jury.gates):
-                    yield place, Dispatched(board, round_number)
-    finally:
-        lent.wipe()
+        wipe(ballots, masks, *tapes)
+    if bad is not None:
+        # the list has no conditional gate, so the core accepted the empty tape that replaced a longer one
+        raise Refused(7, bad, "the jury")
+    return _cut(juries, boards, rounds)
 
 
 def _whole(piece: bytes | bytearray, length: int) -> bytes | bytearray:
@@ -114,12 +72,12 @@ def _first_misfit(juries: Sequence[Jury], tapes: Sequence[bytearray]) -> int | N
     return None
 
 
-def _cut(juries: Sequence[Jury], boards: bytearray) -> list[Board]:
-    """Each jury's board."""
+def _cut(juries: Sequence[Jury], boards: bytearray, rounds: Sequence[int]) -> list[Dispatched]:
+    """Each jury's part of the answer."""
     found, at = [], 0
-    for jury in juries:
+    for jury, number in zip(juries, rounds):
         closing = at + jury.gates.conditional
         end = closing + jury.gates.shape.candidates
-        found.append(Board(bytes(boards[at:closing]), bytes(boards[closing:end])))
+        found.append(Dispatched(Board(bytes(boards[at:closing]), bytes(boards[closing:end])), number))
         at = end
     return found

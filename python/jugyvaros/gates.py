@@ -5,15 +5,13 @@ from __future__ import annotations
 import array
 import secrets
 from collections.abc import Iterable, Iterator
-from typing import NamedTuple, Optional
+from typing import NamedTuple, Union
 
-from .checks import Bytes, as_bytes, kind_of, whole
 from .library import Buffer, call, wipe
 from .shape import Shape, winners_of
 
 # Enough for any line of a list as text: four numbers of up to ten digits, three spaces and a line feed.
 LONGEST_LINE = 44
-MOST_NUMBER = 2 ** 32 - 1
 
 
 class Gate(NamedTuple):
@@ -42,7 +40,7 @@ class Board(NamedTuple):
 
 def fresh_tape(length: int) -> bytearray:
     """Secret random bits, a byte each. Use them for one run only."""
-    return bytearray(secrets.token_bytes(whole(length, "the length"))).translate(_LOWEST_BIT)
+    return bytearray(secrets.token_bytes(length)).translate(_LOWEST_BIT)
 
 
 _LOWEST_BIT = bytes(number & 1 for number in range(256))
@@ -62,7 +60,7 @@ class GateList:
     def __init__(self, shape: Shape, numbers: Iterable[int]) -> None:
         """Takes a list, whoever wrote it, four numbers a gate: kind, a, b, c. Raises Refused if it does not fit."""
         self.shape = Shape(*shape)
-        self._table = _numbers(numbers)
+        self._table = array.array("I", numbers)
         self.conditional = call("jugy_test", *self.shape, self._table, answers=4)[1]
 
     @classmethod
@@ -75,7 +73,7 @@ class GateList:
     @classmethod
     def from_text(cls, shape: Shape, text: bytes | str) -> GateList:
         """Reads a list from text: one gate a line, its kind and the operands that it uses."""
-        data = text.encode("utf-8") if isinstance(text, str) else bytes(as_bytes(text, "text"))
+        data = text.encode("utf-8") if isinstance(text, str) else bytes(text)
         table = array.array("I", bytes(16 * (data.count(b"\n") + 1)))
         length = call("jugy_read_text", *shape, data, table, answers=3)[0]
         return cls(shape, table[:length])
@@ -115,17 +113,17 @@ class GateList:
         table = array.array("I", bytes(4 * len(self)))
         return call("jugy_levels", *self.shape, self._table, table, answers=5)[2]
 
-    def run(self, ballots: Bytes, tape: Tape = None) -> Board:
+    def run(self, ballots: bytes, tape: Tape = None) -> Board:
         """Runs the list on a jury's ballots. The board may be published.
 
         Without a tape the run uses a fresh secret one and forgets it. A tape of your own has a byte of 0 or 1 for each
         conditional gate. It has to be random, secret and used once: otherwise the board reveals more than the winners.
         """
-        return self.run_by("jugy_run", bytes(as_bytes(ballots, "ballots")), tape)
+        return self.run_by("jugy_run", bytes(ballots), tape)
 
     def run_by(self, name: str, ballots: Buffer, tape: Tape) -> Board:
         """Runs the list by an exported function that takes the same buffers as `jugy_run`."""
-        masks = fresh_tape(self.conditional) if tape is None else bytearray(as_bytes(tape, "tape"))
+        masks = fresh_tape(self.conditional) if tape is None else bytearray(tape)
         wires = bytearray(self.shape.inputs + len(self))
         board = bytearray(self.conditional + self.shape.candidates)
         try:
@@ -134,29 +132,13 @@ class GateList:
             wipe(masks)
         return Board(bytes(board[:self.conditional]), bytes(board[self.conditional:]))
 
-    def counterpart(self, ballots: Bytes, tape: Bytes, others: Bytes) -> bytes | None:
+    def counterpart(self, ballots: bytes, tape: bytes, others: bytes) -> bytes | None:
         """The one tape under which a run on `others` leaves the same board as a run on `ballots` under `tape`. None if
         the winners differ: then there is no such tape."""
-        given, masks, other = as_bytes(ballots, "ballots"), as_bytes(tape, "tape"), as_bytes(others, "others")
-        board, unmasked = self.run(given, masks), self.run(other, bytes(self.conditional))
+        board, unmasked = self.run(ballots, tape), self.run(others, bytes(self.conditional))
         if board.closing != unmasked.closing:
             return None
         return bytes(shown ^ wire for shown, wire in zip(board.shown, unmasked.shown))
 
 
-def _numbers(numbers: Iterable[int]) -> array.array[int]:
-    """A list's numbers as a table. Raw bytes would be read as numbers of four bytes each, so they are not taken."""
-    if isinstance(numbers, (str, bytes, bytearray, memoryview)):
-        raise TypeError(f"a list's numbers must be whole numbers, not {kind_of(numbers)}")
-    if isinstance(numbers, array.array) and numbers.typecode == "I":
-        return numbers[:]
-    table = array.array("I")
-    for place, item in enumerate(numbers):
-        number = whole(item, f"number {place} of the list")
-        if not 0 <= number <= MOST_NUMBER:
-            raise ValueError(f"number {place} of the list is {number}; a gate's numbers are 0 to {MOST_NUMBER:,}")
-        table.append(number)
-    return table
-
-
-Tape = Optional[Bytes]
+Tape = Union[bytes, bytearray, Iterable[int], None]

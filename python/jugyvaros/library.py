@@ -13,13 +13,11 @@ import ctypes
 import functools
 import os
 import pathlib
-import threading
 from collections.abc import Callable
 from typing import Any, Union
 
 from . import repository
 from ._header import SIGNATURES
-from .checks import kind_of
 from .reasons import Refused
 from .repository import NotBuilt
 
@@ -35,8 +33,7 @@ def path() -> pathlib.Path:
     if given:
         if not pathlib.Path(given).is_file():
             raise NotBuilt(f"JUGYVAROS_LIBRARY names {given}, which is not a file; name the core's shared object")
-        # with a slash in its name the file is loaded, not a library of the system that is called the same
-        return pathlib.Path(given).absolute()
+        return pathlib.Path(given)
     if repository.ROOT is not None:
         return repository.shared_object()
     if BUNDLED.exists():
@@ -44,26 +41,9 @@ def path() -> pathlib.Path:
     raise NotBuilt("the core's shared object is missing; set JUGYVAROS_LIBRARY to it, or install again from a checkout")
 
 
-_LOADING = threading.Lock()
-
-
 @functools.lru_cache(maxsize=None)
-def _opened() -> ctypes.CDLL:
-    found = path()
-    try:
-        opened = ctypes.CDLL(str(found))
-    except OSError as error:
-        raise NotBuilt(f"{found} is not a shared library ({error}); name the core's") from None
-    missing = [name for name in SIGNATURES if not hasattr(opened, name)]
-    if missing:
-        raise NotBuilt(f"{found} has no {missing[0]}, so it is not this version of the core; name that one")
-    return opened
-
-
 def _loaded() -> ctypes.CDLL:
-    """The library. If several threads ask for it at once, one of them finds and builds it."""
-    with _LOADING:
-        return _opened()
+    return ctypes.CDLL(str(path()))
 
 
 @functools.lru_cache(maxsize=None)
@@ -89,11 +69,7 @@ def _code(argument: int | Buffer) -> str:
     """The code of an argument, as in SIGNATURES."""
     if isinstance(argument, int):
         return "n"
-    if isinstance(argument, array.array):
-        return argument.typecode
-    if isinstance(argument, (bytes, bytearray)):
-        return "B"
-    raise TypeError(f"the core takes whole numbers, bytes and arrays, not {kind_of(argument)}")
+    return argument.typecode if isinstance(argument, array.array) else "B"
 
 
 def _lent(data: Buffer) -> tuple[Any, int]:

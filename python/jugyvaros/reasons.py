@@ -36,20 +36,14 @@ ADVICE = {
     18: "deal again: all shares are bits, and they add up to the ballots and to the products",
     19: "dispatch 1 to 8 juries at a time",
     20: "take 1 to 65,536 gates per round",
-    21: "`tools/season repair` takes a half-written run off; a season has at most 4,096 runs, so begin a new file then",
-    22: "`tools/season repair` takes that run out, and keeps a copy of the file",
+    21: "a run is 12 bytes; start a new file for the next season",
+    22: "remove that run from the file",
     23: "write a kind and its operands in decimal, single spaces, a line feed after each line",
     24: "pass a longer output buffer",
     200: "use the levels that the core writes for this list",
     201: "rounds are numbered 0 to the list's largest level",
     202: "pass two bits for each conditional gate, 0 if a sum is not known yet",
-    203: "start first, then do the rounds 0, 1 and so on, each once",
-    204: "stop after the round in which the last jury is finished",
 }
-
-
-# Reasons that are about the whole call, whatever its other places count.
-OF_THE_CALL = (19, 20)
 
 
 class Refused(Exception):
@@ -66,7 +60,7 @@ class Refused(Exception):
         super().__init__(number, place, place_of)
         name, words, usual = REASONS.get(number, ("UNKNOWN", "a reason that this version does not know", ""))
         self.number, self.place, self.name, self.words = number, place, name, words
-        self.place_of = usual if place_of is None or number in OF_THE_CALL else place_of
+        self.place_of = usual if place_of is None else place_of
         self.advice = ADVICE.get(number, "")
 
     def __str__(self) -> str:

@@ -5,28 +5,19 @@ An installed package has no sources: there `ROOT` is None and nothing can be bui
 
 from __future__ import annotations
 
-import contextlib
 import os
 import pathlib
 import re
-import signal
 import subprocess
 import sys
-import threading
-from collections.abc import Iterator, Sequence
-from typing import Any, Union
+from collections.abc import Sequence
+from typing import Union
 
 _PARENT = pathlib.Path(__file__).resolve().parents[2]
 _IS_CHECKOUT = (_PARENT / "tools/library").exists() and (_PARENT / "crates.txt").exists()
 ROOT: pathlib.Path | None = _PARENT if _IS_CHECKOUT else None
 Word = Union[str, pathlib.Path]
 LAST_LINES = 20
-# How many seconds a build has to end after it was asked to.
-PATIENCE = 2
-_MISSING = {
-    "rt": "rt is not installed: it is the Rattle toolchain, which proves and builds the core; put it on PATH, or, "
-          "if only the library is needed, set JUGYVAROS_LIBRARY to a shared object built elsewhere",
-}
 # a crate that was proved just now, or its archive
 _PROGRESS = re.compile(r"rt: \w+ proved \(\d|rt: target/")
 
@@ -54,63 +45,22 @@ def _is_older(made: pathlib.Path) -> bool:
 
 
 def _build(*command: Word) -> None:
-    """Runs a build command. Standard error gets a line for each crate that is done, and the last lines of a failure.
-    If this is interrupted, nothing of the build is left running."""
+    """Runs a build command. Standard error gets a line for each crate that is done, and the last lines of a failure."""
     seen = []
     try:
-        with started(command, cwd=root(), stdin=subprocess.DEVNULL, stdout=subprocess.PIPE, stderr=subprocess.STDOUT,
-                     text=True, errors="replace") as process:
-            for line in process.stdout or ():
-                seen.append(line)
-                if _PROGRESS.match(line):
-                    print(line, end="", file=sys.stderr, flush=True)
-            failed = process.wait()
+        process = subprocess.Popen(
+            command, cwd=root(), stdin=subprocess.DEVNULL, stdout=subprocess.PIPE, stderr=subprocess.STDOUT, text=True)
     except FileNotFoundError:
-        raise NotBuilt(_MISSING.get(str(command[0]), f"{command[0]} is not installed; put it on PATH")) from None
-    if failed:
+        missing = f"{command[0]} is not installed, and the core has to be built"
+        raise NotBuilt(f"{missing}; put it on PATH, or set JUGYVAROS_LIBRARY") from None
+    assert process.stdout is not None
+    for line in process.stdout:
+        seen.append(line)
+        if _PROGRESS.match(line):
+            print(line, end="", file=sys.stderr, flush=True)
+    if process.wait():
         sys.stderr.write("".join(seen[-LAST_LINES:]))
         raise NotBuilt(f"{' '.join(map(str, command))} failed; its last lines are above")
-
-
-@contextlib.contextmanager
-def started(command: Sequence[Word], **options: Any) -> Iterator[subprocess.Popen[Any]]:
-    """A program that is ended, with all that it started, if this one is interrupted."""
-    process = None
-    try:
-        with _signals_later():
-            process = subprocess.Popen(command, start_new_session=True, **options)
-        yield process
-    except BaseException:
-        if process is not None:
-            _end(process)
-        raise
-
-
-@contextlib.contextmanager
-def _signals_later() -> Iterator[None]:
-    """A signal that comes meanwhile is handled afterwards: one during `Popen` would leave a program behind."""
-    come: list[int] = []
-    is_main = threading.current_thread() is threading.main_thread()
-    ends = (signal.SIGINT, signal.SIGTERM, signal.SIGHUP) if is_main else ()
-    held = [number for number in ends if callable(signal.getsignal(number))]
-    before = {number: signal.signal(number, lambda number, _: come.append(number)) for number in held}
-    try:
-        yield
-    finally:
-        for number, handler in before.items():
-            signal.signal(number, handler)
-        for number in come:
-            signal.raise_signal(number)
-
-
-def _end(process: subprocess.Popen[Any]) -> None:
-    """Ends a program and all that it started: it has a session of its own."""
-    for number in (signal.SIGTERM, signal.SIGKILL):
-        try:
-            os.killpg(process.pid, number)
-            process.wait(timeout=PATIENCE)
-        except (ProcessLookupError, subprocess.TimeoutExpired):
-            pass
 
 
 def _export_crates() -> Sequence[str]:
@@ -133,9 +83,16 @@ def shared_object() -> pathlib.Path:
     """The archive linked into a shared object, which ctypes can load."""
     source = archive()
     made = source.with_suffix(".so")
-    if not made.exists() or made.stat().st_mtime < source.stat().st_mtime:
-        _build(root() / "tools/library", "--shared")
+    if not made.exists() or made.stat().st_mtime <= source.stat().st_mtime:
+        link(source, made)
     return made
+
+
+def link(source: pathlib.Path, made: pathlib.Path) -> None:
+    """Makes a shared object from an archive. A program that loads it meanwhile never finds a half-written one."""
+    half = made.with_name(f".{made.name}.{os.getpid()}")
+    _build("cc", "-shared", "-o", half, "-Wl,--whole-archive", source, "-Wl,--no-whole-archive")
+    os.replace(half, made)
 
 
 def program(name: str) -> pathlib.Path:

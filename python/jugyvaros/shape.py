@@ -5,7 +5,6 @@ from __future__ import annotations
 from collections.abc import Iterable, Sequence
 from typing import NamedTuple
 
-from .checks import Bytes, as_bytes, whole
 from .library import call
 
 MOST_CANDIDATES, MOST_GRADES, MOST_BALLOTS = 8, 7, 255
@@ -19,24 +18,16 @@ class Measure(NamedTuple):
     inputs: int
 
 
-class _Numbers(NamedTuple):
-    candidates: int
-    grades: int
-    ballots: int
-
-
-class Shape(_Numbers):
+class Shape(NamedTuple):
     """How many candidates, grades (0 for a ranking) and ballots a jury has. The core tests their limits.
 
     >>> Shape(2, 3, 3).inputs
     18
     """
 
-    __slots__ = ()
-
-    def __new__(cls, candidates: int, grades: int, ballots: int) -> Shape:
-        numbers = (candidates, grades, ballots)
-        return super().__new__(cls, *(whole(number, f"the number of {of}") for number, of in zip(numbers, cls._fields)))
+    candidates: int
+    grades: int
+    ballots: int
 
     @property
     def ranked(self) -> bool:
@@ -70,16 +61,15 @@ class Shape(_Numbers):
         for number, ballot in enumerate(ballots):
             if len(ballot) != self.candidates:
                 raise ValueError(f"ballot {number} has {len(ballot)} candidates, not {self.candidates}")
-            marks = [whole(mark, f"each mark of ballot {number}") for mark in ballot]
             if self.ranked:
-                rows += bytes(x < y for x in marks for y in marks)
+                rows += bytes(x < y for x in ballot for y in ballot)
                 continue
-            for grade in marks:
+            for grade in ballot:
                 if not 1 <= grade <= self.grades:
                     raise ValueError(f"ballot {number} has the grade {grade}; grades are 1 to {self.grades}")
                 rows += bytes(place == grade for place in range(1, self.grades + 1))
         if len(rows) != self.inputs:
-            raise ValueError(f"there are {len(rows) // max(1, self.candidates * self.row)} ballots, not {self.ballots}")
+            raise ValueError(f"{self.ballots} ballots are needed")
         return bytes(rows)
 
 
@@ -88,11 +78,11 @@ def winners_of(closing: Iterable[int]) -> tuple[int, ...]:
     return tuple(candidate for candidate, bit in enumerate(closing) if bit)
 
 
-def count(shape: Shape, ballots: Bytes) -> tuple[int, ...]:
+def count(shape: Shape, ballots: bytes) -> tuple[int, ...]:
     """The winners, counted plainly, without a gate list: candidates from 0, in order.
 
     >>> shape = Shape(2, 3, 3)
     >>> count(shape, shape.encode([[1, 2], [2, 2], [2, 3]]))
     (0,)
     """
-    return winners_of(call("jugy_count", *shape, bytes(as_bytes(ballots, "ballots")), answers=10))
+    return winners_of(call("jugy_count", *shape, bytes(ballots), answers=10))

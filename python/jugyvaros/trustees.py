@@ -5,7 +5,6 @@ from __future__ import annotations
 from collections.abc import Sequence
 from typing import NamedTuple
 
-from .checks import Bytes, as_bytes, whole
 from .gates import GateList, fresh_tape
 from .library import call, wipe
 from .shape import winners_of
@@ -42,22 +41,21 @@ def _split(bits: bytes, trustees: int) -> list[bytes]:
     return [*shares, total.to_bytes(len(bits), "big")]
 
 
-def deal(gates: GateList, ballots: Bytes, trustees: int) -> Dealing:
+def deal(gates: GateList, ballots: bytes, trustees: int) -> Dealing:
     """Shares the ballots, and a triple for each conditional gate, among 2 to 5 trustees, with fresh secret bits.
 
     Whoever calls this sees the ballots. In a real tally each juror would share their own ballot, and a dealer the
     triples.
     """
-    number = max(1, min(whole(trustees, "the number of trustees"), 6))
-    shared = _split(bytes(as_bytes(ballots, "ballots")), number)
+    number = max(1, min(trustees, 6))
     first, second = (bytes(fresh_tape(gates.conditional)) for _ in range(2))
     product = bytes(u & v for u, v in zip(first, second))
     columns = [_split(bits, number) for bits in (first, second, product)]
     triples = [bytes(bit for gate in zip(*shares) for bit in gate) for shares in zip(*columns)]
-    return Dealing(shared, triples)
+    return Dealing(_split(bytes(ballots), number), triples)
 
 
-def tally(gates: GateList, ballots: Bytes, dealing: Dealing) -> Tally:
+def tally(gates: GateList, ballots: bytes, dealing: Dealing) -> Tally:
     """Runs a list on the shares of a dealing, doing all trustees' work in one place. The caller sees the ballots.
 
     >>> from jugyvaros import Shape
@@ -67,23 +65,20 @@ def tally(gates: GateList, ballots: Bytes, dealing: Dealing) -> Tally:
     (1,)
     """
     number, inputs = len(dealing.ballot_shares), gates.shape.inputs
-    plain = bytes(as_bytes(ballots, "ballots"))
-    shares = _joined(dealing.ballot_shares, inputs, "ballot shares")
-    triples = _joined(dealing.triples, 3 * gates.conditional, "triples")
+    shares, triples = _joined(dealing.ballot_shares, inputs), _joined(dealing.triples, 3 * gates.conditional)
     held = max(1, min(number, 5))
     wires = bytearray(held * (inputs + len(gates)))
     said = 2 * gates.conditional + gates.shape.candidates
     published = bytearray(held * said)
     try:
-        answer = call("jugy_trustees", *gates.shape, gates.table, plain, number, shares, triples, wires, published,
-                      answers=12)
+        answer = call("jugy_trustees", *gates.shape, gates.table, bytes(ballots), number, shares, triples, wires,
+                      published, answers=12)
     finally:
         wipe(shares, triples)
     closing = bytes(answer[2:2 + gates.shape.candidates])
     return Tally([bytes(published[at:at + said]) for at in range(0, len(published), said)], closing)
 
 
-def _joined(pieces: Sequence[Bytes], length: int, what: str) -> bytearray:
+def _joined(pieces: Sequence[bytes], length: int) -> bytearray:
     """Joins the pieces. If one has the wrong length, returns a single byte instead, whose length the core refuses."""
-    lent = [as_bytes(piece, f"trustee {place}'s {what}") for place, piece in enumerate(pieces)]
-    return bytearray().join(lent) if all(len(piece) == length for piece in lent) else bytearray(1)
+    return bytearray().join(pieces) if all(len(piece) == length for piece in pieces) else bytearray(1)

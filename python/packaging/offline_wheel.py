@@ -16,10 +16,10 @@ import zipfile
 HERE = pathlib.Path(__file__).resolve().parent.parent
 sys.path.insert(0, str(HERE))
 
-from jugyvaros import __version__, library  # noqa: E402  (the package is next to this folder)
+from jugyvaros import library  # noqa: E402  (it is next to this folder)
 
 PROJECT = dict(re.findall(r'^([\w-]+) = "(.*)"$', (HERE / "pyproject.toml").read_text(), re.MULTILINE))
-NAME = f"{PROJECT['name']}-{__version__}"
+NAME = f"{PROJECT['name']}-{PROJECT['version']}"
 PLATFORM = re.sub(r"\W", "_", sysconfig.get_platform())
 
 
@@ -31,7 +31,7 @@ get_requires_for_build_editable = get_requires_for_build_wheel
 
 
 def _metadata():
-    fields = [("Metadata-Version", "2.1"), ("Name", PROJECT["name"]), ("Version", __version__),
+    fields = [("Metadata-Version", "2.1"), ("Name", PROJECT["name"]), ("Version", PROJECT["version"]),
               ("Summary", PROJECT["description"]), ("Requires-Python", PROJECT["requires-python"]),
               ("Description-Content-Type", "text/markdown")]
     return "".join(f"{field}: {value}\n" for field, value in fields) + "\n" + (HERE / "README.md").read_text()

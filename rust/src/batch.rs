@@ -1,7 +1,7 @@
 //! One list run on 64 juries of one shape at once: each number holds a bit for each jury, jury 0 in the lowest.
 //!
 //! [`pack`] and [`unpack`] convert between the bytes of 64 juries and such numbers. All 64 juries are tested and run:
-//! if there are fewer, `pack` fills up with copies of the last.
+//! if you have fewer, fill up with copies.
 
 use crate::calls::c;
 use crate::{count, winners, Board, GateList, JuryRefusal, Reason, Refusal, Secret, Shape, Size};
@@ -11,7 +11,7 @@ use std::io;
 pub const JURIES: usize = 64;
 
 /// Packs the bytes of up to 64 juries into numbers: bit j of number i is byte i of jury j. All juries have the same
-/// number of bytes, each 0 or 1. Copies of the last jury make up 64.
+/// number of bytes, each 0 or 1. Missing juries are all zeros.
 ///
 /// # Panics
 /// If there are more than 64 juries, their lengths differ, or a byte is above 1.
@@ -27,9 +27,6 @@ pub fn pack<T: AsRef<[u8]>>(juries: &[T]) -> Secret<u64> {
             *word |= u64::from(byte) << j;
         }
     }
-    // a 1 of the last jury is carried on to all lanes after it
-    let last = juries.len().saturating_sub(1);
-    words.iter_mut().for_each(|word: &mut u64| *word |= (*word >> last & 1).wrapping_neg() << last);
     words
 }
 

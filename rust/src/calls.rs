@@ -94,10 +94,6 @@ pub(crate) mod c {
             juries: usize, gates_per_round: usize, headers: &[usize], lists: &[u32], ballots: &[u8], tapes: &[u8],
             wires: &mut [u8], boards: &mut [u8]
         ) -> 10;
-        jugy_dispatch_round(
-            juries: usize, gates_per_round: usize, round: usize, headers: &[usize], lists: &[u32], ballots: &[u8],
-            tapes: &[u8], wires: &mut [u8], boards: &mut [u8]
-        ) -> 10;
         jugy_levels(shape: Shape, table: &[u32], levels: &mut [u32]) -> 5;
         jugy_trustee_start(
             shape: Shape, table: &[u32], trustees: usize, trustee: usize, ballot_shares: &[u8], triples: &[u8],
@@ -107,7 +103,7 @@ pub(crate) mod c {
             shape: Shape, table: &[u32], trustees: usize, trustee: usize, round: usize, levels: &[u32],
             triples: &[u8], heard: &[u8], wires: &mut [u8], published: &mut [u8]
         ) -> 5;
-        jugy_trustee_finish(shape: Shape, table: &[u32], wires: &mut [u8], published: &mut [u8]) -> 4;
+        jugy_trustee_finish(shape: Shape, table: &[u32], wires: &mut [u8]) -> 4;
     }
 }
 

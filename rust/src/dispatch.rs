@@ -80,27 +80,6 @@ impl Tables {
     }
 }
 
-impl Tables {
-    /// Does one round, and returns each jury's number of gates done after it.
-    fn round(&mut self, juries: usize, gates_per_round: usize, round: usize) -> Result<[usize; 8], Refusal> {
-        let Tables { headers, lists, ballots, tapes, wires, boards } = self;
-        let [_, _, done @ ..] =
-            c::jugy_dispatch_round(juries, gates_per_round, round, headers, lists, ballots, tapes, wires, boards)?;
-        Ok(done)
-    }
-
-    /// Each jury's board as it is now.
-    fn boards(&self, juries: &[Jury]) -> Vec<Board> {
-        let mut left = self.boards.as_slice();
-        let cut = |jury: &Jury| {
-            let (board, rest) = left.split_at(jury.tape.len() + jury.shape.candidates);
-            left = rest;
-            Board::new(board.to_vec(), jury.tape.len())
-        };
-        juries.iter().map(cut).collect()
-    }
-}
-
 /// Refuses a bad number of juries or of gates per round. Empty tables are refused too, but these reasons come first.
 fn test_call(juries: usize, gates_per_round: usize) -> Result<(), Refusal> {
     match Tables::of(&[]).run(juries, gates_per_round) {
@@ -112,54 +91,22 @@ fn test_call(juries: usize, gates_per_round: usize) -> Result<(), Refusal> {
 /// Runs the juries in rounds of up to `gates_per_round` gates each. Every jury is tested before the tables are made, so
 /// no piece can reach into the next jury's.
 pub fn dispatch(juries: &[Jury], gates_per_round: usize) -> Result<Vec<Finished>, JuryRefusal> {
-    let mut tables = tested(juries, gates_per_round)?;
-    let rounds = tables.run(juries.len(), gates_per_round).map_err(of_jury)?;
-    let finished = tables.boards(juries).into_iter().zip(rounds).map(|(board, rounds)| Finished { rounds, board });
-    Ok(finished.collect())
-}
-
-/// The tables of juries that pass their tests.
-fn tested(juries: &[Jury], gates_per_round: usize) -> Result<Tables, JuryRefusal> {
     test_call(juries.len(), gates_per_round)?;
     for (j, jury) in juries.iter().enumerate() {
         jury.test().map_err(|refusal| JuryRefusal { jury: Some(j), refusal })?;
     }
-    Ok(Tables::of(juries))
-}
-
-/// A refusal whose place is the jury.
-fn of_jury(Refusal { reason, place }: Refusal) -> JuryRefusal {
-    JuryRefusal { jury: Some(place), refusal: Refusal { reason, place: 0 } }
-}
-
-/// The juries as they finish: each jury's number with its board, while longer juries still run. What is secret is
-/// overwritten when this is dropped, at the end or before.
-pub struct Finishing<'a> {
-    juries: Vec<Jury<'a>>,
-    gates_per_round: usize,
-    tables: Tables,
-    round: usize,
-    done: [usize; 8],
-    ready: std::collections::VecDeque<(usize, Finished)>,
-}
-
-impl Iterator for Finishing<'_> {
-    type Item = (usize, Finished);
-
-    fn next(&mut self) -> Option<(usize, Finished)> {
-        while self.ready.is_empty() {
-            // past the last round the core refuses, and that is the end
-            let done = self.tables.round(self.juries.len(), self.gates_per_round, self.round).ok()?;
-            let before = std::mem::replace(&mut self.done, done);
-            self.round += 1;
-            for (j, board) in self.tables.boards(&self.juries).into_iter().enumerate() {
-                if before[j] < done[j] && done[j] == self.juries[j].table.len() / 4 {
-                    self.ready.push_back((j, Finished { rounds: self.round, board }));
-                }
-            }
-        }
-        self.ready.pop_front()
-    }
+    let mut tables = Tables::of(juries);
+    let rounds = tables.run(juries.len(), gates_per_round).map_err(|Refusal { reason, place }| JuryRefusal {
+        jury: Some(place),
+        refusal: Refusal { reason, place: 0 },
+    })?;
+    let mut left = tables.boards.as_slice();
+    let finished = juries.iter().zip(rounds).map(|(jury, rounds)| {
+        let (board, rest) = left.split_at(jury.tape.len() + jury.shape.candidates);
+        left = rest;
+        Finished { rounds, board: Board::new(board.to_vec(), jury.tape.len()) }
+    });
+    Ok(finished.collect())
 }
 
 /// Up to eight juries that share a unit, in rounds.
@@ -196,27 +143,6 @@ impl<'a> Dispatch<'a> {
     pub fn add(&mut self, list: &'a GateList, ballots: &'a [u8], tape: &'a [u8]) -> usize {
         self.juries.push(Jury { shape: list.shape(), table: list.table(), ballots, tape });
         self.juries.len() - 1
-    }
-
-    /// Runs all juries round by round. The iterator yields each as soon as it is finished.
-    ///
-    /// ```
-    /// # use jugyvaros::{Dispatch, GateList, Shape};
-    /// # let long = GateList::own(Shape::graded(3, 4, 20))?;
-    /// # let short = GateList::own(Shape::graded(1, 2, 1))?;
-    /// # let level = [1, 0, 0, 0].repeat(60);
-    /// # let (long_tape, short_tape) = (long.fresh_tape()?, short.fresh_tape()?);
-    /// let mut unit = Dispatch::new(64);
-    /// unit.add(&long, &level, &long_tape);
-    /// unit.add(&short, &[1, 0], &short_tape);
-    /// let order: Vec<usize> = unit.finishing()?.map(|(jury, _)| jury).collect();
-    /// assert_eq!(order, [1, 0]);
-    /// # Ok::<(), Box<dyn std::error::Error>>(())
-    /// ```
-    pub fn finishing(self) -> Result<Finishing<'a>, JuryRefusal> {
-        let tables = tested(&self.juries, self.gates_per_round)?;
-        let Dispatch { gates_per_round, juries } = self;
-        Ok(Finishing { juries, gates_per_round, tables, round: 0, done: [0; 8], ready: Default::default() })
     }
 
     /// Runs all juries. Do not use their tapes again.

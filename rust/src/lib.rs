@@ -18,8 +18,7 @@
 //!
 //! There are other ways to run a list: on the ballots in an [`Urn`], which are admitted and withdrawn while tasting
 //! goes on; by [`trustees`] who each hold a share of every bit; by a [`trustee`] on its own machine, who needs the
-//! [`levels`] of the list (`docs/TRUSTEES.md` says who is trusted with what); as a [`Dispatch`] of up to eight juries
-//! in rounds; and as a [`Batch`] of 64 juries at once. [`jury_file`] reads a jury's text.
+//! [`levels`] of the list; as a [`Dispatch`] of up to eight juries in rounds; and as a [`Batch`] of 64 juries at once.
 //!
 //! These types own their buffers. Those that held ballots or tapes are emptied when they are dropped. One layer below,
 //! a function that is named after an entry point of `c/jugyvaros.h` works on the caller's slices and returns what the
@@ -30,7 +29,6 @@
 pub mod batch;
 mod calls;
 pub mod dispatch;
-pub mod jury_file;
 pub mod levels;
 mod list;
 mod reason;
@@ -42,7 +40,7 @@ pub mod urn;
 
 pub use batch::Batch;
 pub use calls::{count, measure, run, test, write, Measures, Shape, Size};
-pub use dispatch::{Dispatch, Finishing};
+pub use dispatch::Dispatch;
 pub use list::{Board, GateList};
 pub use reason::{JuryRefusal, Reason, Refusal};
 pub use secret::{Number, Secret};

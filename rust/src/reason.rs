@@ -55,18 +55,16 @@ reasons! {
     Urn = 13: "the urn is not sound";
     Juror = 14: "the juror is not 1 to 255, or is already in (admission), or not in (withdrawal)";
     FullUrn = 15: "the urn has no free slot";
-    Trustees = 16: "there are fewer than 2 or more than 5 trustees, or no such trustee among them";
-    PartTables = 17: "one of the trustees' tables has the wrong length";
+    Trustees = 16: "there are fewer than 2 or more than 5 trustees";
+    PartTables = 17: "one of the trustees' four tables has the wrong length";
     Dealing = 18: "a share is neither 0 nor 1, or shares do not add up to a ballot byte or product";
     Juries = 19: "there are no juries, or more than 8";
     GatesPerRound = 20: "gates_per_round is 0 or above 65,536";
     Line = 23: "a malformed line, an unknown kind, or a number of 2^32 or more" at "the line";
     Output = 24: "the output is too short";
-    NoRound = 204: "all juries have done all their gates before this round";
     Levels = 200: "the level table is not G numbers long, or its levels are not the list's";
     Round = 201: "the round is above R";
     Heard = 202: "the sums heard are not 2 C bits";
-    OutOfTurn = 203: "it is not this round's turn: published is not as the round finds it" at "the byte";
 }
 
 impl Reason {

@@ -2,8 +2,7 @@
 //! `c/jugyvaros.h` describes the four tables.
 //!
 //! Use a dealing for one tally only: its bits have to be random, secret and fresh, or the trustees learn more than the
-//! closing bytes. Whoever deals, and whoever calls the tally, sees the plain ballots. `docs/TRUSTEES.md` says who is
-//! trusted with what.
+//! closing bytes. Whoever deals, and whoever calls the tally, sees the plain ballots.
 //!
 //! ```
 //! use jugyvaros::{GateList, Shape};
@@ -45,28 +44,6 @@ impl Dealing {
         let mut dealing = deal(ballots, conditional, t, || *next.next().expect("a random bit for each draw"));
         dealing.trustees = trustees;
         Ok(dealing)
-    }
-
-    /// One trustee's shares of the ballot bytes.
-    ///
-    /// # Panics
-    /// If there is no such trustee.
-    pub fn ballot_shares_of(&self, trustee: usize) -> &[u8] {
-        self.piece(&self.ballot_shares, trustee)
-    }
-
-    /// One trustee's shares of the triples.
-    ///
-    /// # Panics
-    /// If there is no such trustee.
-    pub fn triples_of(&self, trustee: usize) -> &[u8] {
-        self.piece(&self.triples, trustee)
-    }
-
-    fn piece<'a>(&self, table: &'a [u8], trustee: usize) -> &'a [u8] {
-        assert!(trustee < self.trustees, "there are {} trustees, counted from 0", self.trustees);
-        let size = table.len() / self.trustees;
-        &table[trustee * size..(trustee + 1) * size]
     }
 }
 
@@ -115,13 +92,6 @@ pub struct Tallied {
     pub closing: [u8; 8],
 }
 
-impl Tallied {
-    /// From an answer array.
-    pub(crate) fn of([_, _, gates, conditional, closing @ ..]: [usize; 12]) -> Tallied {
-        Tallied { gates, conditional, closing: closing.map(|byte| byte as u8) }
-    }
-}
-
 /// Tallies on the caller's tables: `wires` has t (I + G) bytes and is all zero afterwards; `published` has t (2 C + k).
 pub fn tally(
     shape: Shape,
@@ -132,7 +102,10 @@ pub fn tally(
     published: &mut [u8],
 ) -> Result<Tallied, Refusal> {
     let Dealing { trustees, ballot_shares, triples } = dealing;
-    c::jugy_trustees(shape, table, ballots, *trustees, ballot_shares, triples, wires, published).map(Tallied::of)
+    let [_, _, gates, conditional, closing @ ..] =
+        c::jugy_trustees(shape, table, ballots, *trustees, ballot_shares, triples, wires, published)?;
+    let closing = closing.map(|byte| byte as u8);
+    Ok(Tallied { gates, conditional, closing })
 }
 
 /// What a tally publishes.

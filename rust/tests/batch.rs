@@ -13,27 +13,6 @@ fn packed_bytes_come_back() {
 }
 
 #[test]
-fn copies_of_the_last_jury_make_up_64() {
-    let shape = Shape::graded(2, 3, 2);
-    let list = GateList::own(shape).unwrap();
-    let mut random = numbers(5);
-    assert_eq!(pack::<[u8; 3]>(&[]).len(), 0);
-    for many in [1, 2, 3, 63, 64] {
-        let juries: Vec<Vec<u8>> = (0..many).map(|_| ballots(shape, &mut random)).collect();
-        let words = pack(&juries);
-        for j in 0..JURIES {
-            assert_eq!(unpack(&words, j).to_vec(), juries[j.min(many - 1)], "jury {j} of {many}");
-        }
-        // so a batch of fewer juries is accepted
-        let mut batch = Batch::new(&list);
-        let tape = batch.fresh_tape().unwrap();
-        let boards = batch.run(&words, &tape).unwrap();
-        let alone = list.run(&juries[many - 1], &list.fresh_tape().unwrap()).unwrap();
-        assert_eq!((boards.winners(many - 1), boards.winners(63)), (alone.winners(), alone.winners()));
-    }
-}
-
-#[test]
 fn each_jury_has_its_single_run() {
     let mut random = numbers(3);
     for shape in [Shape::graded(3, 4, 5), Shape::ranked(3, 4), Shape::graded(1, 2, 1)] {

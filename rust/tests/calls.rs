@@ -98,5 +98,5 @@ fn reasons_are_those_of_the_header() {
         (in_capitals(&format!("{reason:?}")), reason.number(), reason.words().to_string() + &place)
     };
     assert_eq!(Reason::ALL.iter().map(own).collect::<Vec<_>>(), rows);
-    assert_eq!(rows.len(), 27);
+    assert_eq!(rows.len(), 25);
 }

@@ -4,7 +4,6 @@ mod common;
 
 use common::{ballots, numbers};
 use jugyvaros::batch::{pack, unpack};
-use jugyvaros::trustee::Trustee;
 use jugyvaros::{Batch, Dispatch, GateList, Secret, Shape, Urn};
 use std::alloc::{GlobalAlloc, Layout, System};
 use std::sync::atomic::{AtomicUsize, Ordering::SeqCst};
@@ -80,12 +79,6 @@ fn buffers_are_emptied() {
     for length in [3 * inputs, 9 * marks, 3 * wires] {
         let tally = || drop(list.tally(&ballots[0], &list.deal(&ballots[0], 3).unwrap()).unwrap());
         assert_eq!(left(length, tally), (1, 0));
-    }
-    let dealing = list.deal(&ballots[0], 3).unwrap();
-    let start = || Trustee::start(&list, 3, 0, dealing.ballot_shares_of(0), dealing.triples_of(0)).unwrap();
-    for length in [3 * marks, wires] {
-        assert_eq!(left(length, || drop(start())), (1, 0));
-        assert_eq!(left(length, || start().finish()).1, 0);
     }
     let words = pack(&ballots);
     assert_eq!(left(inputs, || drop(unpack(&words, 1))), (1, 0));

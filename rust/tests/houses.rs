@@ -1,11 +1,11 @@
-//! The demonstration: the board and the houses as processes on one machine, compared with the single call and with the
-//! plain count. `tests/houses.py` tries houses with addresses of their own, and lies, delays and kills.
+//! Houses as processes, compared with the single call and with the plain count.
 mod common;
 
-use common::{ballots, numbers, BALLOTS, SHAPE};
+use common::{ballots, numbers, SHAPE};
 use jugyvaros::{count, GateList, Shape};
 use std::io::{ErrorKind, Write};
 use std::process::{Command, Output, Stdio};
+use std::time::{Duration, Instant};
 
 fn houses(words: &[String], ballots: &[u8]) -> Output {
     let mut program = Command::new(env!("CARGO_BIN_EXE_houses"))
@@ -23,8 +23,9 @@ fn houses(words: &[String], ballots: &[u8]) -> Output {
     program.wait_with_output().unwrap()
 }
 
-fn words(houses: usize, shape: Shape) -> Vec<String> {
-    [houses, shape.candidates, shape.grades, shape.ballots].map(|number| number.to_string()).to_vec()
+fn words(houses: usize, shape: Shape, more: &str) -> Vec<String> {
+    let numbers = [houses, shape.candidates, shape.grades, shape.ballots].map(|number| number.to_string());
+    numbers.into_iter().chain(more.split_whitespace().map(String::from)).collect()
 }
 
 /// The numbers after a word of the output.
@@ -37,13 +38,12 @@ fn told(output: &Output, word: &str) -> Vec<u64> {
 #[test]
 fn houses_apart_close_as_the_one_call() {
     let mut random = numbers(34);
-    for shape in [SHAPE, Shape::graded(3, 2, 4), Shape::ranked(3, 3), Shape::ranked(4, 5), Shape::graded(1, 2, 1)] {
+    for shape in [SHAPE, Shape::graded(3, 2, 4), Shape::ranked(3, 3), Shape::ranked(4, 5)] {
         let list = GateList::own(shape).unwrap();
         for t in 2..=5 {
             let ballots = ballots(shape, &mut random);
-            let output = houses(&words(t, shape), &ballots);
+            let output = houses(&words(t, shape, ""), &ballots);
             assert!(output.status.success(), "{}", String::from_utf8_lossy(&output.stderr));
-            assert!(output.stderr.is_empty());
             let plain = count(shape, &ballots).unwrap();
             let one = list.tally(&ballots, &list.deal(&ballots, t).unwrap()).unwrap();
             let winners: Vec<u8> = told(&output, "winners").into_iter().map(|byte| byte as u8).collect();
@@ -57,16 +57,15 @@ fn houses_apart_close_as_the_one_call() {
 }
 
 #[test]
-fn bad_juries_and_words_are_refused() {
-    let status = |words: &[String], ballots: &[u8]| {
-        let output = houses(words, ballots);
-        assert!(output.stdout.is_empty());
-        let line = String::from_utf8(output.stderr).unwrap();
-        assert!(line.starts_with("houses") && line.ends_with('\n') && line.lines().count() == 1, "{line}");
-        output.status.code()
-    };
-    assert_eq!(status(&words(6, SHAPE), &BALLOTS), Some(2));
-    assert_eq!(status(&words(3, SHAPE)[..3], &BALLOTS), Some(2));
-    assert_eq!(status(&words(3, SHAPE), &BALLOTS[1..]), Some(1));
-    assert_eq!(status(&words(3, Shape::graded(9, 3, 3)), &BALLOTS), Some(1));
+fn a_fault_is_an_error_and_no_hang() {
+    let ballots = ballots(SHAPE, &mut numbers(7));
+    for fault in ["--leave 1 2", "--short 0 1", "--short 2 0", "--silent 2 3", "--leave 0 0"] {
+        let start = Instant::now();
+        let output = houses(&words(3, SHAPE, &format!("--wait 500 {fault}")), &ballots);
+        assert!(!output.status.success(), "{fault}");
+        assert!(output.stdout.is_empty(), "{fault}");
+        assert!(start.elapsed() < Duration::from_secs(20), "{fault}");
+    }
+    assert!(!houses(&words(6, SHAPE, ""), &ballots).status.success());
+    assert!(!houses(&words(3, SHAPE, ""), &ballots[1..]).status.success());
 }

@@ -1,7 +1,10 @@
 -- Small facts about numbers that several floors need.
 -- Assumes nothing.
-use Rattle.basics.proofs.Common.{◌≡◌, refl, ap, ◌⊎◌, inl, inr, ◌≢◌, ℕ, zero, suc, ◌+◌, ◌-◌, ◌*◌, ◌≤◌, ◌<◌}
-use Rattle.basics.proofs.Common.{arith, suc-mul, mul-le-mul_right}
+use mathlib.Core.Path.{◌≡◌, refl, ap}
+use mathlib.Core.Logic.{◌⊎◌, inl, inr, ◌≢◌}
+use Prim.Native.Nat.{ℕ, zero, suc, ◌+◌, ◌-◌, ◌*◌, ◌≤◌, ◌<◌}
+use native.Mathlib.Omega.{arith}
+use native.Mathlib.Nat.{suc-mul, mul-le-mul_right}
 
 -- a bit is 0 or 1
 pub bit_cases : (x : ℕ) → x ≤ 1 → (x ≡ 0) ⊎ (x ≡ 1)

@@ -1,7 +1,11 @@
 -- Numbers are equal or not, and one is below the other or not.
 -- Assumes nothing.
-use Rattle.basics.proofs.Common.{◌≡◌, refl, ◌⊎◌, inl, inr, ◌≢◌, Bool, true, false, ℕ, ◌≤◌, ◌<◌, ltb, eqb}
-use Rattle.basics.proofs.Common.{ltb-true, ltb-false, eqb-true, eqb-false}
+use mathlib.Core.Path.{◌≡◌, refl}
+use mathlib.Core.Logic.{◌⊎◌, inl, inr, ◌≢◌}
+use mathlib.Core.Bool.{Bool, true, false}
+use Prim.Native.Nat.{ℕ, ◌≤◌, ◌<◌}
+use lib.Dec.{ltb, eqb}
+use borrow.Author.Tests.{ltb-true, ltb-false, eqb-true, eqb-false}
 
 pub same_or_not : (a b : ℕ) → (a ≡ b) ⊎ (a ≢ b)
 same_or_not a b = go (eqb a b) refl

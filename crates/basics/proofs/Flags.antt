@@ -1,8 +1,12 @@
 -- Laws of truth values. The first ones are for tests that the code joins by `&&` or `||`: they give the flag r after
 -- the two branches.
 -- Assumes nothing.
-use Rattle.basics.proofs.Common.{◌≡◌, ◌∙◌, refl, sym, ap, Bool, true, false, cond, ◌&&◌, ◌||◌, ◌⊎◌, inl, inr, ℕ}
-use Rattle.basics.proofs.Common.{◌≤◌, arith, T}
+use mathlib.Core.Path.{◌≡◌, ◌∙◌, refl, sym, ap}
+use mathlib.Core.Bool.{Bool, true, false, cond, ◌&&◌, ◌||◌}
+use mathlib.Core.Logic.{◌⊎◌, inl, inr}
+use Prim.Native.Nat.{ℕ, ◌≤◌}
+use native.Mathlib.Omega.{arith}
+use lib.Dec.{T}
 
 -- the first test held, so the flag is the second test
 pub and_taken : (t u r : Bool) → t ≡ true → r ≡ u → r ≡ (t && u)

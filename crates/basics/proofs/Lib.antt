@@ -6,4 +6,3 @@ pub mod Tabulate
 pub mod Sums
 pub mod Same
 pub mod Tables
-pub mod Common

@@ -1,6 +1,12 @@
 -- The test `same_numbers` holds exactly if the two lists are equal.
 -- Assumes nothing.
-use Rattle.basics.proofs.Common.{◌≡◌, refl, true, List, [], ◌∷◌, ℕ, arith, eqb, eqb-true, eq-eqb}
+use mathlib.Core.Path.{◌≡◌, refl}
+use mathlib.Core.Bool.{true}
+use mathlib.Core.List.{List, [], ◌∷◌}
+use Prim.Native.Nat.{ℕ}
+use native.Mathlib.Omega.{arith}
+use lib.Dec.{eqb}
+use borrow.Author.Tests.{eqb-true, eq-eqb}
 use Rattle.basics.specs.Lists.{same_numbers}
 use Rattle.basics.proofs.Flags.{and_first, and_second, and_both}
 

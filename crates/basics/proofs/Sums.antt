@@ -1,6 +1,8 @@
 -- Sums of tables of numbers.
 -- Assumes nothing.
-use Rattle.basics.proofs.Common.{◌≡◌, refl, ℕ, zero, suc, ◌+◌, arith}
+use mathlib.Core.Path.{◌≡◌, refl}
+use Prim.Native.Nat.{ℕ, zero, suc, ◌+◌}
+use native.Mathlib.Omega.{arith}
 use Rattle.basics.specs.Lists.{sum, tabulate}
 
 -- the sum of an empty table, and of a longer one by its first or its last entry

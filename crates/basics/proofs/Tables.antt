@@ -1,7 +1,11 @@
 -- Tables that are filled from the front.
 -- Assumes nothing.
-use Rattle.basics.proofs.Common.{◌≡◌, ◌∙◌, refl, ap, List, [], ◌∷◌, ◌++◌, append-nil, ℕ, zero, suc, ◌+◌, arith}
-use Rattle.basics.proofs.Common.{length, get_or, set, drop, replicate, drop_of_length-le, sets}
+use mathlib.Core.Path.{◌≡◌, ◌∙◌, refl, ap}
+use mathlib.Core.List.{List, [], ◌∷◌, ◌++◌, append-nil}
+use Prim.Native.Nat.{ℕ, zero, suc, ◌+◌}
+use native.Mathlib.Omega.{arith}
+use lib.ListN.{length, get_or, set, drop, replicate, drop_of_length-le}
+use lib.Seq.{sets}
 
 -- storing two lists one after the other
 pub sets_append : (xs ys t : List ℕ) (i j : ℕ) → j ≡ i + length xs → sets (sets t i xs) j ys ≡ sets t i (xs ++ ys)

@@ -1,8 +1,15 @@
 -- Tables of a function's values, and the loop that turns one table into another, an entry each turn.
 -- Assumes nothing.
-use Rattle.basics.proofs.Common.{◌≡◌, ◌∙◌, refl, sym, ap, Bool, cond, ⊎_elim, ◌≢◌, List, ◌∷◌, map, ℕ, zero, suc}
-use Rattle.basics.proofs.Common.{◌≤◌, ◌<◌, arith, ltb, length, get_or, set, take, length-set, ext_get_or}
-use Rattle.basics.proofs.Common.{get_or-set_same, get_or-set_other, lt-ltb, le-ltb}
+use mathlib.Core.Path.{◌≡◌, ◌∙◌, refl, sym, ap}
+use mathlib.Core.Bool.{Bool, cond}
+use mathlib.Core.Logic.{⊎_elim, ◌≢◌}
+use mathlib.Core.List.{List, ◌∷◌, map}
+use Prim.Native.Nat.{ℕ, zero, suc, ◌≤◌, ◌<◌}
+use native.Mathlib.Omega.{arith}
+use lib.Dec.{ltb}
+use lib.ListN.{length, get_or, set, take, length-set}
+use lib.Seq.{ext_get_or, get_or-set_same, get_or-set_other}
+use borrow.Author.Tests.{lt-ltb, le-ltb}
 use Rattle.basics.specs.Lists.{tabulate}
 use Rattle.basics.proofs.Cases.{same_or_not, below_or_not}
 

@@ -4,7 +4,6 @@ use Rattle.dispatch_rounds.specs.declared.header.JuryHeader.{JuryHeader}
 use Rattle.dispatch_rounds.specs.Rounds.{most_juries}
 use Rattle.dispatch.specs.Call.{Call}
 use Rattle.dispatch.specs.Result.{DispatchResult, dispatch_result}
-use Rattle.dispatch.specs.OneRound.{RoundResult, round_result}
 use Rattle.c_answers.specs.Numbers.{told_numbers, CallResult, call_result}
 
 -- Four numbers for each jury: k, d, n and G. A number past the end of the array is 0; a header with k = 0 is refused
@@ -28,7 +27,7 @@ headers_in numbers =
 abbrev pub dispatch_numbers : DispatchResult → List ℕ
 dispatch_numbers d = told_numbers d.reason d.rounds
 
--- How long an answer is: reason, place, and `most_juries` numbers.
+-- How long an answer is: reason, place, and `most_juries` numbers of rounds.
 abbrev pub dispatch_answer : ℕ
 dispatch_answer = 2 + most_juries
 
@@ -37,14 +36,4 @@ abbrev pub dispatch_call : Call → (answer : List ℕ) → CallResult
 dispatch_call c answer =
     let r = dispatch_result c in
     call_result dispatch_answer (dispatch_numbers r) answer (c.tables.wires ∷ c.tables.boards ∷ [])
-    (r.wires ∷ r.boards ∷ [])
-
--- For a single round: reason, place, then the juries' eight numbers of gates done, 0 on a refusal.
-abbrev pub round_numbers : RoundResult → List ℕ
-round_numbers d = told_numbers d.reason d.done
-
-abbrev pub round_call : ℕ → Call → (answer : List ℕ) → CallResult
-round_call round c answer =
-    let r = round_result round c in
-    call_result dispatch_answer (round_numbers r) answer (c.tables.wires ∷ c.tables.boards ∷ [])
     (r.wires ∷ r.boards ∷ [])

@@ -2,25 +2,17 @@
 ghost use Rattle.std.specs.Prelude.{◌≡◌, [], ◌∷◌, ◌≤◌, ◌<◌, length, get_or};
 ghost use Rattle.dispatch_rounds.specs.Tables.{tables_of};
 ghost use Rattle.dispatch.specs.Reasons.{verdict_reason};
-ghost use Rattle.dispatch.specs.OneRound.{round_verdict_reason};
 ghost use Rattle.c_answers.specs.Numbers.{told_numbers};
 ghost use Rattle.c_answers.specs.inner.Puts.{Puts};
 ghost use Rattle.dispatch_rounds.specs.Rounds.{most_juries};
 ghost use Rattle.c_dispatch.specs.Numbers.{header_at, headers_in, dispatch_answer, dispatch_call};
-ghost use Rattle.c_dispatch.specs.Numbers.{round_call};
 
 use c_answers::array::{SHORT_ANSWER, put_answer};
-use dispatch::one_round::RoundVerdict;
 use dispatch::verdict::JuriesVerdict;
 use dispatch_rounds::header::{Headers, JuryHeader, JuryNumbers, MOST_JURIES};
 
-// How long an answer is: reason, place, and `MOST_JURIES` numbers.
+// How long an answer is: reason, place, and `MOST_JURIES` numbers of rounds.
 const DISPATCH_ANSWER: usize = 2 + MOST_JURIES;
-
-const ROUND_ANSWER: usize = 2 + MOST_JURIES;
-
-// The reason that no jury has a gate for a round.
-const NO_SUCH_ROUND: usize = 204;
 
 // Number i of an array, or 0 past its end.
 fn number_at(numbers: &[usize], i: usize) -> usize
@@ -119,63 +111,4 @@ pub extern "C" fn jugy_dispatch(
     let verdict = outcome.verdict;
     let rounds = outcome.rounds;
     put_rounds(verdict, rounds, answer)
-}
-
-// Puts reason, jury and the eight numbers of gates done, and returns the status.
-fn put_done(verdict: RoundVerdict, done: JuryNumbers, answer: &mut [usize]) -> usize
-    requires { dispatch_answer ≤ length answer.old }
-    ensures { Puts dispatch_answer (told_numbers (round_verdict_reason verdict) done) answer.old
-        answer.new result }
-{
-    match verdict {
-        RoundVerdict::Accepted => put_answer(0, 0, &done, answer),
-        RoundVerdict::Refused { reason, jury } => put_answer(reason.number(), jury, &done, answer),
-        RoundVerdict::NoSuchRound => put_answer(NO_SUCH_ROUND, 0, &done, answer),
-    }
-}
-
-// Does the round after `round` others. Answers reason, place and eight numbers of gates done.
-#[unsafe(no_mangle)]
-pub extern "C" fn jugy_dispatch_round(
-    count: usize,
-    gates_per_round: usize,
-    round: usize,
-    headers: &[usize],
-    lists: &[u32],
-    ballots: &[u8],
-    masks: &[u8],
-    wires: &mut [u8],
-    boards: &mut [u8],
-    answer: &mut [usize],
-) -> usize
-    ensures { record {
-      returned = result;
-      answer = answer.new;
-      lent = wires.new ∷ boards.new ∷ [];
-    } ≡ round_call round (record {
-      count = count;
-      headers = headers_in headers.now;
-      gates_per_round = gates_per_round;
-      tables = tables_of lists.now ballots.now masks.now wires.old
-          boards.old;
-    }) answer.old }
-{
-    if answer.len() < ROUND_ANSWER {
-        return SHORT_ANSWER;
-    }
-    let stated = headers_in(headers);
-    let outcome = dispatch::one_round::one_round(
-        count,
-        stated,
-        gates_per_round,
-        round,
-        lists,
-        ballots,
-        masks,
-        wires,
-        boards,
-    );
-    let verdict = outcome.verdict;
-    let done = outcome.done;
-    put_done(verdict, done, answer)
 }

@@ -24,12 +24,6 @@ pub record WriteLeaves (s : Shape) (table answer : List ℕ) (left : CallResult)
 abbrev pub test_call : (s : Shape) (table answer : List ℕ) → CallResult
 test_call s table answer = call_result size_answer (size_numbers (test_outcome s table)) answer [] []
 
--- This one in full. If `answer` has fewer than 4 numbers, the call returns 255 and changes nothing.
--- Else, if a reason of `run_reasons` applies, it returns the number of the first one. `answer` then starts with that
--- number, its place, 0 and 0, and wire table and board are unchanged.
---
--- Else it returns 0, and `answer` starts with 0, 0, G and C. The wire table has only zeros. The board has the shown
--- bits, then the k closing bytes. Numbers of `answer` after the fourth are unchanged in all cases.
 abbrev pub run_call : (s : Shape) (table ballots tape wires board answer : List ℕ) → CallResult
 run_call s table ballots tape wires board answer =
     board_call (run_result s table ballots tape wires board) wires board answer

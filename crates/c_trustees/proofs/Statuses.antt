@@ -15,5 +15,5 @@ status_tells =
           status_means tt (start_number s table t p shares triples wire_parts published);
       round = λ s table t p round levels triples heard wire_parts published answer.
           status_means tt (round_number s table t p round levels triples heard wire_parts published);
-      finish = λ s table wire_parts published answer. status_means tt (finish_number s table wire_parts published);
+      finish = λ s table wire_parts answer. status_means tt (finish_number s table wire_parts);
     }

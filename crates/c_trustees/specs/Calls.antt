@@ -5,7 +5,7 @@ use Rattle.trustees.specs.Call.{Call}
 use Rattle.trustees.specs.Result.{trustees_result}
 use Rattle.trustee_alone.specs.Start.{start_outcome, started_wires, started_published}
 use Rattle.trustee_alone.specs.Rounds.{round_outcome, rounded_wires, rounded_published}
-use Rattle.trustee_alone.specs.Finish.{finish_outcome, finished_wires, finished_published}
+use Rattle.trustee_alone.specs.Finish.{finish_outcome, finished_wires}
 use Rattle.c_answers.specs.Numbers.{size_answer, three_answer, tally_answer, size_numbers, CallResult, call_result}
 use Rattle.c_levels.specs.Numbers.{depth_numbers}
 use Rattle.c_trustees.specs.Numbers.{tally_numbers}
@@ -35,7 +35,7 @@ round_call s table t p r levels triples heard wires published answer =
     (rounded_wires s table t p r levels triples heard wires published
     ∷ rounded_published s table t p r levels triples heard wires published ∷ [])
 
-abbrev pub finish_call : (s : Shape) (table wires published answer : List ℕ) → CallResult
-finish_call s table wires published answer =
-    call_result size_answer (size_numbers (finish_outcome s table wires published)) answer (wires ∷ published ∷ [])
-    (finished_wires s table wires published ∷ finished_published s table wires published ∷ [])
+abbrev pub finish_call : (s : Shape) (table wires answer : List ℕ) → CallResult
+finish_call s table wires answer =
+    call_result size_answer (size_numbers (finish_outcome s table wires)) answer (wires ∷ []) (finished_wires s table wires
+    ∷ [])

@@ -20,5 +20,5 @@ pub record StatusMeans : Type 0 where
       → SizeStatus start_reason_numbers answer (start_outcome s table t p shares triples wires published)
   pub round : (s : Shape) (table : List ℕ) (t p r : ℕ) (levels triples heard wires published answer : List ℕ)
       → DepthStatus round_reason_numbers answer (round_outcome s table t p r levels triples heard wires published)
-  pub finish : (s : Shape) (table wires published answer : List ℕ)
-      → SizeStatus finish_reason_numbers answer (finish_outcome s table wires published)
+  pub finish : (s : Shape) (table wires answer : List ℕ)
+      → SizeStatus finish_reason_numbers answer (finish_outcome s table wires)

@@ -87,7 +87,7 @@ pub extern "C" fn jugy_trustee_round(
     put_depths(outcome, answer)
 }
 
-// A trustee finishes: its wire parts are emptied, and no place stays open. Answers reason, place, G and C.
+// A trustee finishes: its wire parts are emptied. Answers reason, place, G and C.
 #[unsafe(no_mangle)]
 pub extern "C" fn jugy_trustee_finish(
     candidates: usize,
@@ -95,15 +95,11 @@ pub extern "C" fn jugy_trustee_finish(
     ballots: usize,
     table: &[u32],
     wires: &mut [u8],
-    published: &mut [u8],
     answer: &mut [usize],
 ) -> usize
-    ensures { record {
-      returned = result;
-      answer = answer.new;
-      lent = wires.new ∷ published.new ∷ [];
-    } ≡ finish_call (shape_of candidates grades ballots) table.now wires.old
-        published.old answer.old }
+    ensures { record { returned = result; answer = answer.new; lent = wires.new ∷ [] }
+        ≡ finish_call (shape_of candidates grades ballots) table.now wires.old
+        answer.old }
 {
     if answer.len() < SIZE_ANSWER {
         return SHORT_ANSWER;
@@ -111,6 +107,6 @@ pub extern "C" fn jugy_trustee_finish(
     let ShapeResult::Within(shape) = Shape::new(candidates, grades, ballots) else {
         return put_size(Answer::Refused(Refusal::Shape), answer);
     };
-    let outcome = trustee_alone::finish::finish(shape, table, wires, published);
+    let outcome = trustee_alone::finish::finish(shape, table, wires);
     put_size(outcome, answer)
 }

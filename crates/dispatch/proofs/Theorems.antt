@@ -2,11 +2,11 @@
 -- Assumes nothing.
 use mathlib.Core.Path.{◌≡◌, ◌∙◌, refl, sym, ap, subst}
 use mathlib.Core.Bool.{Bool, true, false, ◌&&◌}
-use mathlib.Core.Logic.{◌⊎◌, inl, inr, ⊎_elim}
+use mathlib.Core.Logic.{◌↔◌, ◌⊎◌, inl, inr, ⊎_elim}
 use mathlib.Core.Option.{Option, none, some}
 use mathlib.Core.List.{List, [], ◌∷◌, ◌++◌}
-use Prim.Native.Nat.{ℕ, zero, suc, ◌+◌, ◌-◌, ◌*◌, ◌≤◌, ◌<◌, min}
-use native.Mathlib.Nat.{suc-mul}
+use Prim.Native.Nat.{ℕ, zero, suc, ◌+◌, ◌-◌, ◌*◌, ◌/◌, ◌≤◌, ◌<◌, min}
+use native.Mathlib.Nat.{suc-mul, div-lt_iff_lt-mul}
 use native.Mathlib.Omega.{arith}
 use lib.Dec.{T, leb}
 use lib.ListN.{length, get_or, drop, replicate, length-append, length-drop, length-replicate}
@@ -45,7 +45,18 @@ use Rattle.dispatch.specs.Theorems.{tables_from, pieces_at, run_at, RunsAt, jury
 use Rattle.dispatch_rounds.proofs.Pieces.{one_of, piece_fits}
 use Rattle.dispatch_rounds.proofs.Passed.{Passed, jury_passed, first_accepted}
 use Rattle.dispatch_rounds.proofs.MidRound.{padding}
-use Rattle.dispatch.proofs.Whole.{rounds_most, result_by, bad_count, bad_per_round, by_juries, wires_start, wires_emptied, wires_room}
+use Rattle.dispatch.proofs.Whole.{result_by, bad_count, bad_per_round, by_juries, wires_start, wires_emptied, wires_room}
+
+-- `rounds_for` rounds up
+rounds_most : (gates gates_per_round r : ℕ) → 1 ≤ gates_per_round → (rounds_for gates gates_per_round ≤ r) ↔ (gates ≤ r * gates_per_round)
+unfolding rounds_for
+rounds_most gates gates_per_round r h =
+    let iff = div-lt_iff_lt-mul {k = gates_per_round} {x = gates + (gates_per_round - 1)} {y = suc r} h in (
+      λ (p : (gates + (gates_per_round - 1)) / gates_per_round ≤ r). let q : gates + (gates_per_round - 1) < suc r * gates_per_round =
+          iff.0 (omega arith) in omega (arith, suc-mul r gates_per_round),
+      λ (p : gates ≤ r * gates_per_round). let q : (gates + (gates_per_round - 1)) / gates_per_round < suc r =
+          iff.1 (omega (arith, suc-mul r gates_per_round)) in omega arith,
+    )
 
 exact : RoundsExact
 exact =
@@ -95,7 +106,7 @@ unfolding dispatch_result_after
 reason_is none c = refl
 reason_is (some r) c = refl
 
-pub no_reason : (c : Call) (o : Option Reason) → (dispatch_result c).reason ≡ o → first_of (dispatch_reasons c) ≡ o
+no_reason : (c : Call) (o : Option Reason) → (dispatch_result c).reason ≡ o → first_of (dispatch_reasons c) ≡ o
 unfolding dispatch_result
 no_reason c o e = sym (reason_is (first_of (dispatch_reasons c)) c) ∙ e
 

@@ -1,38 +1,34 @@
 -- All juries together: before the first round, after the last, and the reasons of a call.
 -- Assumes nothing.
 use mathlib.Core.Path.{◌≡◌, ◌∙◌, refl, sym, ap}
-use mathlib.Core.Bool.{Bool, true, false, cond, ◌&&◌}
-use mathlib.Core.Logic.{◌↔◌, ⊎_elim}
+use mathlib.Core.Bool.{true, false, ◌&&◌}
+use mathlib.Core.Logic.{⊎_elim}
 use mathlib.Core.Option.{Option, none, some}
 use mathlib.Core.List.{List, [], ◌∷◌, ◌++◌, append_assoc}
-use Prim.Native.Nat.{ℕ, zero, suc, ◌+◌, ◌-◌, ◌*◌, ◌/◌, ◌≤◌, ◌<◌, min, max}
-use native.Mathlib.Nat.{min-eq_right, zero-mul, suc-mul, div-lt_iff_lt-mul}
+use Prim.Native.Nat.{ℕ, zero, suc, ◌+◌, ◌*◌, ◌≤◌, ◌<◌, min, max}
+use native.Mathlib.Nat.{min-eq_right, suc-mul}
 use native.Mathlib.Omega.{arith}
-use lib.Dec.{leb, ltb}
-use lib.ListN.{length, get_or, take, drop, replicate, take-append-drop, length-append, replicate-append-replicate}
+use lib.Dec.{leb}
+use lib.ListN.{length, take, drop, replicate, take-append-drop, length-append, replicate-append-replicate}
 use lib.Seq.{length-take-le, drop-append-add}
-use borrow.Author.Tests.{lt-ltb, le-ltb}
 use Rattle.gates.specs.Gate.{gates_of}
 use Rattle.gates.specs.Board.{conditional_count}
 use Rattle.gates.proofs.Counting.{count_nil}
 use Rattle.jury.specs.Shape.{ballot_bytes}
-use Rattle.basics.specs.Lists.{tabulate}
 use Rattle.basics.proofs.Cases.{below_or_not}
 use Rattle.jury.specs.Reason.{Reason, reason_at, unless, first_of}
 use Rattle.tally.specs.Run.{RunResult, run_result_after}
 use Rattle.tally.proofs.RunReasons.{ran_by}
 use Rattle.dispatch_rounds.specs.declared.header.JuryHeader.{JuryHeader}
-use Rattle.dispatch_rounds.specs.Tables.{Tables, header_shape, piece_of, list_of, conditional_in, pieces_of, remaining, through}
+use Rattle.dispatch_rounds.specs.Tables.{Tables, header_shape, conditional_in, pieces_of, remaining, through}
 use Rattle.dispatch_rounds.specs.Reasons.{reasons_of, jury_reasons}
 use Rattle.dispatch.specs.Call.{Call, juries_in}
 use Rattle.dispatch.specs.Reasons.{dispatch_reasons}
 use Rattle.dispatch.specs.NoIdleRound.{jury_at, GetsGate}
-use Rattle.dispatch_rounds.specs.Rounds.{board_after, round_wires, round_boards, jury_wires, jury_board, jury_shown, wires_given, boards_given, eight_of, rounds_for, rounds_with_gate, jury_done, RoundState}
+use Rattle.dispatch_rounds.specs.Rounds.{board_after, jury_wires, jury_board, jury_shown, wires_given, boards_given, eight_of, BoardsLong, RoundState}
 use Rattle.dispatch.specs.Result.{run_board, zero_wires, DispatchResult, dispatch_result_after, dispatch_result}
-use Rattle.dispatch_rounds.specs.inner.State.{RoundReady}
-use Rattle.dispatch.specs.inner.Rounds.{wire_bytes, longest_list, piece_conditional, count_grown}
-use Rattle.dispatch_rounds.proofs.Pieces.{one_of, eight_zeros}
-use Rattle.dispatch_rounds.proofs.Rows.{held, moved, shown_kept, marks_kept}
+use Rattle.dispatch.specs.inner.Rounds.{wire_bytes, longest_list, piece_conditional}
+use Rattle.dispatch_rounds.proofs.Pieces.{eight_zeros}
 use Rattle.dispatch_rounds.proofs.Passed.{jury_passed, first_accepted}
 use Rattle.dispatch_rounds.proofs.JuryStates.{after_all, jury_wires_long, wires_before, board_before}
 
@@ -66,6 +62,15 @@ boards_start j (s ∷ ss) t e =
     ∙ ap (λ (x : List ℕ). take n t.boards ++ x) (boards_start (suc j) ss (remaining s t) a.1)
     ∙ take-append-drop n t.boards
 
+pub boards_long_start : (j : ℕ) (ss : List JuryHeader) (t : Tables) → first_of (jury_reasons j ss t) ≡ none → BoardsLong 0 ss t
+boards_long_start j [] t e = tt
+boards_long_start j (s ∷ ss) t e =
+    let a = first_accepted j s ss t e in
+    let p = jury_passed s t a.0 in (
+      ap length (board_before s (pieces_of s t) p.run (omega (arith, p.gates, p.some_gate))) ∙ p.board_long,
+      boards_long_start (suc j) ss (remaining s t) a.1,
+    )
+
 pub shown_start : (ss : List JuryHeader) (t : Tables) → length ss ≤ 8 → eight_of (jury_shown 0) ss t ≡ replicate 8 0
 shown_start ss t few = eight_zeros (jury_shown 0) none_shown ss t few
   where
@@ -81,6 +86,13 @@ few_gates j [] t e = omega arith
 few_gates j (s ∷ ss) t e =
     let a = first_accepted j s ss t e in
     omega (arith, (jury_passed s t a.0).few_gates, few_gates (suc j) ss (remaining s t) a.1)
+
+-- the same bound for the juries from j on
+pub most_left : (j : ℕ) (ss : List JuryHeader) → longest_list (drop j ss) ≤ longest_list ss
+unfolding longest_list
+most_left zero ss = omega arith
+most_left (suc j) [] = omega arith
+most_left (suc j) (s ∷ ss) = omega (arith, most_left j ss)
 
 pub most_first : (s : JuryHeader) (ss : List JuryHeader) → longest_list (s ∷ ss) ≡ max s.gates (longest_list ss)
 unfolding longest_list
@@ -188,192 +200,6 @@ gets_gate gates_per_round r ss h l =
     more : (gates : ℕ) → r * gates_per_round < gates → min (r * gates_per_round) gates < min (suc r * gates_per_round) gates
     more gates k = omega (arith, suc-mul r gates_per_round)
 
--- the next state
-pub state_next : (given gates_per_round : ℕ) (ss : List JuryHeader) (t : Tables) (conditional ws bs shown shown' : List ℕ) → 1 ≤ gates_per_round
-    → RoundState given ss t conditional ws bs shown → shown' ≡ eight_of (jury_shown (given + gates_per_round)) ss (held t ws bs)
-    → RoundState (given + gates_per_round) ss t conditional (round_wires given gates_per_round ss (held t ws bs))
-    (round_boards given gates_per_round ss (held t ws bs)) shown'
-state_next given gates_per_round ss t conditional ws bs shown shown' h s e =
-    let m = moved given gates_per_round h 0 ss t s.accepted in
-    record {
-      accepted = s.accepted;
-      conditional_are = s.conditional_are;
-      wires_are = ap (λ (w : List ℕ). round_wires given gates_per_round ss (held t w bs)) s.wires_are
-          ∙ ap (λ (b : List ℕ). round_wires given gates_per_round ss (held t (wires_given given ss t) b)) s.boards_are ∙ m.wires;
-      boards_are = ap (λ (w : List ℕ). round_boards given gates_per_round ss (held t w bs)) s.wires_are
-          ∙ ap (λ (b : List ℕ). round_boards given gates_per_round ss (held t (wires_given given ss t) b)) s.boards_are ∙ m.boards;
-      shown_are = e ∙ shown_kept ss t ws bs (given + gates_per_round);
-    }
-
--- what a round asks
-pub state_ready : (count : ℕ) (headers : List JuryHeader) (given : ℕ) (t : Tables) (conditional ws bs shown : List ℕ) → count ≤ 8
-    → given < 18446744073709551616 → RoundState given (take count headers) t conditional ws bs shown
-    → RoundReady count headers given (held t ws bs) conditional shown
-state_ready count headers given t conditional ws bs shown few small s =
-    let ss = take count headers in
-    let m = moved given 1 (omega arith) 0 ss t s.accepted in
-    record {
-      few = few;
-      small = small;
-      accepted =
-          ap (λ (w : List ℕ). first_of (jury_reasons 0 ss (held t w bs))) s.wires_are
-          ∙ ap (λ (b : List ℕ). first_of (jury_reasons 0 ss (held t (wires_given given ss t) b))) s.boards_are ∙ m.accepted;
-      conditional_are = s.conditional_are ∙ sym (marks_kept ss t ws bs);
-      shown_are = s.shown_are ∙ sym (shown_kept ss t ws bs given);
-    }
-
--- `rounds_for` rounds up
-pub rounds_most : (gates gates_per_round r : ℕ) → 1 ≤ gates_per_round → (rounds_for gates gates_per_round ≤ r) ↔ (gates ≤ r * gates_per_round)
-unfolding rounds_for
-rounds_most gates gates_per_round r h =
-    let iff = div-lt_iff_lt-mul {k = gates_per_round} {x = gates + (gates_per_round - 1)} {y = suc r} h in (
-      λ (p : (gates + (gates_per_round - 1)) / gates_per_round ≤ r). let q : gates + (gates_per_round - 1) < suc r * gates_per_round =
-          iff.0 (omega arith) in omega (arith, suc-mul r gates_per_round),
-      λ (p : gates ≤ r * gates_per_round). let q : (gates + (gates_per_round - 1)) / gates_per_round < suc r =
-          iff.1 (omega (arith, suc-mul r gates_per_round)) in omega arith,
-    )
-
--- a round gives a gate to a jury exactly if it is one of the jury's first `rounds_for`
-pub with_gate_is : (r gates gates_per_round : ℕ) → 1 ≤ gates_per_round → rounds_with_gate r gates gates_per_round ≡ min r (rounds_for gates gates_per_round)
-unfolding rounds_with_gate
-with_gate_is zero gates gates_per_round h = omega arith
-with_gate_is (suc r) gates gates_per_round h =
-    ⊎_elim
-    (λ (l : r * gates_per_round < gates).
-    let more : min (r * gates_per_round) gates < min (suc r * gates_per_round) gates = omega (arith, suc-mul r gates_per_round) in
-    omega (
-      arith,
-      with_gate_is r gates gates_per_round h,
-      ap (λ (b : Bool). cond {A = ℕ} b 1 0) (lt-ltb (min (r * gates_per_round) gates) (min (suc r * gates_per_round) gates) more),
-      later (λ p. (rounds_most gates gates_per_round r h).0 p) l,
-    ))
-    (λ (l : gates ≤ r * gates_per_round).
-    let same : min (suc r * gates_per_round) gates ≤ min (r * gates_per_round) gates = omega (arith, suc-mul r gates_per_round) in
-    let all : rounds_for gates gates_per_round ≤ r = (rounds_most gates gates_per_round r h).1 l in
-    omega (
-      arith,
-      with_gate_is r gates gates_per_round h,
-      ap (λ (b : Bool). cond {A = ℕ} b 1 0) (le-ltb (min (r * gates_per_round) gates) (min (suc r * gates_per_round) gates) same),
-    ))
-    (below_or_not (r * gates_per_round) gates)
-  where
-    later : (rounds_for gates gates_per_round ≤ r → gates ≤ r * gates_per_round) → r * gates_per_round < gates → r < rounds_for gates gates_per_round
-    later f l = ⊎_elim (λ (p : r < rounds_for gates gates_per_round). p) (λ (p : rounds_for gates gates_per_round ≤ r). absurd (impossible (f p)))
-        (below_or_not r (rounds_for gates gates_per_round))
-      where
-        impossible : gates ≤ r * gates_per_round → ⊥
-        impossible q = omega arith
-
--- counting the numbers that grow, jury by jury
-grown_through : (f g h : JuryHeader → Tables → ℕ) (n : ℕ) (ss : List JuryHeader) (t : Tables)
-    → count_grown (through (one_of f) (λ (t : Tables). replicate n 0) ss t) (through (one_of g) (λ (t : Tables). replicate n 0) ss t)
-    (through (one_of h) (λ (t : Tables). replicate n 0) ss t)
-    ≡ through (one_of (λ (s : JuryHeader) (p : Tables). f s p + cond (ltb (g s p) (h s p)) 1 0)) (λ (t : Tables). replicate n 0) ss t
-unfolding through count_grown
-grown_through f g h n [] t = none_grown n
-  where
-    none_grown : (n : ℕ) → count_grown (replicate n 0) (replicate n 0) (replicate n 0) ≡ replicate n 0
-    none_grown zero = unfold count_grown in refl
-    none_grown (suc n) = unfold count_grown in (ap (λ (l : List ℕ). 0 ∷ l) (none_grown n))
-grown_through f g h n (s ∷ ss) t =
-    let p = pieces_of s t in
-    ap (λ (l : List ℕ). (f s p + cond (ltb (g s p) (h s p)) 1 0) ∷ l) (grown_through f g h n ss (remaining s t))
-
-pub grown_list : (k : ℕ) (ns xs ys : List ℕ) → length ns ≡ k → length xs ≡ k → length ys ≡ k
-    → count_grown ns xs ys ≡ tabulate k (λ (i : ℕ). get_or ns i 0 + cond (ltb (get_or xs i 0) (get_or ys i 0)) 1 0)
-unfolding count_grown tabulate
-grown_list zero [] xs ys a b c = refl
-grown_list zero (n ∷ ns) xs ys a b c = absurd (omega arith)
-grown_list (suc k) [] xs ys a b c = absurd (omega arith)
-grown_list (suc k) (n ∷ ns) [] ys a b c = absurd (omega arith)
-grown_list (suc k) (n ∷ ns) (x ∷ xs) [] a b c = absurd (omega arith)
-grown_list (suc k) (n ∷ ns) (x ∷ xs) (y ∷ ys) a b c =
-    ap (λ (l : List ℕ). (n + cond (ltb x y) 1 0) ∷ l) (grown_list k ns xs ys (omega arith) (omega arith) (omega arith))
-
--- one round more is counted
-pub grown_next : (r gates_per_round : ℕ) (ss : List JuryHeader) (t : Tables) (rounds before after : List ℕ)
-    → rounds ≡ eight_of (λ (s : JuryHeader) (p : Tables). rounds_with_gate r s.gates gates_per_round) ss t
-    → before ≡ eight_of (jury_done (r * gates_per_round)) ss t
-    → after ≡ eight_of (jury_done (suc r * gates_per_round)) ss t
-    → count_grown rounds before after ≡ eight_of (λ (s : JuryHeader) (p : Tables). rounds_with_gate (suc r) s.gates gates_per_round) ss t
-unfolding eight_of jury_done rounds_with_gate
-grown_next r gates_per_round ss t rounds before after a b c =
-    ap (λ (x : List ℕ). count_grown x before after) a
-    ∙ ap (λ (x : List ℕ). count_grown (eight_of (λ (s : JuryHeader) (p : Tables). rounds_with_gate r s.gates gates_per_round) ss t) x after) b
-    ∙ ap (λ (x : List ℕ). count_grown (eight_of (λ (s : JuryHeader) (p : Tables). rounds_with_gate r s.gates gates_per_round) ss t)
-    (eight_of (jury_done (r * gates_per_round)) ss t) x) c
-    ∙ grown_through (λ (s : JuryHeader) (p : Tables). rounds_with_gate r s.gates gates_per_round) (jury_done (r * gates_per_round))
-    (jury_done (suc r * gates_per_round)) (8 - length ss) ss t
-
--- no number of rounds is above the number of rounds done
-pads_few : (r n i : ℕ) → get_or (replicate n 0) i 0 ≤ r
-pads_few r zero i = omega arith
-pads_few r (suc n) zero = omega arith
-pads_few r (suc n) (suc i) = pads_few r n i
-
-few_through : (r gates_per_round : ℕ) → 1 ≤ gates_per_round → (n : ℕ) (ss : List JuryHeader) (t : Tables) (i : ℕ)
-    → get_or (through (one_of (λ (s : JuryHeader) (p : Tables). rounds_with_gate r s.gates gates_per_round)) (λ (t : Tables). replicate n 0) ss t) i 0 ≤ r
-unfolding through
-few_through r gates_per_round h n [] t i = pads_few r n i
-few_through r gates_per_round h n (s ∷ ss) t zero = omega (arith, with_gate_is r s.gates gates_per_round h)
-few_through r gates_per_round h n (s ∷ ss) t (suc i) = few_through r gates_per_round h n ss (remaining s t) i
-
-pub few_rounds : (r gates_per_round : ℕ) → 1 ≤ gates_per_round → (ss : List JuryHeader) (t : Tables) (i : ℕ)
-    → get_or (eight_of (λ (s : JuryHeader) (p : Tables). rounds_with_gate r s.gates gates_per_round) ss t) i 0 ≤ r
-unfolding eight_of
-few_rounds r gates_per_round h ss t i = few_through r gates_per_round h (8 - length ss) ss t i
-
--- after the last round
-all_through : (r gates_per_round : ℕ) → 1 ≤ gates_per_round → (n : ℕ) (ss : List JuryHeader) (t : Tables) → longest_list ss ≤ r * gates_per_round
-    → through (one_of (λ (s : JuryHeader) (p : Tables). rounds_with_gate r s.gates gates_per_round)) (λ (t : Tables). replicate n 0) ss t
-    ≡ through (one_of (λ (s : JuryHeader) (p : Tables). rounds_for s.gates gates_per_round)) (λ (t : Tables). replicate n 0) ss t
-unfolding through
-all_through r gates_per_round h n [] t l = refl
-all_through r gates_per_round h n (s ∷ ss) t l =
-    let first : s.gates ≤ r * gates_per_round = omega (arith, most_first s ss) in
-    let few : rounds_for s.gates gates_per_round ≤ r = (rounds_most s.gates gates_per_round r h).1 first in
-    let same : rounds_with_gate r s.gates gates_per_round ≡ rounds_for s.gates gates_per_round =
-    omega (arith, with_gate_is r s.gates gates_per_round h) in
-    let rest = all_through r gates_per_round h n ss (remaining s t) (omega (arith, most_first s ss)) in
-    ap (λ (x : ℕ). x ∷ through (one_of (λ (s : JuryHeader) (p : Tables). rounds_with_gate r s.gates gates_per_round))
-    (λ (t : Tables). replicate n 0) ss (remaining s t)) same
-    ∙ ap (λ (l : List ℕ). rounds_for s.gates gates_per_round ∷ l) rest
-
-pub all_rounds : (r gates_per_round : ℕ) → 1 ≤ gates_per_round → (ss : List JuryHeader) (t : Tables) → longest_list ss ≤ r * gates_per_round
-    → eight_of (λ (s : JuryHeader) (p : Tables). rounds_with_gate r s.gates gates_per_round) ss t
-    ≡ eight_of (λ (s : JuryHeader) (p : Tables). rounds_for s.gates gates_per_round) ss t
-unfolding eight_of
-all_rounds r gates_per_round h ss t l = all_through r gates_per_round h (8 - length ss) ss t l
-
--- before the first round no gate is done and no round is counted
-pub done_start : (gates_per_round : ℕ) (ss : List JuryHeader) (t : Tables) → length ss ≤ 8
-    → replicate 8 0 ≡ eight_of (jury_done (0 * gates_per_round)) ss t
-unfolding jury_done
-done_start gates_per_round ss t few =
-    sym (eight_zeros (jury_done (0 * gates_per_round)) (λ (s : JuryHeader) (p : Tables). omega (arith, zero-mul gates_per_round)) ss t few)
-
-pub rounds_start : (gates_per_round : ℕ) (ss : List JuryHeader) (t : Tables) → length ss ≤ 8
-    → replicate 8 0 ≡ eight_of (λ (s : JuryHeader) (p : Tables). rounds_with_gate 0 s.gates gates_per_round) ss t
-unfolding rounds_with_gate
-rounds_start gates_per_round ss t few =
-    sym (eight_zeros (λ (s : JuryHeader) (p : Tables). rounds_with_gate 0 s.gates gates_per_round) (λ (s : JuryHeader) (p : Tables). refl) ss t few)
-
--- the shown bits depend on the lists only
-shown_through : (given : ℕ) (pad : List ℕ) (ss : List JuryHeader) (t u : Tables) → t.lists ≡ u.lists
-    → through (one_of (jury_shown given)) (λ (t : Tables). pad) ss t ≡ through (one_of (jury_shown given)) (λ (t : Tables). pad) ss u
-unfolding through remaining pieces_of list_of jury_shown
-shown_through given pad [] t u e = refl
-shown_through given pad (s ∷ ss) t u e =
-    ap (λ (l : List ℕ). conditional_count (take (min given s.gates) (gates_of (piece_of (4 * s.gates) l)))
-    ∷ through (one_of (jury_shown given)) (λ (t : Tables). pad) ss (remaining s t)) e
-    ∙ ap (λ (l : List ℕ). conditional_count (take (min given s.gates) (gates_of (piece_of (4 * s.gates) u.lists))) ∷ l)
-    (shown_through given pad ss (remaining s t) (remaining s u) (ap (drop (4 * s.gates)) e))
-
-pub shown_by_lists : (given : ℕ) (ss : List JuryHeader) (t u : Tables) → t.lists ≡ u.lists
-    → eight_of (jury_shown given) ss t ≡ eight_of (jury_shown given) ss u
-unfolding eight_of
-shown_by_lists given ss t u e = shown_through given (replicate (8 - length ss) 0) ss t u e
-
 -- before the first round
 pub state_start : (ss : List JuryHeader) (t : Tables) (conditional : List ℕ) → length ss ≤ 8 → first_of (jury_reasons 0 ss t) ≡ none
     → conditional ≡ eight_of piece_conditional ss t → RoundState 0 ss t conditional t.wires t.boards (replicate 8 0)
@@ -384,6 +210,7 @@ state_start ss t conditional few e c =
       wires_are = sym (wires_start 0 ss t e);
       boards_are = sym (boards_start 0 ss t e);
       shown_are = sym (shown_start ss t few);
+      long = boards_long_start 0 ss t e;
     }
 
 -- the wire table after the wires of all juries are emptied

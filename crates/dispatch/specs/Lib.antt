@@ -1,9 +1,7 @@
 pub mod Call
 pub mod Reasons
 pub mod Result
-pub mod OneRound
 pub mod NoIdleRound
 pub mod inner
 pub mod Theorems
-pub mod InARow
 pub mod Examples

@@ -1,15 +1,14 @@
 // The entry point of the dispatcher.
-ghost use Rattle.std.specs.Prelude.{◌≡◌, cond, ◌&&◌, ℕ, ◌+◌, ◌≤◌, max, leb, ltb, get_or, take};
-ghost use Rattle.gates.specs.Test.{most_gates};
-ghost use Rattle.dispatch_rounds.specs.Tables.{tables_of};
+ghost use Rattle.std.specs.Prelude.{◌≡◌, ◌&&◌, ◌≤◌, max, leb, take};
+ghost use Rattle.dispatch_rounds.specs.Tables.{Tables, tables_of};
 ghost use Rattle.dispatch.specs.Reasons.{verdict_reason};
-ghost use Rattle.dispatch_rounds.specs.Rounds.{most_juries};
+ghost use Rattle.dispatch_rounds.specs.Rounds.{eight_of, rounds_for, most_juries};
 ghost use Rattle.dispatch.specs.Result.{DispatchResult, dispatch_result};
-ghost use Rattle.dispatch.specs.inner.Rounds.{Ready, RoundsFinished, longest_list, count_grown};
+ghost use Rattle.dispatch.specs.inner.Rounds.{Ready, RoundsSmall, RoundsFinished, longest_list};
 
 use crate::tests::test_juries;
 use crate::verdict::JuriesVerdict;
-use dispatch_rounds::header::{Headers, JuryNumbers, MOST_JURIES};
+use dispatch_rounds::header::{Headers, JuryHeader, JuryNumbers, MOST_JURIES};
 use dispatch_rounds::round::round;
 use jury::reason::Refusal;
 
@@ -27,7 +26,7 @@ pub struct Dispatched {
 }
 
 // Whether least ≤ n ≤ most.
-pub(crate) fn is_between(least: usize, n: usize, most: usize) -> bool
+fn is_between(least: usize, n: usize, most: usize) -> bool
     ensures { result ≡ (leb least n && leb n most) }
 {
     least <= n && n <= most
@@ -41,7 +40,7 @@ fn larger(a: usize, b: usize) -> usize
 }
 
 // The number of gates of the longest list.
-pub(crate) fn longest_list(count: usize, headers: Headers) -> usize
+fn longest_list(count: usize, headers: Headers) -> usize
     requires { count ≤ most_juries }
     ensures { result ≡ longest_list (take count headers) }
 {
@@ -55,32 +54,24 @@ pub(crate) fn longest_list(count: usize, headers: Headers) -> usize
     most
 }
 
-// One more if a number has grown.
-fn one_more_if_grown(rounds: usize, before: usize, after: usize) -> usize
-    requires { rounds ≤ most_gates }
-    ensures { result ≡ rounds + cond (ltb before after) 1 0 }
+// How many rounds each jury takes. This does not depend on the other juries.
+fn rounds_of(count: usize, headers: Headers, gates_per_round: usize) -> JuryNumbers
+    requires { RoundsSmall count headers gates_per_round }
+    ensures { (t : Tables)
+        → result ≡ eight_of (λ (s : JuryHeader) (p : Tables). rounds_for s.gates gates_per_round)
+        (take count headers) t }
 {
-    if before < after { rounds + 1 } else { rounds }
+    let mut rounds = [0usize; MOST_JURIES];
+    let mut j = 0;
+    while j < count {
+        let header = headers[j];
+        rounds[j] = (header.gates + (gates_per_round - 1)) / gates_per_round;
+        j += 1;
+    }
+    rounds
 }
 
-// Counts a round for each jury whose number of gates done has grown in it.
-fn count_round(rounds: JuryNumbers, before: JuryNumbers, after: JuryNumbers) -> JuryNumbers
-    requires { (i : ℕ) → get_or rounds i 0 ≤ most_gates }
-    ensures { result ≡ count_grown rounds before after }
-{
-    [
-        one_more_if_grown(rounds[0], before[0], after[0]),
-        one_more_if_grown(rounds[1], before[1], after[1]),
-        one_more_if_grown(rounds[2], before[2], after[2]),
-        one_more_if_grown(rounds[3], before[3], after[3]),
-        one_more_if_grown(rounds[4], before[4], after[4]),
-        one_more_if_grown(rounds[5], before[5], after[5]),
-        one_more_if_grown(rounds[6], before[6], after[6]),
-        one_more_if_grown(rounds[7], before[7], after[7]),
-    ]
-}
-
-// Does one round after the other until the longest jury is finished. Answers how many rounds gave each jury a gate.
+// Does one round after the other until the longest jury is finished.
 fn run_rounds(
     count: usize,
     headers: Headers,
@@ -91,7 +82,7 @@ fn run_rounds(
     tapes: &[u8],
     wires: &mut [u8],
     boards: &mut [u8],
-) -> JuryNumbers
+)
     requires { Ready (record {
       count = count;
       headers = headers;
@@ -104,12 +95,10 @@ fn run_rounds(
       gates_per_round = gates_per_round;
       tables = tables_of lists.now ballots.now tapes.now wires.old
           boards.old;
-    }) conditional wires.new boards.new result }
+    }) conditional wires.new boards.new }
 {
     let most = longest_list(count, headers);
     let mut shown = [0usize; MOST_JURIES];
-    let mut ended = [0usize; MOST_JURIES];
-    let mut rounds = [0usize; MOST_JURIES];
     let mut done = 0;
     while done * gates_per_round < most {
         let after = round(
@@ -125,15 +114,9 @@ fn run_rounds(
             wires,
             boards,
         );
-        let grown = after.done;
-        let next = after.shown;
-        let counted = count_round(rounds, ended, grown);
-        rounds = counted;
-        ended = grown;
-        shown = next;
+        shown = after;
         done += 1;
     }
-    rounds
 }
 
 // Runs up to eight juries in rounds. The juries' pieces follow each other in the five tables; headers past the
@@ -191,7 +174,7 @@ pub fn dispatch(
     };
     let conditional = tests.conditional;
     let end = tests.wires;
-    let rounds = run_rounds(
+    run_rounds(
         count,
         headers,
         conditional,
@@ -203,5 +186,8 @@ pub fn dispatch(
         boards,
     );
     basics::table::empty(&mut wires[..end]);
-    Dispatched { verdict, rounds }
+    Dispatched {
+        verdict,
+        rounds: rounds_of(count, headers, gates_per_round),
+    }
 }

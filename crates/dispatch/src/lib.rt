@@ -1,5 +1,4 @@
 // One unit for up to eight juries: a scheduler that shares it out among them (request 2.8).
 pub mod dispatch;
-pub mod one_round;
 mod tests;
 pub mod verdict;

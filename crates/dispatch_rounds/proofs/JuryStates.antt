@@ -2,28 +2,24 @@
 -- Assumes nothing.
 use mathlib.Core.Path.{◌≡◌, ◌∙◌, refl, sym, ap}
 use mathlib.Core.Bool.{Bool, false, cond}
-use mathlib.Core.Logic.{⊎_elim}
 use mathlib.Core.List.{List, ◌++◌}
 use Prim.Native.Nat.{ℕ, zero, suc, ◌+◌, ◌-◌, ◌≤◌, ◌<◌, min}
 use native.Mathlib.Nat.{min-eq_left, min-eq_right}
 use native.Mathlib.Omega.{arith}
 use lib.Dec.{eqb}
 use lib.ListN.{length, take, drop, length-append, length-drop}
-use lib.Seq.{length-take-le, take-length}
+use lib.Seq.{length-take-le}
 use borrow.Author.Tests.{lt-ltb, le-ltb, ne_eqb}
 use Rattle.gates.specs.Gate.{Gate, gates_of}
 use Rattle.gates.specs.Wires.{wires_of, outputs_of}
 use Rattle.gates.specs.Board.{conditional_count, shown_bits, board_of}
 use Rattle.gates.specs.inner.Step.{RunReady}
 use Rattle.gates.proofs.WireLaws.{length_wires}
-use Rattle.gates.proofs.Prefix.{Stands, stands_first, step_stands, can_close, closed_board, length_shown_bits, count_prefix}
-use Rattle.gates.proofs.Laws.{length_outputs}
-use Rattle.basics.proofs.Cases.{below_or_not}
+use Rattle.gates.proofs.Prefix.{Stands, stands_first, closed_board}
 use Rattle.dispatch_rounds.specs.declared.header.JuryHeader.{JuryHeader}
-use Rattle.dispatch_rounds.specs.Tables.{Tables, tables_of}
-use Rattle.dispatch_rounds.specs.Rounds.{wires_after, board_after, jury_wires, jury_board, jury_shown, turn_start, turn_wires, turn_shown, turn_board}
+use Rattle.dispatch_rounds.specs.Tables.{Tables}
+use Rattle.dispatch_rounds.specs.Rounds.{wires_after, board_after, jury_wires, jury_board, jury_shown}
 use Rattle.dispatch_rounds.specs.inner.State.{JuryState}
-use Rattle.dispatch_rounds.proofs.Turns.{idle_wires, idle_board, turn_wires_lem, turn_shown_lem, shown_more, goes_on_board, last_board}
 
 -- the definitions, for some and for all gates
 after_wires : (b : List ℕ) (gs : List Gate) (m : ℕ) (ws : List ℕ) → 1 ≤ m → wires_after b gs m ws
@@ -152,134 +148,11 @@ module _ (s : JuryHeader) (p : Tables) where
         count = j.count ∙ ap (λ (n : ℕ). conditional_count (take n (gates_of p.lists))) m;
       }
 
-  -- one turn more: from the state between two rounds to the next one
-  module _ (given gates_per_round : ℕ) (least : 1 ≤ gates_per_round) (ws board : List ℕ) (shown : ℕ) (j : JuryState given s p ws board shown) where
-    -- the jury's pieces as they are before the turn
-    abbrev held : Tables
-    held = tables_of p.lists p.ballots p.tapes ws board
-
-    begins : given < s.gates
-        → Stands p.ballots p.lists p.tapes p.wires p.boards given (turn_start given held) board (jury_shown given s p)
-    unfolding turn_start
-    begins h =
-        turn_begins given ws (turn_start given held) board (jury_shown given s p)
-        (record { run = j.run; some_gate = j.some_gate; gates = j.gates; wires_are = j.wires_are; board_is = j.board_is; count = refl }) h
-        (ap (λ (b : List ℕ). cond (eqb given 0) (b ++ drop (length p.ballots) ws) ws) (sym (take-length p.ballots)))
-
-    stepped : (h : given < s.gates) (to : ℕ) → min (given + gates_per_round) s.gates ≡ to
-        → Stands p.ballots p.lists p.tapes p.wires p.boards to (turn_wires given gates_per_round s held)
-        (turn_shown given gates_per_round s held) (jury_shown (given + gates_per_round) s held)
-    unfolding jury_shown
-    stepped h to e =
-        step_stands p.ballots p.lists s.candidates p.tapes p.wires p.boards j.run given to (omega arith)
-        (omega (arith, j.gates)) (turn_start given held) board (jury_shown given s p) (begins h) _ _ _
-        (sym (shown_more given gates_per_round s held h to e)) (turn_wires_lem given gates_per_round s held h to e)
-        (turn_shown_lem given gates_per_round s held h to e)
-
-    pub jury_turn : JuryState (given + gates_per_round) s p (turn_wires given gates_per_round s held) (turn_board given gates_per_round s held)
-        (jury_shown (given + gates_per_round) s p)
-    jury_turn = ⊎_elim busy idle (below_or_not given s.gates)
-      where
-        idle : s.gates ≤ given → JuryState (given + gates_per_round) s p (turn_wires given gates_per_round s held)
-            (turn_board given gates_per_round s held) (jury_shown (given + gates_per_round) s p)
-        idle h =
-            let k = turn_idle given gates_per_round ws board shown h j in
-            record {
-              run = j.run;
-              some_gate = j.some_gate;
-              gates = j.gates;
-              wires_are = idle_wires given gates_per_round s held h ∙ k.wires_are;
-              board_is = idle_board given gates_per_round s held h ∙ k.board_is;
-              count = refl;
-            }
-
-        ends : (h : given < s.gates) → s.gates ≤ given + gates_per_round
-            → JuryState (given + gates_per_round) s p (turn_wires given gates_per_round s held)
-            (turn_board given gates_per_round s held) (jury_shown (given + gates_per_round) s p)
-        ends h m =
-            let st = stepped h (length (gates_of p.lists)) (omega (arith, j.gates)) in
-            let all : jury_shown (given + gates_per_round) s held ≡ conditional_count (gates_of p.lists) =
-            st.count ∙ ap conditional_count (take-length (gates_of p.lists)) in
-            let k = turn_ends j.run j.some_gate j.gates (given + gates_per_round) (turn_wires given gates_per_round s held)
-            (turn_shown given gates_per_round s held) (turn_board given gates_per_round s held) (jury_shown (given + gates_per_round) s held) m st
-            (last_board given gates_per_round s held h m
-            ∙ ap (λ (n : ℕ). take n (turn_shown given gates_per_round s held) ++ outputs_of s.candidates (turn_wires given gates_per_round s held))
-            (sym all)) in
-            record { run = k.run; some_gate = k.some_gate; gates = k.gates; wires_are = k.wires_are; board_is = k.board_is; count = refl }
-
-        goes_on : (h : given < s.gates) → given + gates_per_round < s.gates
-            → JuryState (given + gates_per_round) s p (turn_wires given gates_per_round s held)
-            (turn_board given gates_per_round s held) (jury_shown (given + gates_per_round) s p)
-        goes_on h m =
-            let st = stepped h (given + gates_per_round) (omega arith) in
-            let k = turn_goes_on j.run j.some_gate j.gates (given + gates_per_round) (turn_wires given gates_per_round s held)
-            (turn_shown given gates_per_round s held) (jury_shown (given + gates_per_round) s held) (omega arith) m st in
-            record {
-              run = k.run;
-              some_gate = k.some_gate;
-              gates = k.gates;
-              wires_are = k.wires_are;
-              board_is = goes_on_board given gates_per_round s held h m ∙ k.board_is;
-              count = refl;
-            }
-
-        busy : given < s.gates → JuryState (given + gates_per_round) s p (turn_wires given gates_per_round s held)
-            (turn_board given gates_per_round s held) (jury_shown (given + gates_per_round) s p)
-        busy h = ⊎_elim (goes_on h) (ends h) (below_or_not (given + gates_per_round) s.gates)
-
   pub jury_wires_long : (given : ℕ) → length (gates_of p.lists) ≡ s.gates → length p.wires
       ≡ length p.ballots + s.gates → length (jury_wires given s p) ≡ length p.wires
   unfolding jury_wires
   jury_wires_long given g l = after_wires_long p.ballots (gates_of p.lists) (min given s.gates) p.wires
       (omega arith) (omega arith)
-
-  -- the length of the board stays the same
-  pub jury_board_long : (given : ℕ) → RunReady p.ballots p.lists s.candidates p.tapes p.wires p.boards
-      → length (gates_of p.lists) ≡ s.gates → length (jury_board given s p) ≡ length p.boards
-  unfolding jury_board
-  jury_board_long given run gates = ⊎_elim some all (below_or_not (min given s.gates) (length (gates_of p.lists)))
-    where
-      some : min given s.gates < length (gates_of p.lists)
-          → length (board_after p.ballots (gates_of p.lists) s.candidates p.tapes (min given s.gates) p.boards)
-          ≡ length p.boards
-      some h =
-          let gs = gates_of p.lists in
-          let m = min given s.gates in
-          let n = conditional_count (take m gs) in
-          ap length (after_some p.ballots gs s.candidates p.tapes m p.boards h)
-          ∙ omega (
-            arith,
-            length-append (shown_bits (wires_of p.ballots gs) (take m gs) p.tapes) (drop n p.boards),
-            length_shown_bits (wires_of p.ballots gs) (take m gs) p.tapes (omega (arith, count_prefix gs m, run.tape_length)),
-            length-drop n p.boards,
-            count_prefix gs m,
-            run.board_length,
-          )
-
-      all : length (gates_of p.lists) ≤ min given s.gates
-          → length (board_after p.ballots (gates_of p.lists) s.candidates p.tapes (min given s.gates) p.boards)
-          ≡ length p.boards
-      all h =
-          let gs = gates_of p.lists in
-          let m = min given s.gates in
-          let l = length gs in
-          let n = conditional_count (take l gs) in
-          let ws = wires_of p.ballots (take l gs) ++ drop (length p.ballots + l) p.wires in
-          let board = shown_bits (wires_of p.ballots gs) (take l gs) p.tapes ++ drop n p.boards in
-          let st : Stands p.ballots p.lists p.tapes p.wires p.boards l ws board n =
-          record { wires_are = refl; board_is = refl; count = refl } in
-          let c = can_close p.ballots p.lists s.candidates p.tapes p.wires p.boards run ws board n st in
-          ap length (after_all p.ballots gs s.candidates p.tapes m p.boards h
-          ∙ sym (closed_board p.ballots p.lists s.candidates p.tapes p.wires p.boards run ws board n st
-          (take n board ++ outputs_of s.candidates ws) refl))
-          ∙ omega (
-            arith,
-            length-append (take n board) (outputs_of s.candidates ws),
-            length-take-le n board (omega (arith, c.board_length)),
-            length_outputs s.candidates ws c.enough,
-            ap conditional_count (take-length gs),
-            run.board_length,
-          )
 
   -- before the first round
   pub wires_before : jury_wires 0 s p ≡ p.wires

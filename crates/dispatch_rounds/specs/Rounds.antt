@@ -1,14 +1,13 @@
 -- What the wire table and the boards hold after a round (request 2.8). After r rounds of S gates each jury has done r
 -- × S of its gates, or all if it has fewer [round].
-use Rattle.std.specs.Prelude.{◌≡◌, cond, List, [], ◌∷◌, ◌++◌, ℕ, zero, suc, ◌+◌, ◌-◌, ◌*◌, ◌/◌, min, ltb, eqb, length, take, drop, replicate}
+use Rattle.std.specs.Prelude.{◌≡◌, cond, List, [], ◌∷◌, ◌++◌, ℕ, zero, suc, ◌+◌, ◌-◌, ◌/◌, min, ltb, length, take, drop, replicate}
 use Rattle.std.proofs.Math.Option.{none}
 use Rattle.gates.specs.Gate.{Gate, gates_of}
-use Rattle.gates.specs.Wires.{wires_of, outputs_of}
-use Rattle.gates.specs.Step.{step_wires, step_board}
+use Rattle.gates.specs.Wires.{wires_of}
 use Rattle.gates.specs.Board.{conditional_count, shown_bits, board_of}
 use Rattle.jury.specs.Reason.{first_of}
 use Rattle.dispatch_rounds.specs.declared.header.JuryHeader.{JuryHeader}
-use Rattle.dispatch_rounds.specs.Tables.{Tables, through}
+use Rattle.dispatch_rounds.specs.Tables.{Tables, conditional_in, pieces_of, remaining, through}
 use Rattle.dispatch_rounds.specs.Reasons.{jury_reasons}
 
 -- The most juries that a call may have, and the most gates that it may give a jury in a round.
@@ -53,48 +52,16 @@ wires_given given = through (jury_wires given) (λ (t : Tables). t.wires)
 unfoldable pub boards_given : ℕ → List JuryHeader → Tables → List ℕ
 boards_given given = through (jury_board given) (λ (t : Tables). t.boards)
 
--- How many gates it has done then.
-unfoldable pub jury_done : ℕ → JuryHeader → Tables → ℕ
-jury_done given s p = min given s.gates
-
--- A jury's turn, on whatever its wire table and board hold: `given` gates came before, and it is given S more. Its
--- wire table when it begins: the ballots are put in before the first gate.
-unfoldable pub turn_start : ℕ → Tables → List ℕ
-turn_start given p = cond (eqb given 0) (p.ballots ++ drop (length p.ballots) p.wires) p.wires
-
--- Its wire table after the turn. A jury that has done all its gates has no turn.
-unfoldable pub turn_wires : ℕ → ℕ → JuryHeader → Tables → List ℕ
-turn_wires given gates_per_round s p =
-    cond (ltb given s.gates)
-    (step_wires (length p.ballots) p.lists given (min (given + gates_per_round) s.gates) (turn_start given p))
-    p.wires
-
--- Its board after the gates of the turn.
-unfoldable pub turn_shown : ℕ → ℕ → JuryHeader → Tables → List ℕ
-turn_shown given gates_per_round s p =
-    step_board (length p.ballots) p.lists given (min (given + gates_per_round) s.gates) p.tapes
-    (jury_shown given s p) (turn_start given p) p.boards
-
--- Its board after the turn: if that was the last one, the closing bytes follow the C shown bits.
-unfoldable pub turn_board : ℕ → ℕ → JuryHeader → Tables → List ℕ
-turn_board given gates_per_round s p =
-    cond (ltb given s.gates)
-    (cond (ltb (given + gates_per_round) s.gates) (turn_shown given gates_per_round s p)
-    (take (conditional_count (gates_of p.lists)) (turn_shown given gates_per_round s p)
-    ++ outputs_of s.candidates (turn_wires given gates_per_round s p)))
-    p.boards
-
--- The wire table and the boards of all juries after a round.
-unfoldable pub round_wires : ℕ → ℕ → List JuryHeader → Tables → List ℕ
-round_wires given gates_per_round = through (turn_wires given gates_per_round) (λ (t : Tables). t.wires)
-
-unfoldable pub round_boards : ℕ → ℕ → List JuryHeader → Tables → List ℕ
-round_boards given gates_per_round = through (turn_board given gates_per_round) (λ (t : Tables). t.boards)
-
 -- Eight numbers, one for each jury, 0 past the last.
 unfoldable pub eight_of : (JuryHeader → Tables → ℕ) → List JuryHeader → Tables → List ℕ
 eight_of number ss = through (λ (s : JuryHeader) (p : Tables). number s p
     ∷ []) (λ (t : Tables). replicate (most_juries - length ss) 0) ss
+
+-- Each board has the length C + k.
+abbrev pub BoardsLong : ℕ → List JuryHeader → Tables → Type 0
+BoardsLong given [] t = Unit {0}
+BoardsLong given (s ∷ ss) t = (length (jury_board given s (pieces_of s t)) ≡ conditional_in s t + s.candidates)
+    × BoardsLong given ss (remaining s t)
 
 -- A call between two rounds: t is what was lent, no jury is refused, and each was given `given` gates, or all its
 -- gates if it has fewer. `wires` and `boards` are what the two tables hold then. `conditional` and `shown` have
@@ -107,15 +74,8 @@ pub record RoundState (given : ℕ) (ss : List JuryHeader) (t : Tables) (conditi
   pub wires_are : wires ≡ wires_given given ss t
   pub boards_are : boards ≡ boards_given given ss t
   pub shown_are : shown ≡ eight_of (jury_shown given) ss t
+  pub long : BoardsLong given ss t
 
 -- How many rounds a jury of G gates takes: G divided by S, rounded up.
 unfoldable pub rounds_for : ℕ → ℕ → ℕ
 rounds_for gates gates_per_round = (gates + (gates_per_round - 1)) / gates_per_round
-
--- In how many of the first rounds a jury of G gates is given a gate: one more for each round in which its number of
--- gates done grows.
-unfoldable pub rounds_with_gate : (rounds gates gates_per_round : ℕ) → ℕ
-rounds_with_gate zero gates gates_per_round = 0
-rounds_with_gate (suc r) gates gates_per_round =
-    rounds_with_gate r gates gates_per_round
-    + cond (ltb (min (r * gates_per_round) gates) (min (suc r * gates_per_round) gates)) 1 0

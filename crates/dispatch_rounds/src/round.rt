@@ -1,23 +1,10 @@
 // A round: each unfinished jury, in order, does up to `gates_per_round` gates, the S of request 2.8.
-ghost use Rattle.std.specs.Prelude.{◌≡◌, cond, ◌++◌, ◌*◌, ◌≤◌, eqb, length, take, drop};
+ghost use Rattle.std.specs.Prelude.{◌≡◌, cond, List, ◌++◌, ℕ, suc, ◌+◌, ◌*◌, ◌≤◌, eqb, length, take, drop};
 ghost use Rattle.dispatch_rounds.specs.Tables.{tables_of};
-ghost use Rattle.dispatch_rounds.specs.inner.State.{TurnReady, TurnTaken, RoundReady, RoundTaken};
+ghost use Rattle.dispatch_rounds.specs.Rounds.{RoundState};
+ghost use Rattle.dispatch_rounds.specs.inner.State.{JuryState, TurnReady, RoundReady};
 
-use crate::header::{Headers, JuryHeader, JuryNumbers, MOST_JURIES, Places};
-
-// How far a jury is after its turn: its gates done and its bits shown so far.
-#[derive(Drop)]
-pub struct Turned {
-    pub done: usize,
-    pub shown: usize,
-}
-
-// How far each jury is after a round.
-#[derive(Drop)]
-pub struct RoundDone {
-    pub done: JuryNumbers,
-    pub shown: JuryNumbers,
-}
+use crate::header::{Headers, JuryHeader, JuryNumbers, Places};
 
 // Puts a jury's ballots into its wire table before its first gate.
 fn load(given: usize, ballots: &[u8], wires: &mut [u8])
@@ -34,7 +21,7 @@ fn load(given: usize, ballots: &[u8], wires: &mut [u8])
 }
 
 // One jury's turn in a round, on its own pieces: its next gates, at most `gates_per_round` of them. After its last
-// gate, the closing bytes are put on the board.
+// gate, the closing bytes are put on the board. Answers how many bits the jury has shown so far.
 fn turn(
     header: JuryHeader,
     given: usize,
@@ -45,37 +32,38 @@ fn turn(
     tape: &[u8],
     wires: &mut [u8],
     board: &mut [u8],
-) -> Turned
-    requires { TurnReady given header (tables_of list.now ballots.now tape.now wires.old board.old) shown }
-    ensures { TurnTaken given gates_per_round header
-        (tables_of list.now ballots.now tape.now wires.old
-        board.old)
-        wires.new board.new result }
+) -> usize
+    requires { TurnReady given gates_per_round header list.now ballots.now tape.now wires.old board.old shown }
+    ensures { (ws bs : List ℕ) → let p = tables_of list.now ballots.now tape.now ws bs in
+        JuryState given header p wires.old board.old shown
+        → JuryState (given + gates_per_round) header p wires.new board.new result }
 {
     let gates = header.gates;
     if gates <= given {
-        return Turned { done: gates, shown };
+        return shown;
     }
     load(given, ballots, wires);
     let inputs = ballots.len();
     if gates - given <= gates_per_round {
         let last = gates::step::step(inputs, list, given, gates, tape, shown, wires, board);
         gates::step::close(header.candidates, wires, last, board);
-        return Turned {
-            done: gates,
-            shown: last,
-        };
+        return last;
     }
-    let end = given + gates_per_round;
-    let next = gates::step::step(inputs, list, given, end, tape, shown, wires, board);
-    Turned {
-        done: end,
-        shown: next,
-    }
+    gates::step::step(
+        inputs,
+        list,
+        given,
+        given + gates_per_round,
+        tape,
+        shown,
+        wires,
+        board,
+    )
 }
 
-// One more round after `done` rounds, on whatever wires and boards hold. `before` has the number of bits that each
-// jury has shown.
+// One more round after `done` rounds. `RoundState` says what the tables hold between two rounds: each jury's gates
+// of all rounds so far, and nothing of a later gate. `before` has the number of bits that each jury has shown; the
+// answer has their number after the round.
 pub fn round(
     count: usize,
     headers: Headers,
@@ -88,17 +76,19 @@ pub fn round(
     tapes: &[u8],
     wires: &mut [u8],
     boards: &mut [u8],
-) -> RoundDone
-    requires { RoundReady count headers (done * gates_per_round)
-        (tables_of lists.now ballots.now tapes.now wires.old boards.old) conditional before }
-    ensures { RoundTaken (done * gates_per_round) gates_per_round (take count headers)
-        (tables_of lists.now ballots.now tapes.now wires.old
-        boards.old)
-        wires.new boards.new result }
+) -> JuryNumbers
+    requires { RoundReady count headers done gates_per_round lists.now ballots.now tapes.now conditional
+        wires.old
+        boards.old before }
+    ensures { (ws bs : List ℕ) → let t = tables_of lists.now ballots.now tapes.now ws bs in
+        RoundState (done * gates_per_round) (take count headers) t conditional wires.old
+        boards.old before
+        → RoundState (suc done * gates_per_round) (take count headers) t conditional wires.new
+        boards.new
+        result }
 {
     let given = done * gates_per_round;
     let mut shown = before;
-    let mut ended = [0usize; MOST_JURIES];
     let mut at = Places {
         lists: 0,
         ballots: 0,
@@ -120,7 +110,7 @@ pub fn round(
         let t_end = at.tapes;
         let w_end = at.wires;
         let o_end = at.boards;
-        let turned = turn(
+        shown[j] = turn(
             header,
             given,
             gates_per_round,
@@ -131,9 +121,7 @@ pub fn round(
             &mut wires[w..w_end],
             &mut boards[o..o_end],
         );
-        shown[j] = turned.shown;
-        ended[j] = turned.done;
         j += 1;
     }
-    RoundDone { done: ended, shown }
+    shown
 }

@@ -1,10 +1,16 @@
 -- Levels gate by gate: after each gate, the levels found so far and the gates left give the levels of the whole
 -- list.
 -- Assumes nothing.
-use Rattle.basics.proofs.Common.{◌≡◌, ◌∙◌, refl, sym, ap, subst, Bool, true, false, cond, List, [], ◌∷◌, ◌++◌, ℕ, suc}
-use Rattle.basics.proofs.Common.{◌+◌, ◌-◌, ◌*◌, ◌≤◌, ◌<◌, max, add-suc, arith, ltb, length, get_or, take, drop}
-use Rattle.basics.proofs.Common.{length-append, drop_of_length-le, get_or-take, take_all, length-take-le}
-use Rattle.basics.proofs.Common.{get_or-append_seam, ltb-false}
+use mathlib.Core.Path.{◌≡◌, ◌∙◌, refl, sym, ap, subst}
+use mathlib.Core.Bool.{Bool, true, false, cond}
+use mathlib.Core.List.{List, [], ◌∷◌, ◌++◌}
+use Prim.Native.Nat.{ℕ, suc, ◌+◌, ◌-◌, ◌*◌, ◌≤◌, ◌<◌, max}
+use native.Mathlib.Nat.{add-suc}
+use native.Mathlib.Omega.{arith}
+use lib.Dec.{ltb}
+use lib.ListN.{length, get_or, take, drop, length-append, drop_of_length-le}
+use lib.Seq.{get_or-take, take_all, length-take-le, get_or-append_seam}
+use borrow.Author.Tests.{ltb-false}
 use Rattle.gates.specs.Kind.{conditional_of}
 use Rattle.gates.specs.Gate.{Gate, gates_of, gate_at}
 use Rattle.gates.specs.Test.{first_bad}

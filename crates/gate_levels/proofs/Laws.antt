@@ -2,7 +2,6 @@
 -- Assumes nothing.
 use mathlib.Core.Path.{◌≡◌, ◌∙◌, refl, sym, subst}
 use mathlib.Core.Bool.{Bool, true, false, cond}
-use mathlib.Core.Logic.{⊎_elim}
 use mathlib.Core.List.{List, [], ◌∷◌, ◌++◌}
 use Prim.Native.Nat.{ℕ, zero, suc, ◌+◌, ◌-◌, ◌≤◌, ◌<◌, max}
 use native.Mathlib.Nat.{add-zero, add-suc}
@@ -18,7 +17,6 @@ use Rattle.gates.proofs.Reading.{Below, operands_below}
 use Rattle.gates.proofs.Counting.{count_cons}
 use Rattle.gates.proofs.Laws.{AllGood}
 use Rattle.basics.specs.Lists.{maximum}
-use Rattle.basics.proofs.Cases.{below_or_not}
 use Rattle.gate_levels.specs.Levels.{wire_level, gate_level, levels_from, levels_of, rounds_of}
 
 -- The levels found so far stay, and each gate adds one.
@@ -102,16 +100,6 @@ unfolding maximum
 maximum_most [] i = omega arith
 maximum_most (l ∷ ls) zero = omega arith
 maximum_most (l ∷ ls) (suc i) = omega (arith, maximum_most ls i)
-
--- Some gate has the largest level.
-pub maximum_at : (ls : List ℕ) → 0 < length ls → (i : ℕ) × (i < length ls) × (get_or ls i 0 ≡ maximum ls)
-unfolding maximum
-maximum_at [] h = absurd (omega arith)
-maximum_at (l ∷ []) h = (0, omega arith, omega arith)
-maximum_at (l ∷ m ∷ ls) h =
-    let r = maximum_at (m ∷ ls) (omega arith) in
-    ⊎_elim (λ (b : max m (maximum ls) < l). (0, omega arith, omega arith))
-    (λ b. (suc r.0, omega (arith, r.1), omega (arith, r.2))) (below_or_not (max m (maximum ls)) l)
 
 pub maximum_append : (ls ms : List ℕ) → maximum (ls ++ ms) ≡ max (maximum ls) (maximum ms)
 unfolding maximum

@@ -1,6 +1,10 @@
 -- What adders compute.
 -- Assumes nothing.
-use Rattle.basics.proofs.Common.{◌≡◌, ◌∙◌, ⊎_elim, [], ℕ, zero, suc, ◌+◌, ◌*◌, ◌%◌, ◌≤◌, arith}
+use mathlib.Core.Path.{◌≡◌, ◌∙◌}
+use mathlib.Core.Logic.{⊎_elim}
+use mathlib.Core.List.{[]}
+use Prim.Native.Nat.{ℕ, zero, suc, ◌+◌, ◌*◌, ◌%◌, ◌≤◌}
+use native.Mathlib.Omega.{arith}
 use Rattle.gates.proofs.Laws.{Holds, mux_zero, mux_one}
 use Rattle.gate_words.specs.Gates.{copy_of, not_of, and_of, or_of, xor_of, mux_of}
 use Rattle.gate_words.specs.Adder.{full_adder, half_adder, increment}

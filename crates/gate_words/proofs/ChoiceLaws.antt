@@ -1,6 +1,8 @@
 -- What copies, complements, choices and chains compute.
 -- Assumes nothing.
-use Rattle.basics.proofs.Common.{◌≡◌, ◌∙◌, sym, ap, ℕ, zero, suc, ◌+◌, ◌<◌, arith}
+use mathlib.Core.Path.{◌≡◌, ◌∙◌, sym, ap}
+use Prim.Native.Nat.{ℕ, zero, suc, ◌+◌, ◌<◌}
+use native.Mathlib.Omega.{arith}
 use Rattle.gates.proofs.Laws.{Holds, mux_zero, mux_one}
 use Rattle.gate_words.specs.Gates.{and_of, or_of, mux_of}
 use Rattle.gate_words.specs.Word.{ones_at, number}

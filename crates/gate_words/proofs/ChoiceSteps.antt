@@ -1,7 +1,11 @@
 -- Blocks with one gate for each digit, as a first digit and the rest; and their lengths.
 -- Assumes nothing.
-use Rattle.basics.proofs.Common.{◌≡◌, ◌∙◌, refl, sym, ap, [], ◌∷◌, ◌++◌, ℕ, zero, suc, ◌+◌, ◌-◌, ◌<◌, ◌≤◌, add-zero}
-use Rattle.basics.proofs.Common.{arith, length}
+use mathlib.Core.Path.{◌≡◌, ◌∙◌, refl, sym, ap}
+use mathlib.Core.List.{[], ◌∷◌, ◌++◌}
+use Prim.Native.Nat.{ℕ, zero, suc, ◌+◌, ◌-◌, ◌<◌, ◌≤◌}
+use native.Mathlib.Nat.{add-zero}
+use native.Mathlib.Omega.{arith}
+use lib.ListN.{length}
 use Rattle.gate_words.specs.Gates.{gate, and_of, mux_of}
 use Rattle.gate_words.specs.Choice.{choose, masked, chain_of, chain_end}
 use Rattle.basics.proofs.Arithmetic.{count_down}

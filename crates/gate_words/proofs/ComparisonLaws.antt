@@ -1,6 +1,10 @@
 -- What comparisons say, for every width. A wire `up` that says "above so far" counts as 1 added to x's word.
 -- Assumes nothing.
-use Rattle.basics.proofs.Common.{◌≡◌, ◌∙◌, sym, ap, ⊎_elim, [], ◌∷◌, ℕ, zero, suc, ◌+◌, ◌%◌, ◌≤◌, ◌<◌, arith}
+use mathlib.Core.Path.{◌≡◌, ◌∙◌, sym, ap}
+use mathlib.Core.Logic.{⊎_elim}
+use mathlib.Core.List.{[], ◌∷◌}
+use Prim.Native.Nat.{ℕ, zero, suc, ◌+◌, ◌%◌, ◌≤◌, ◌<◌}
+use native.Mathlib.Omega.{arith}
 use Rattle.gates.proofs.Laws.{Holds, mux_zero, mux_one}
 use Rattle.gate_words.specs.Gates.{and_of, xor_of, mux_of}
 use Rattle.gate_words.specs.Word.{number}

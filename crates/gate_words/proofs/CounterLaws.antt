@@ -1,7 +1,11 @@
 -- What counters compute, for every number of bits, start and stride.
 -- Assumes nothing.
-use Rattle.basics.proofs.Common.{◌≡◌, ◌∙◌, refl, sym, ap, subst, [], ℕ, zero, suc, ◌+◌, ◌-◌, ◌*◌, ◌/◌, ◌^◌, ◌%◌, ◌≤◌}
-use Rattle.basics.proofs.Common.{◌<◌, pow-succ', arith, eq-eqb, ne_eqb}
+use mathlib.Core.Path.{◌≡◌, ◌∙◌, refl, sym, ap, subst}
+use mathlib.Core.List.{[]}
+use Prim.Native.Nat.{ℕ, zero, suc, ◌+◌, ◌-◌, ◌*◌, ◌/◌, ◌^◌, ◌%◌, ◌≤◌, ◌<◌}
+use native.Mathlib.Nat.{pow-succ'}
+use native.Mathlib.Omega.{arith}
+use borrow.Author.Tests.{eq-eqb, ne_eqb}
 use Rattle.gates.proofs.Laws.{Holds, holds_append}
 use Rattle.gate_words.specs.Gates.{copy_of, xor_of}
 use Rattle.gate_words.specs.Word.{ones_at, number}

@@ -1,8 +1,12 @@
 -- The counter's levels, adder by adder, and their lengths.
 -- Assumes nothing.
-use Rattle.basics.proofs.Common.{◌≡◌, ◌∙◌, refl, sym, ap, subst₂, [], ◌∷◌, ◌++◌, append-nil, ℕ, zero, suc, ◌+◌, ◌-◌}
-use Rattle.basics.proofs.Common.{◌*◌, ◌/◌, ◌%◌, ◌<◌, ◌≤◌, suc-mul, mul-add, mul_comm, mul_assoc, arith, length}
-use Rattle.basics.proofs.Common.{length-append, eq-eqb, ne_eqb}
+use mathlib.Core.Path.{◌≡◌, ◌∙◌, refl, sym, ap, subst₂}
+use mathlib.Core.List.{[], ◌∷◌, ◌++◌, append-nil}
+use Prim.Native.Nat.{ℕ, zero, suc, ◌+◌, ◌-◌, ◌*◌, ◌/◌, ◌%◌, ◌<◌, ◌≤◌}
+use native.Mathlib.Nat.{suc-mul, mul-add, mul_comm, mul_assoc}
+use native.Mathlib.Omega.{arith}
+use lib.ListN.{length, length-append}
+use borrow.Author.Tests.{eq-eqb, ne_eqb}
 use Rattle.gate_words.specs.Adder.{full_adder, half_adder, increment}
 use Rattle.gate_words.specs.Gates.{gate}
 use Rattle.gate_words.specs.Word.{Below}
@@ -98,7 +102,8 @@ length_count n at d m x (suc r) =
     let t = adders (m - 1) (x % 2) in
     omega (
       arith,
-      length-append (level n at (at + d) d (x % 2) (m - 1)) (count_levels (n + 3 * t) (n + 2) 3 t (x / 2) r),
+      length-append (level n at (at + d) d (x % 2) (m - 1))
+          (count_levels (n + 3 * t) (n + 2) 3 t (x / 2) r),
       length_level n at (at + d) d (x % 2) (m - 1) (omega arith),
       length_count (n + 3 * t) (n + 2) 3 t (x / 2) r,
     )

@@ -1,6 +1,9 @@
 -- The gates of the blocks, as the writer writes them.
 -- Assumes nothing.
-use Rattle.basics.proofs.Common.{◌≡◌, ap, List, [], ◌∷◌, ℕ, zero, suc, ◌%◌, ◌<◌, arith}
+use mathlib.Core.Path.{◌≡◌, ap}
+use mathlib.Core.List.{List, [], ◌∷◌}
+use Prim.Native.Nat.{ℕ, zero, suc, ◌%◌, ◌<◌}
+use native.Mathlib.Omega.{arith}
 use Rattle.gates.specs.Kind.{operands_of}
 use Rattle.gates.specs.Gate.{Gate}
 use Rattle.gates.proofs.Laws.{operand_counts_lem}
@@ -31,43 +34,47 @@ bit_none_used zero h = operand_counts_lem.0
 bit_none_used (suc zero) h = operand_counts_lem.1
 bit_none_used (suc (suc v)) h = absurd (omega arith)
 
--- What emitting a gate wrote, with 0 for each operand that the kind does not use.
-module _ {w w₁ : Writer} {t t₁ : List ℕ} where
-  pub constant_wrote : (a b c v : ℕ) → Wrote w t (emitted (v % 2) a b c ∷ []) t₁ w₁ → Wrote w t (constant v ∷ []) t₁ w₁
-  constant_wrote a b c v = wrote_as {gs = emitted (v % 2) a b c ∷ []} {hs = constant v ∷ []}
+module _ (w : Writer) (t t₁ : List ℕ) (w₁ : Writer) (a b c : ℕ) where
+  pub constant_wrote : (v : ℕ) → Wrote w t (emitted (v % 2) a b c ∷ []) t₁ w₁ → Wrote w t (constant v ∷ []) t₁ w₁
+  constant_wrote v = wrote_as w t (emitted (v % 2) a b c ∷ []) (constant v ∷ []) t₁ w₁
       (ap (λ (g : Gate). g ∷ []) (none_used (v % 2) a b c (bit_none_used (v % 2) (omega arith))))
 
-  pub one_wrote : {a : ℕ} (b c kind : ℕ) → operands_of kind ≡ 1 → Wrote w t (emitted kind a b c ∷ []) t₁ w₁ → Wrote w t (gate kind a 0 0 ∷ []) t₁ w₁
-  one_wrote {a} b c kind e = wrote_as (ap (λ (g : Gate). g ∷ []) (one_used kind a b c e))
+  pub one_wrote : (kind : ℕ) → operands_of kind ≡ 1 → Wrote w t (emitted kind a b c ∷ []) t₁ w₁ → Wrote w t (gate kind a 0 0 ∷ []) t₁ w₁
+  one_wrote kind e = wrote_as w t (emitted kind a b c ∷ []) (gate kind a 0 0 ∷ []) t₁ w₁ (ap (λ (g : Gate). g ∷ []) (one_used kind a b c e))
 
-  pub two_wrote : {a b : ℕ} (c kind : ℕ) → operands_of kind ≡ 2 → Wrote w t (emitted kind a b c ∷ []) t₁ w₁ → Wrote w t (gate kind a b 0 ∷ []) t₁ w₁
-  two_wrote {a} {b} c kind e = wrote_as (ap (λ (g : Gate). g ∷ []) (two_used kind a b c e))
+  pub two_wrote : (kind : ℕ) → operands_of kind ≡ 2 → Wrote w t (emitted kind a b c ∷ []) t₁ w₁ → Wrote w t (gate kind a b 0 ∷ []) t₁ w₁
+  two_wrote kind e = wrote_as w t (emitted kind a b c ∷ []) (gate kind a b 0 ∷ []) t₁ w₁ (ap (λ (g : Gate). g ∷ []) (two_used kind a b c e))
 
-  pub copy_wrote : {a : ℕ} (b c : ℕ) → Wrote w t (emitted 2 a b c ∷ []) t₁ w₁ → Wrote w t (copy_of a ∷ []) t₁ w₁
-  copy_wrote b c = one_wrote b c 2 operand_counts_lem.2
+  pub copy_wrote : Wrote w t (emitted 2 a b c ∷ []) t₁ w₁ → Wrote w t (copy_of a ∷ []) t₁ w₁
+  copy_wrote = wrote_as w t (emitted 2 a b c ∷ []) (copy_of a ∷ []) t₁ w₁ (ap (λ (g : Gate). g ∷ []) (one_used 2 a b c operand_counts_lem.2))
 
-  pub not_wrote : {a : ℕ} (b c : ℕ) → Wrote w t (emitted 3 a b c ∷ []) t₁ w₁ → Wrote w t (not_of a ∷ []) t₁ w₁
-  not_wrote b c = one_wrote b c 3 operand_counts_lem.3
+  pub not_wrote : Wrote w t (emitted 3 a b c ∷ []) t₁ w₁ → Wrote w t (not_of a ∷ []) t₁ w₁
+  not_wrote = wrote_as w t (emitted 3 a b c ∷ []) (not_of a ∷ []) t₁ w₁ (ap (λ (g : Gate). g ∷ []) (one_used 3 a b c operand_counts_lem.3))
 
-  pub and_wrote : {a b : ℕ} (c : ℕ) → Wrote w t (emitted 4 a b c ∷ []) t₁ w₁ → Wrote w t (and_of a b ∷ []) t₁ w₁
-  and_wrote c = two_wrote c 4 operand_counts_lem.4
+  pub and_wrote : Wrote w t (emitted 4 a b c ∷ []) t₁ w₁ → Wrote w t (and_of a b ∷ []) t₁ w₁
+  and_wrote = wrote_as w t (emitted 4 a b c ∷ []) (and_of a b ∷ []) t₁ w₁ (ap (λ (g : Gate). g ∷ []) (two_used 4 a b c operand_counts_lem.4))
 
-  pub or_wrote : {a b : ℕ} (c : ℕ) → Wrote w t (emitted 5 a b c ∷ []) t₁ w₁ → Wrote w t (or_of a b ∷ []) t₁ w₁
-  or_wrote c = two_wrote c 5 operand_counts_lem.5
+  pub or_wrote : Wrote w t (emitted 5 a b c ∷ []) t₁ w₁ → Wrote w t (or_of a b ∷ []) t₁ w₁
+  or_wrote = wrote_as w t (emitted 5 a b c ∷ []) (or_of a b ∷ []) t₁ w₁ (ap (λ (g : Gate). g ∷ []) (two_used 5 a b c operand_counts_lem.5))
 
-  pub xor_wrote : {a b : ℕ} (c : ℕ) → Wrote w t (emitted 6 a b c ∷ []) t₁ w₁ → Wrote w t (xor_of a b ∷ []) t₁ w₁
-  xor_wrote c = two_wrote c 6 operand_counts_lem.6
+  pub xor_wrote : Wrote w t (emitted 6 a b c ∷ []) t₁ w₁ → Wrote w t (xor_of a b ∷ []) t₁ w₁
+  xor_wrote = wrote_as w t (emitted 6 a b c ∷ []) (xor_of a b ∷ []) t₁ w₁ (ap (λ (g : Gate). g ∷ []) (two_used 6 a b c operand_counts_lem.6))
 
-  pub mux_wrote : {a b c : ℕ} → Wrote w t (emitted 7 a b c ∷ []) t₁ w₁ → Wrote w t (mux_of a b c ∷ []) t₁ w₁
-  mux_wrote {a} {b} {c} = wrote_as (ap (λ (g : Gate). g ∷ []) (three_used 7 a b c operand_counts_lem.7))
+  pub mux_wrote : Wrote w t (emitted 7 a b c ∷ []) t₁ w₁ → Wrote w t (mux_of a b c ∷ []) t₁ w₁
+  mux_wrote = wrote_as w t (emitted 7 a b c ∷ []) (mux_of a b c ∷ []) t₁ w₁
+      (ap (λ (g : Gate). g ∷ []) (three_used 7 a b c operand_counts_lem.7))
 
 -- three gates, one after the other
-pub wrote_three : {w w₁ w₂ w₃ : Writer} {t t₁ t₂ t₃ : List ℕ} {g₁ g₂ g₃ : Gate}
+pub wrote_three : (w : Writer) (t : List ℕ) (g₁ : Gate) (t₁ : List ℕ) (w₁ : Writer) (g₂ : Gate) (t₂ : List ℕ)
+    (w₂ : Writer) (g₃ : Gate) (t₃ : List ℕ) (w₃ : Writer)
     → Wrote w t (g₁ ∷ []) t₁ w₁ → Wrote w₁ t₁ (g₂ ∷ []) t₂ w₂ → Wrote w₂ t₂ (g₃ ∷ []) t₃ w₃ → Wrote w t (g₁ ∷ g₂ ∷ g₃ ∷ []) t₃ w₃
-wrote_three a b c = wrote_both a (wrote_both b c)
+wrote_three w t g₁ t₁ w₁ g₂ t₂ w₂ g₃ t₃ w₃ a b c =
+    wrote_both w t (g₁ ∷ []) t₁ w₁ (g₂ ∷ g₃ ∷ []) t₃ w₃ a (wrote_both w₁ t₁ (g₂ ∷ []) t₂ w₂ (g₃ ∷ []) t₃ w₃ b c)
 
 -- and four
-pub wrote_four : {w w₁ w₂ w₃ w₄ : Writer} {t t₁ t₂ t₃ t₄ : List ℕ} {g₁ g₂ g₃ g₄ : Gate}
+pub wrote_four : (w : Writer) (t : List ℕ) (g₁ : Gate) (t₁ : List ℕ) (w₁ : Writer) (g₂ : Gate) (t₂ : List ℕ)
+    (w₂ : Writer) (g₃ : Gate) (t₃ : List ℕ) (w₃ : Writer) (g₄ : Gate) (t₄ : List ℕ) (w₄ : Writer)
     → Wrote w t (g₁ ∷ []) t₁ w₁ → Wrote w₁ t₁ (g₂ ∷ []) t₂ w₂ → Wrote w₂ t₂ (g₃ ∷ []) t₃ w₃
     → Wrote w₃ t₃ (g₄ ∷ []) t₄ w₄ → Wrote w t (g₁ ∷ g₂ ∷ g₃ ∷ g₄ ∷ []) t₄ w₄
-wrote_four a b c d = wrote_both a (wrote_three b c d)
+wrote_four w t g₁ t₁ w₁ g₂ t₂ w₂ g₃ t₃ w₃ g₄ t₄ w₄ a b c d =
+    wrote_both w t (g₁ ∷ []) t₁ w₁ (g₂ ∷ g₃ ∷ g₄ ∷ []) t₄ w₄ a (wrote_three w₁ t₁ g₂ t₂ w₂ g₃ t₃ w₃ g₄ t₄ w₄ b c d)

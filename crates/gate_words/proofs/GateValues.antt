@@ -1,7 +1,10 @@
 -- What the wire of a single gate is, from the values of its operands.
 -- Assumes nothing.
-use Rattle.basics.proofs.Common.{◌≡◌, List, ◌∷◌, ℕ, zero, suc, ◌+◌, ◌-◌, ◌%◌, ◌≤◌, min, max, add-one, add-two}
-use Rattle.basics.proofs.Common.{add-three, arith}
+use mathlib.Core.Path.{◌≡◌}
+use mathlib.Core.List.{List, ◌∷◌}
+use Prim.Native.Nat.{ℕ, zero, suc, ◌+◌, ◌-◌, ◌%◌, ◌≤◌, min, max}
+use native.Mathlib.Numerals.{add-one, add-two, add-three}
+use native.Mathlib.Omega.{arith}
 use Rattle.gates.specs.Kind.{value_of}
 use Rattle.gates.specs.Gate.{Gate}
 use Rattle.gates.proofs.Laws.{Holds, zero_value, one_value, copy_value, not_value, and_value, or_value, xor_value}

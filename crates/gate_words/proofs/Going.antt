@@ -1,6 +1,10 @@
 -- A block that is written in pieces: what is left after each piece.
 -- Assumes nothing.
-use Rattle.basics.proofs.Common.{◌≡◌, ◌∙◌, refl, List, [], ◌++◌, ℕ, ◌+◌, ◌≤◌, arith, length, length-append}
+use mathlib.Core.Path.{◌≡◌, ◌∙◌, refl}
+use mathlib.Core.List.{List, [], ◌++◌}
+use Prim.Native.Nat.{ℕ, ◌+◌, ◌≤◌}
+use native.Mathlib.Omega.{arith}
+use lib.ListN.{length, length-append}
 use Rattle.gates.specs.Gate.{Gate}
 use Rattle.gates.proofs.Counting.{count_most}
 use Rattle.gate_words.specs.Writing.{Room, Wrote}
@@ -15,19 +19,19 @@ pub record Goes (w₀ : Writer) (t₀ : List ℕ) (whole : List Gate) (w : Write
   pub wire_left : w.wire + length rest ≡ w₀.wire + length whole
   pub counted : w.conditional ≤ w.gate
 
-pub goes_start : {w : Writer} {t : List ℕ} {whole : List Gate} {n : ℕ} → Room w n → Goes w t whole w t whole
-goes_start r = record { ends = λ t' s h. h; long = refl; gate_left = refl; wire_left = refl; counted = r.counted }
+pub goes_start : (w : Writer) (t : List ℕ) (whole : List Gate) (n : ℕ) → Room w n → Goes w t whole w t whole
+goes_start w t whole n r = record { ends = λ t' s h. h; long = refl; gate_left = refl; wire_left = refl; counted = r.counted }
 
-module _ {w₀ : Writer} {t₀ : List ℕ} {whole : List Gate} where
-  pub goes_as : {w : Writer} {t : List ℕ} {rest rest' : List Gate} → rest ≡ rest' → Goes w₀ t₀ whole w t rest → Goes w₀ t₀ whole w t rest'
-  goes_as e g = rw (← e) g
+module _ (w₀ : Writer) (t₀ : List ℕ) (whole : List Gate) where
+  pub goes_as : (w : Writer) (t : List ℕ) (rest rest' : List Gate) → rest ≡ rest' → Goes w₀ t₀ whole w t rest → Goes w₀ t₀ whole w t rest'
+  goes_as w t rest rest' e g = rw (← e) g
 
   -- a piece is written, and the rest is left
-  pub goes_on : {w w₁ : Writer} {t t₁ : List ℕ} {b rest : List Gate}
+  pub goes_on : (w : Writer) (t : List ℕ) (b rest : List Gate) (t₁ : List ℕ) (w₁ : Writer)
       → Goes w₀ t₀ whole w t (b ++ rest) → Wrote w t b t₁ w₁ → Goes w₀ t₀ whole w₁ t₁ rest
-  goes_on {b = b} {rest = rest} g a =
+  goes_on w t b rest t₁ w₁ g a =
       record {
-        ends = λ t' r h. g.ends t' r (wrote_both a h);
+        ends = λ t' r h. g.ends t' r (wrote_both w t b t₁ w₁ rest t' r a h);
         long = a.long ∙ g.long;
         gate_left = omega (arith, a.gates, g.gate_left, length-append b rest);
         wire_left = omega (arith, a.wires, g.wire_left, length-append b rest);
@@ -35,9 +39,9 @@ module _ {w₀ : Writer} {t₀ : List ℕ} {whole : List Gate} where
       }
 
   -- there is room for m gates of the rest
-  pub goes_room : {w : Writer} {t : List ℕ} {rest : List Gate} {m n : ℕ} → Goes w₀ t₀ whole w t rest → m
+  pub goes_room : (w : Writer) (t : List ℕ) (rest : List Gate) (m n : ℕ) → Goes w₀ t₀ whole w t rest → m
       ≤ length rest → length whole ≤ n → Room w₀ n → Room w m
-  goes_room g l k r =
+  goes_room w t rest m n g l k r =
       record {
         few = omega (arith, g.gate_left, r.few);
         small = omega (arith, g.wire_left, r.small);
@@ -45,5 +49,5 @@ module _ {w₀ : Writer} {t₀ : List ℕ} {whole : List Gate} where
       }
 
   -- nothing is left, so the whole is written
-  pub goes_end : {w : Writer} {t : List ℕ} {rest : List Gate} → rest ≡ [] → Goes w₀ t₀ whole w t rest → Wrote w₀ t₀ whole t w
-  goes_end {w} {t} e g = (goes_as e g).ends t w wrote_nothing
+  pub goes_end : (w : Writer) (t : List ℕ) (rest : List Gate) → rest ≡ [] → Goes w₀ t₀ whole w t rest → Wrote w₀ t₀ whole t w
+  goes_end w t rest e g = (goes_as w t rest [] e g).ends t w (wrote_nothing w t)

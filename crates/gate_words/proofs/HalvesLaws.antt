@@ -1,8 +1,12 @@
 -- What comparisons in two halves say, for every width and cut; their lengths, and that they are well-formed.
 -- Assumes nothing.
-use Rattle.basics.proofs.Common.{◌≡◌, ◌∙◌, refl, sym, ap, subst, ◌⊎◌, inl, inr, ⊎_elim, ◌≢◌, List, [], ◌∷◌, ◌++◌, ℕ}
-use Rattle.basics.proofs.Common.{zero, suc, ◌+◌, ◌-◌, ◌*◌, ◌^◌, ◌≤◌, ◌<◌, add-zero, zero-add, suc-add, mul-suc}
-use Rattle.basics.proofs.Common.{mul-le-mul_left, arith, length, length-append}
+use mathlib.Core.Path.{◌≡◌, ◌∙◌, refl, sym, ap, subst}
+use mathlib.Core.Logic.{◌⊎◌, inl, inr, ⊎_elim, ◌≢◌}
+use mathlib.Core.List.{List, [], ◌∷◌, ◌++◌}
+use Prim.Native.Nat.{ℕ, zero, suc, ◌+◌, ◌-◌, ◌*◌, ◌^◌, ◌≤◌, ◌<◌}
+use native.Mathlib.Nat.{add-zero, zero-add, suc-add, mul-suc, mul-le-mul_left}
+use native.Mathlib.Omega.{arith}
+use lib.ListN.{length, length-append}
 use Rattle.gates.specs.Gate.{Gate}
 use Rattle.gates.proofs.Laws.{Holds, AllGood, holds_append, mux_zero, mux_one}
 use Rattle.gate_words.specs.Gates.{or_of, xor_of, mux_of}
@@ -93,7 +97,8 @@ unfolding compare_halves
 length_compare_halves n x y l h =
     omega (
       arith,
-      length-append (unequal_halves n x y l h) (above_halves (n + unequal_span (l + h)) n x (high_unequal_at n l h) l h),
+      length-append (unequal_halves n x y l h)
+          (above_halves (n + unequal_span (l + h)) n x (high_unequal_at n l h) l h),
       length_unequal_halves n x y l h,
       length_above_halves (n + unequal_span (l + h)) n x (high_unequal_at n l h) l h,
     )
@@ -173,7 +178,8 @@ above_halves_good n f x e l zero hf hx he = above_good n (f + 1) (x + 1) x l (om
 above_halves_good n f x e l (suc h) hf hx he =
     let low = above n (f + 1) (x + 1) x l in
     let high = above (n + l) (f + 1 + l + 1) (x + 1 + l + 1) (x + 1 + l) h in
-    behind n (l + h) (low ++ high) (mux_of e (chain_end (n + l) (x + 1 + l) h) (chain_end n x l) ∷ []) (omega (
+    behind n (l + h) (low ++ high) (mux_of e (chain_end (n + l) (x + 1 + l) h) (chain_end n x l) ∷ [])
+    (omega (
       arith,
       length-append low high,
       length_above n (f + 1) (x + 1) x l,
@@ -218,20 +224,23 @@ joined : {e₁ s₁ a₁ c₁ e₀ s₀ a₀ c₀ e s a c : ℕ} → Tells e₁ 
     → (a₁ < c₁ → a < c) → (c₁ < a₁ → c < a) → (a₁ ≡ c₁ → a + c₀ ≡ c + a₀)
     → (e₁ ≡ 1 → e ≡ 1) → (e₁ ≡ 0 → e ≡ e₀) → (e₁ ≡ 1 → s ≡ s₁) → (e₁ ≡ 0 → s ≡ s₀) → Tells e s a c
 joined {e₁} {s₁} {a₁} {c₁} {e₀} {s₀} {a₀} {c₀} {e} {s} {a} {c} t₁ t₀ less more even e_high e_low s_high s_low =
-    three_ways (Tells e s a c) a₁ c₁ (λ h. let l = less h in let d = t₁.differ (λ z. unlike h z) in
+    three_ways (Tells e s a c) a₁ c₁
+    (λ h. let l = less h in let d = t₁.differ (λ z. unlike h z) in
     record {
       same = λ z. absurd (omega arith);
       differ = λ z. e_high d;
       over = λ z. absurd (omega arith);
       under =
           λ z. s_high d ∙ t₁.under h;
-    }) (λ h. let z₁ = t₁.same h in let q = even h in
+    })
+    (λ h. let z₁ = t₁.same h in let q = even h in
     record {
       same = λ z. e_low z₁ ∙ t₀.same (omega arith);
       differ = λ z. e_low z₁ ∙ t₀.differ (λ k. z (omega arith));
       over = λ z. s_low z₁ ∙ t₀.over (omega arith);
       under = λ z. s_low z₁ ∙ t₀.under (omega arith);
-    }) (λ h. let l = more h in let d = t₁.differ (λ z. unlike h (sym z)) in
+    })
+    (λ h. let l = more h in let d = t₁.differ (λ z. unlike h (sym z)) in
     record {
       same = λ z. absurd (omega arith);
       differ = λ z. e_high d;
@@ -397,8 +406,11 @@ module _ (W : ℕ → ℕ) (b : Binary W) where
       let px : x + suc l ≡ x + 1 + l = omega arith in
       let py : y + suc l ≡ y + 1 + l = omega arith in
       let whole : suc l + suc h ≡ suc (l + suc h) = suc-add l (suc h) in
-      rw (end_more m n l h, end_more k x l h) (joined high low (λ q. parts_less x y l h whole px py q)
-      (λ q. parts_less y x l h whole py px q) (λ q. parts_same x y l h whole px py q) (λ q. omega (arith, ge, b lo))
+      rw (end_more m n l h, end_more k x l h) (joined high low
+      (λ q. parts_less x y l h whole px py q)
+      (λ q. parts_less y x l h whole py px q)
+      (λ q. parts_same x y l h whole px py q)
+      (λ q. omega (arith, ge, b lo))
       (λ q. omega (arith, ge, b lo))
       (λ q. gs ∙ mux_one (W e₁) (W (chain_end (k + l) (x + 1 + l) h)) (W (chain_end k x l)) (ap W same ∙ q))
       (λ q. gs ∙ mux_zero (W e₁) (W (chain_end (k + l) (x + 1 + l) h)) (W (chain_end k x l)) (ap W same ∙ q)))
@@ -451,7 +463,8 @@ module _ (W : ℕ → ℕ) (b : Binary W) where
         b lo,
         any_one W b (n + l) (at + l) (at + l + 1) 1 h
             (omega (arith, ones_parts at l (suc h), ones_more W (at + l) 1 h)) i.1,
-      )) (some_or_none (W s + ones_at W at 1 l))
+      ))
+      (some_or_none (W s + ones_at W at 1 l))
 
   pub unequal_halves_zero : (n x y l h : ℕ) → number W x 1 (suc (l + h)) ≡ number W y 1 (suc (l + h))
       → Holds W n (unequal_halves n x y l h) → W (unequal_at n (l + h)) ≡ 0

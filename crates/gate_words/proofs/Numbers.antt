@@ -1,7 +1,9 @@
 -- Sums of bits, and the numbers that words hold.
 -- Assumes nothing.
-use Rattle.basics.proofs.Common.{◌≡◌, ◌∙◌, refl, ap, ℕ, zero, suc, ◌+◌, ◌*◌, ◌^◌, ◌≤◌, ◌<◌, pow-succ', zero-add}
-use Rattle.basics.proofs.Common.{add-zero, suc-add, mul_assoc, arith}
+use mathlib.Core.Path.{◌≡◌, ◌∙◌, refl, ap}
+use Prim.Native.Nat.{ℕ, zero, suc, ◌+◌, ◌*◌, ◌^◌, ◌≤◌, ◌<◌}
+use native.Mathlib.Nat.{pow-succ', zero-add, add-zero, suc-add, mul_assoc}
+use native.Mathlib.Omega.{arith}
 use Rattle.gate_words.specs.Word.{ones_at, number}
 
 -- every wire is a bit

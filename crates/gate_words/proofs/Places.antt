@@ -1,6 +1,8 @@
 -- Wires that exist already.
 -- Assumes nothing.
-use Rattle.basics.proofs.Common.{◌≡◌, ℕ, zero, suc, ◌+◌, ◌-◌, ◌<◌, ◌≤◌, arith}
+use mathlib.Core.Path.{◌≡◌}
+use Prim.Native.Nat.{ℕ, zero, suc, ◌+◌, ◌-◌, ◌<◌, ◌≤◌}
+use native.Mathlib.Omega.{arith}
 use Rattle.gate_words.specs.Word.{Below}
 
 -- wires below wire n are also below any later wire

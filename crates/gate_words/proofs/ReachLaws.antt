@@ -1,9 +1,16 @@
 -- What the carry out of two words says, for every width; the length of its block, and that the block is
 -- well-formed.
 -- Assumes nothing.
-use Rattle.basics.proofs.Common.{◌≡◌, ◌∙◌, refl, sym, ap, subst, Bool, true, false, cond, ⊎_elim, List, [], ◌∷◌, ◌++◌}
-use Rattle.basics.proofs.Common.{ℕ, zero, suc, ◌+◌, ◌-◌, ◌*◌, ◌/◌, ◌^◌, ◌%◌, ◌≤◌, ◌<◌, add-zero, zero-add, suc-add}
-use Rattle.basics.proofs.Common.{pow-succ', add-one, add-two, arith, eqb, length, length-append}
+use mathlib.Core.Path.{◌≡◌, ◌∙◌, refl, sym, ap, subst}
+use mathlib.Core.Bool.{Bool, true, false, cond}
+use mathlib.Core.Logic.{⊎_elim}
+use mathlib.Core.List.{List, [], ◌∷◌, ◌++◌}
+use Prim.Native.Nat.{ℕ, zero, suc, ◌+◌, ◌-◌, ◌*◌, ◌/◌, ◌^◌, ◌%◌, ◌≤◌, ◌<◌}
+use native.Mathlib.Nat.{add-zero, zero-add, suc-add, pow-succ'}
+use native.Mathlib.Numerals.{add-one, add-two}
+use native.Mathlib.Omega.{arith}
+use lib.Dec.{eqb}
+use lib.ListN.{length, length-append}
 use Rattle.gates.specs.Gate.{Gate}
 use Rattle.gates.proofs.Laws.{Holds, AllGood, holds_append, operand_counts_lem, mux_zero, mux_one}
 use Rattle.gate_words.specs.Gates.{and_of, or_of, xor_of, mux_of}
@@ -337,17 +344,21 @@ module _ (W : ℕ → ℕ) (b : Binary W) where
       let mx = number_more W x 1 h in
       let my = number_more W y 1 h in
       let two = pow-succ' 2 h in
-      ⊎_elim (λ (z : W all ≡ 0).
+      ⊎_elim
+      (λ (z : W all ≡ 0).
       let k = m ∙ mux_zero (W all) (W c) (W free) z in
       let no : W n ≡ 1 → number W (x + 1) 1 h + number W (y + 1) 1 h + 1 ≡ 2 ^ h → ⊥ =
       all_zero (n + suc h + h) n (n + 1) (x + 1) (y + 1) h rest p.2 z in
-      ⊎_elim (λ (u : W n ≡ 0). record {
+      ⊎_elim
+      (λ (u : W n ≡ 0). record {
         reached = λ q. k ∙ v.reached (omega (arith, b x, b y, b c));
         missed = λ q. k
             ∙ v.missed (omega (arith, b x, b y, b c));
-      }) (λ (u : W n ≡ 1). let ne : ¬ (number W (x + 1) 1 h + number W (y + 1) 1 h + 1 ≡ 2 ^ h) = no u in
+      })
+      (λ (u : W n ≡ 1). let ne : ¬ (number W (x + 1) 1 h + number W (y + 1) 1 h + 1 ≡ 2 ^ h) = no u in
       record { reached = λ q. k ∙ v.reached (omega (arith, b x, b y, b c)); missed = λ q. k ∙ v.missed (omega (arith, b x, b y, b c)) })
-      (bit_cases (W n) (b n))) (λ (z : W all ≡ 1).
+      (bit_cases (W n) (b n)))
+      (λ (z : W all ≡ 1).
       let k = m ∙ mux_one (W all) (W c) (W free) z in
       let o = all_one (n + suc h + h) n (n + 1) (x + 1) (y + 1) h rest p.2 z in
       let o₀ = o.0 in

@@ -1,8 +1,12 @@
 -- Rows of sums modulo 2, and counts whose digits are copied or complemented: what they compute, their lengths, and
 -- that they are well-formed.
 -- Assumes nothing.
-use Rattle.basics.proofs.Common.{◌≡◌, ◌∙◌, refl, sym, ap, subst, [], ◌∷◌, ◌++◌, ℕ, zero, suc, ◌+◌, ◌-◌, ◌*◌, ◌/◌, ◌%◌}
-use Rattle.basics.proofs.Common.{◌^◌, ◌≤◌, ◌<◌, add-zero, zero-mul, suc-mul, pow-succ', arith, length}
+use mathlib.Core.Path.{◌≡◌, ◌∙◌, refl, sym, ap, subst}
+use mathlib.Core.List.{[], ◌∷◌, ◌++◌}
+use Prim.Native.Nat.{ℕ, zero, suc, ◌+◌, ◌-◌, ◌*◌, ◌/◌, ◌%◌, ◌^◌, ◌≤◌, ◌<◌}
+use native.Mathlib.Nat.{add-zero, zero-mul, suc-mul, pow-succ'}
+use native.Mathlib.Omega.{arith}
+use lib.ListN.{length}
 use Rattle.basics.proofs.Arithmetic.{count_down}
 use Rattle.gates.proofs.Laws.{Holds, AllGood, holds_append}
 use Rattle.gate_words.specs.Gates.{copy_of, not_of, xor_of}

@@ -1,7 +1,12 @@
 -- Blocks with several gates for each digit, as a first digit and the rest; and their lengths.
 -- Assumes nothing.
-use Rattle.basics.proofs.Common.{◌≡◌, refl, ap, Bool, true, false, cond, List, [], ◌∷◌, ◌++◌, ℕ, zero, suc, ◌+◌, ◌-◌}
-use Rattle.basics.proofs.Common.{◌*◌, ◌<◌, ◌≤◌, arith, eqb, length}
+use mathlib.Core.Path.{◌≡◌, refl, ap}
+use mathlib.Core.Bool.{Bool, true, false, cond}
+use mathlib.Core.List.{List, [], ◌∷◌, ◌++◌}
+use Prim.Native.Nat.{ℕ, zero, suc, ◌+◌, ◌-◌, ◌*◌, ◌<◌, ◌≤◌}
+use native.Mathlib.Omega.{arith}
+use lib.Dec.{eqb}
+use lib.ListN.{length}
 use Rattle.gates.specs.Gate.{Gate}
 use Rattle.gate_words.specs.Gates.{copy_of, not_of, and_of, or_of, xor_of, mux_of}
 use Rattle.gate_words.specs.Adder.{full_adder, half_adder, increment}

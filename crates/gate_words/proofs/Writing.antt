@@ -1,8 +1,15 @@
 -- Writing blocks one after the other.
 -- Assumes nothing.
-use Rattle.basics.proofs.Common.{◌≡◌, ◌∙◌, refl, sym, ap, Bool, true, false, cond, List, [], ◌∷◌, ◌++◌, ℕ, ◌+◌, ◌*◌}
-use Rattle.basics.proofs.Common.{◌≤◌, ◌<◌, add-one, add-two, add-three, arith, ltb, length, set, length-append, sets}
-use Rattle.basics.proofs.Common.{length-sets, lt-ltb}
+use mathlib.Core.Path.{◌≡◌, ◌∙◌, refl, sym, ap}
+use mathlib.Core.Bool.{Bool, true, false, cond}
+use mathlib.Core.List.{List, [], ◌∷◌, ◌++◌}
+use Prim.Native.Nat.{ℕ, ◌+◌, ◌*◌, ◌≤◌, ◌<◌}
+use native.Mathlib.Numerals.{add-one, add-two, add-three}
+use native.Mathlib.Omega.{arith}
+use lib.Dec.{ltb}
+use lib.ListN.{length, set, length-append}
+use lib.Seq.{sets, length-sets}
+use borrow.Author.Tests.{lt-ltb}
 use Rattle.gates.specs.Kind.{operands_of, conditional_of}
 use Rattle.gates.specs.Gate.{Gate, numbers_of}
 use Rattle.gates.proofs.Counting.{count_nil, count_one, count_append, count_most}
@@ -13,8 +20,8 @@ use Rattle.gate_words.specs.declared.writer.Writer.{Writer}
 use Rattle.basics.proofs.Tables.{sets_append}
 
 -- a block of no gates
-pub wrote_nothing : {w : Writer} {t : List ℕ} → Wrote w t [] t w
-wrote_nothing {w} {t} =
+pub wrote_nothing : (w : Writer) (t : List ℕ) → Wrote w t [] t w
+wrote_nothing w t =
     record {
       long = refl;
       numbers = λ h. ap (sets t (4 * w.gate)) (sym numbers_nil);
@@ -24,9 +31,9 @@ wrote_nothing {w} {t} =
     }
 
 -- two blocks, one after the other
-pub wrote_both : {w w₁ w₂ : Writer} {t t₁ t₂ : List ℕ} {gs hs : List Gate}
+pub wrote_both : (w : Writer) (t : List ℕ) (gs : List Gate) (t₁ : List ℕ) (w₁ : Writer) (hs : List Gate) (t₂ : List ℕ) (w₂ : Writer)
     → Wrote w t gs t₁ w₁ → Wrote w₁ t₁ hs t₂ w₂ → Wrote w t (gs ++ hs) t₂ w₂
-wrote_both {w} {w₁} {w₂} {t} {t₁} {t₂} {gs} {hs} a b =
+wrote_both w t gs t₁ w₁ hs t₂ w₂ a b =
     record {
       long = b.long ∙ a.long;
       numbers =
@@ -42,16 +49,16 @@ wrote_both {w} {w₁} {w₂} {t} {t₁} {t₂} {gs} {hs} a b =
     }
 
 -- equal blocks
-pub wrote_as : {w w₁ : Writer} {t t₁ : List ℕ} {gs hs : List Gate} → gs ≡ hs → Wrote w t gs t₁ w₁ → Wrote w t hs t₁ w₁
-wrote_as e a = rw (← e) a
+pub wrote_as : (w : Writer) (t : List ℕ) (gs hs : List Gate) (t₁ : List ℕ) (w₁ : Writer) → gs ≡ hs → Wrote w t gs t₁ w₁ → Wrote w t hs t₁ w₁
+wrote_as w t gs hs t₁ w₁ e a = rw (← e) a
 
 -- room for a part of a block, and for the rest after a part is written
-pub room_less : {w : Writer} {m n : ℕ} → m ≤ n → Room w n → Room w m
-room_less h r = record { few = omega (arith, r.few); small = omega (arith, r.small); counted = r.counted }
+pub room_less : (w : Writer) (m n : ℕ) → m ≤ n → Room w n → Room w m
+room_less w m n h r = record { few = omega (arith, r.few); small = omega (arith, r.small); counted = r.counted }
 
-pub room_after : {w w₁ : Writer} {t t₁ : List ℕ} {gs : List Gate} {m n : ℕ}
+pub room_after : (w : Writer) (t : List ℕ) (gs : List Gate) (t₁ : List ℕ) (w₁ : Writer) (m n : ℕ)
     → Wrote w t gs t₁ w₁ → length gs + m ≤ n → Room w n → Room w₁ m
-room_after {gs = gs} a h r =
+room_after w t gs t₁ w₁ m n a h r =
     record {
       few = omega (arith, a.gates, r.few);
       small = omega (arith, a.wires, r.small);
@@ -59,8 +66,8 @@ room_after {gs = gs} a h r =
     }
 
 -- the table keeps its length
-pub wrote_long : {w w₁ : Writer} {t t₁ : List ℕ} {gs : List Gate} → Wrote w t gs t₁ w₁ → length t₁ ≡ length t
-wrote_long a = a.long
+pub wrote_long : (w : Writer) (t : List ℕ) (gs : List Gate) (t₁ : List ℕ) (w₁ : Writer) → Wrote w t gs t₁ w₁ → length t₁ ≡ length t
+wrote_long w t gs t₁ w₁ a = a.long
 
 -- four numbers stored one after the other
 pub sets_four : (t : List ℕ) (at k a b c : ℕ) → sets t at (k ∷ a ∷ b ∷ c ∷ [])

@@ -1,7 +1,14 @@
 -- Demand 2: the closing bytes of the own list are those of full majority judgment.
 -- Assumes nothing.
-use Rattle.basics.proofs.Common.{◌≡◌, ◌∙◌, sym, ap, subst, Bool, true, false, cond, ◌⊎◌, inl, inr, ⊎_elim, List, []}
-use Rattle.basics.proofs.Common.{◌∷◌, ℕ, suc, ◌+◌, ◌-◌, ◌*◌, ◌≤◌, ◌<◌, arith, length, get_or, ext_get_or, eq-eqb, ne_eqb}
+use mathlib.Core.Path.{◌≡◌, ◌∙◌, sym, ap, subst}
+use mathlib.Core.Bool.{Bool, true, false, cond}
+use mathlib.Core.Logic.{◌⊎◌, inl, inr, ⊎_elim}
+use mathlib.Core.List.{List, [], ◌∷◌}
+use Prim.Native.Nat.{ℕ, suc, ◌+◌, ◌-◌, ◌*◌, ◌≤◌, ◌<◌}
+use native.Mathlib.Omega.{arith}
+use lib.ListN.{length, get_or}
+use lib.Seq.{ext_get_or}
+use borrow.Author.Tests.{eq-eqb, ne_eqb}
 use Rattle.gates.specs.Gate.{Gate}
 use Rattle.gates.specs.Wires.{wire, wires_of, outputs_of}
 use Rattle.gates.proofs.Laws.{AllGood, Holds, wires_hold, wires_bits, wire_bit, output_is, length_outputs}
@@ -80,7 +87,8 @@ module _ (W : ℕ → ℕ) (b : Binary W) (p : Plan) (f : Planned p) (two : 1 < 
               z.0,
               same_sequence p.ballots p.grades p.candidates some (λ c. get_or rows c []) row_is i
                   final.best l final.inside z.1,
-            )) (λ (z : (W (won_from p f two + i) ≡ 0) × Precedes (get_or rows final.best []) (get_or rows i [])). inr z)
+            ))
+            (λ (z : (W (won_from p f two + i) ≡ 0) × Precedes (get_or rows final.best []) (get_or rows i [])). inr z)
             (final.standing i l);
       }
 
@@ -98,7 +106,8 @@ module _ (W : ℕ → ℕ) (b : Binary W) (p : Plan) (f : Planned p) (two : 1 < 
       (λ e. precedes_self (sequence_of (get_or rows j.best []))
       (subst (λ (q : List ℕ). precedes q (sequence_of (get_or rows j.best [])) ≡ true) z.1 e)))
       (λ (z : (W (won_from p f two + c) ≡ 0) × Precedes (get_or rows j.best []) (get_or rows c [])). precedes_one_way
-      (sequence_of (get_or rows j.best [])) (sequence_of (get_or rows c [])) z.1) (j.as_good c l)
+      (sequence_of (get_or rows j.best [])) (sequence_of (get_or rows c [])) z.1)
+      (j.as_good c l)
 
   -- the last k wires are the closing bytes
   pub closing_wires : (i : ℕ) → i < p.candidates → W (won_from p f two + i) ≡ get_or (judgment_of rows) i 0
@@ -110,7 +119,8 @@ module _ (W : ℕ → ℕ) (b : Binary W) (p : Plan) (f : Planned p) (two : 1 < 
       (λ c m. subst (λ (q : List ℕ). precedes (sequence_of (get_or rows c [])) q ≡ false) (sym z.1)
       (unpreceded j c (omega arith)))))
       (λ (z : (W (won_from p f two + i) ≡ 0) × Precedes (get_or rows j.best []) (get_or rows i [])).
-      z.0 ∙ sym (byte_zero rows i (omega arith) j.best (omega (arith, j.inside)) z.1)) (j.as_good i l)
+      z.0 ∙ sym (byte_zero rows i (omega arith) j.best (omega (arith, j.inside)) z.1))
+      (j.as_good i l)
 
 -- the own list of a single candidate, and of two or more
 pub own_single : (s : Shape) → s.candidates ≡ 1 → own_grading s ≡ constant 1 ∷ []
@@ -212,7 +222,8 @@ own_list_is_accurate s xs a = ⊎_elim many one (below_or_not 1 s.candidates)
         ≡ get_or (get_or (counts_of s xs) c []) g 0 = λ c g hc hg. column s xs gs a c g hc hg
         ∙ sym (counts_at s xs c g hc hg) in
         ap (λ (l : List Gate). outputs_of s.candidates (wires_of xs l)) (own_circuit s l)
-        ∙ closing_from s xs gs (enough_gates p f l) (λ i h.
+        ∙ closing_from s xs gs (enough_gates p f l)
+        (λ i h.
         let at : length xs + length gs - s.candidates + i ≡ won_from p f l + i = omega (arith, won_end p f l, a.size) in
         ap W at ∙ closing_wires W (bits_of gs good) p f l holds (counts_of s xs) (counts_length s xs) row_is counted
         (one_grade s xs gs a) i h)

@@ -1,8 +1,12 @@
 -- The own list keeps the bound on the number of gates.
 -- Assumes nothing.
-use Rattle.basics.proofs.Common.{◌≡◌, ◌∙◌, sym, ap, ⊎_elim, ℕ, zero, suc, ◌+◌, ◌-◌, ◌*◌, ◌/◌, ◌^◌, ◌≤◌, ◌<◌, pow-succ'}
-use Rattle.basics.proofs.Common.{suc-mul, add-mul, mul_comm, mul_assoc, mul-add, mul-le-mul, mul-le-mul_left}
-use Rattle.basics.proofs.Common.{mul-le-mul_right, arith, length, pow_mono}
+use mathlib.Core.Path.{◌≡◌, ◌∙◌, sym, ap}
+use mathlib.Core.Logic.{⊎_elim}
+use Prim.Native.Nat.{ℕ, zero, suc, ◌+◌, ◌-◌, ◌*◌, ◌/◌, ◌^◌, ◌≤◌, ◌<◌}
+use native.Mathlib.Nat.{pow-succ', suc-mul, add-mul, mul_comm, mul_assoc, mul-add, mul-le-mul, mul-le-mul_left, mul-le-mul_right}
+use native.Mathlib.Omega.{arith}
+use lib.ListN.{length}
+use lib.Pow.{pow_mono}
 use Rattle.basics.proofs.Cases.{below_or_not}
 use Rattle.gate_words.proofs.CounterSteps.{count_size_most, levels_product}
 use Rattle.graded_circuit.specs.declared.plan.Plan.{Plan}
@@ -136,7 +140,8 @@ module _ (p : Plan) (f : Planned p) where
 
   levels_most : (r m : ℕ) → 0 < m → m ≤ 8 → m ≤ 2 ^ r → levels_span p r m + merge ≤ m * merge
   levels_most zero m some few h = unfold levels_span in (let e : m ≡ 1 = omega arith in omega (arith, ap (λ (k : ℕ). k * merge) e))
-  levels_most (suc r) m some few h = ⊎_elim (λ (l : 1 < m).
+  levels_most (suc r) m some few h = ⊎_elim
+      (λ (l : 1 < m).
       let e = pow r m h in
       let whole : m ≡ m / 2 + (m - m / 2) = omega arith in
       omega (
@@ -147,7 +152,8 @@ module _ (p : Plan) (f : Planned p) where
         merge_most (m / 2) (m - m / 2) (omega arith),
         ap (λ (k : ℕ). k * merge) whole,
         add-mul (m / 2) (m - m / 2) merge,
-      )) (λ (l : m ≤ 1). let e : m ≡ 1 = omega arith in omega (arith, span_one p r m l, ap (λ (k : ℕ). k * merge) e))
+      ))
+      (λ (l : m ≤ 1). let e : m ≡ 1 = omega arith in omega (arith, span_one p r m l, ap (λ (k : ℕ). k * merge) e))
       (below_or_not 1 m)
     where
       pow : (r m : ℕ) → m ≤ 2 ^ suc r → m ≤ 2 * 2 ^ r

@@ -1,7 +1,9 @@
 -- A candidate's circuit is well-formed, and its length says where each part starts.
 -- Assumes nothing.
-use Rattle.basics.proofs.Common.{◌≡◌, refl, sym, ap, ℕ, zero, suc, ◌+◌, ◌-◌, ◌*◌, ◌≤◌, ◌<◌, suc-mul, zero-mul, mul-one}
-use Rattle.basics.proofs.Common.{mul-le-mul_right, arith}
+use mathlib.Core.Path.{◌≡◌, refl, sym, ap}
+use Prim.Native.Nat.{ℕ, zero, suc, ◌+◌, ◌-◌, ◌*◌, ◌≤◌, ◌<◌}
+use native.Mathlib.Nat.{suc-mul, zero-mul, mul-one, mul-le-mul_right}
+use native.Mathlib.Omega.{arith}
 use Rattle.gates.proofs.Laws.{operand_counts_lem}
 use Rattle.gate_words.specs.Word.{Below}
 use Rattle.gate_words.proofs.Places.{below_first}
@@ -46,10 +48,12 @@ module _ (p : Plan) (f : Planned p) where
   next_rows_block n c g zero h hc hg = sized (sym (zero-mul p.ballots)) (none_block (n + g * p.ballots))
   next_rows_block n c g (suc t) h hc hg =
       let m = n + g * p.ballots in
-      sized (omega (arith, suc-mul t p.ballots)) (both_block
+      sized (omega (arith, suc-mul t p.ballots))
+      (both_block
       (rows_block m (row_at p n c g) (row_stride p g) (bits_at p c (suc g)) (ballot_stride p) p.ballots
       (counted_below n m c g h hc (omega arith)) (bits_below p f m c (suc g) (omega arith) hc (omega arith)))
-      (omega (arith, suc-mul g p.ballots)) (next_rows_block n c (suc g) t h hc (omega arith)))
+      (omega (arith, suc-mul g p.ballots))
+      (next_rows_block n c (suc g) t h hc (omega arith)))
 
   pub sum_block : (n m c g : ℕ) → p.inputs ≤ n → c < p.candidates → n + g * p.ballots ≤ m
       → Block (sum_levels_from p m g) (sum_levels p n m c g) (sum_size p)
@@ -90,7 +94,8 @@ module _ (p : Plan) (f : Planned p) where
   key_words_block q n m c g (suc t) h hc hm hq =
       let next : g + suc t ≡ suc g + t = omega arith in
       let places = ap (λ (k : ℕ). k * sum_size p) next in
-      sized (omega (arith, suc-mul t (word_span p))) (both_block (key_word_block q n m c g h hc (hm g (omega arith))
+      sized (omega (arith, suc-mul t (word_span p)))
+      (both_block (key_word_block q n m c g h hc (hm g (omega arith))
       (omega (arith, mul-le-mul_right {m = suc g} {n = suc g + t} (sum_size p) (omega arith)))) refl
       (key_words_block (q + word_span p) n m c (suc g) t h hc (λ i l. hm i (omega arith)) (omega arith)))
 
@@ -116,6 +121,7 @@ module _ (p : Plan) (f : Planned p) where
       sized (omega (arith, candidate_span_lem p, ap (λ (k : ℕ). k * word_span p) words, suc-mul t (word_span p)))
       (both_block (both_block (both_block (both_block
       (from_wire from (next_rows_block n c 0 (p.grades - 3) h hc (omega arith))) (omega (arith, zero-mul (sum_size p)))
-      (all_levels_block n m c 0 t h hc before)) (omega arith) (worst_levels_block l c (omega arith) hc)) (omega arith)
+      (all_levels_block n m c 0 t h hc before)) (omega arith)
+      (worst_levels_block l c (omega arith) hc)) (omega arith)
       (key_words_block x n m c 0 t h hc before (omega arith))) (omega arith)
       (worst_word_block (x + t * word_span p) l c (omega arith) hc (omega arith)))

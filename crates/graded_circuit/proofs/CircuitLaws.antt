@@ -1,6 +1,10 @@
 -- The circuit of a plan is well-formed, and its last wires say who is as good as the best candidate.
 -- Assumes nothing.
-use Rattle.basics.proofs.Common.{◌≡◌, refl, sym, subst, ℕ, suc, ◌+◌, ◌-◌, ◌*◌, ◌/◌, ◌<◌, zero-add, arith, length}
+use mathlib.Core.Path.{◌≡◌, refl, sym, subst}
+use Prim.Native.Nat.{ℕ, suc, ◌+◌, ◌-◌, ◌*◌, ◌/◌, ◌<◌}
+use native.Mathlib.Nat.{zero-add}
+use native.Mathlib.Omega.{arith}
+use lib.ListN.{length}
 use Rattle.basics.specs.Lists.{sum, tabulate}
 use Rattle.gates.proofs.Laws.{Holds}
 use Rattle.gate_words.specs.Word.{ones_at}
@@ -108,4 +112,5 @@ module _ (p : Plan) (f : Planned p) (two : 1 < p.candidates) where
         final (result_at p (merge_at p low_levels n k)) x y
         (halves_law p f S Before rule W b medians sums keys low_levels n 0 k (omega arith) two (omega arith) (omega arith) one
         (subst (λ (c : ℕ). Group p f S Before rule W b c (k - k / 2) (best_key p low_levels other c (k - k / 2))
-        (winner_flags p low_levels other (k - k / 2))) (sym (zero-add (k / 2))) two') parts.3)
+        (winner_flags p low_levels other (k - k / 2))) (sym (zero-add (k / 2))) two')
+        parts.3)

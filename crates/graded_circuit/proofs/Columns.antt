@@ -1,7 +1,12 @@
 -- The bits of a grade add up to its count. Of a candidate's bits in one ballot, exactly one is 1.
 -- Assumes nothing.
-use Rattle.basics.proofs.Common.{◌≡◌, ◌∙◌, sym, ap, List, ℕ, zero, suc, ◌+◌, ◌*◌, ◌≤◌, ◌<◌, zero-mul, suc-mul, add-mul}
-use Rattle.basics.proofs.Common.{mul_assoc, arith, get_or, drop, get_or-drop}
+use mathlib.Core.Path.{◌≡◌, ◌∙◌, sym, ap}
+use mathlib.Core.List.{List}
+use Prim.Native.Nat.{ℕ, zero, suc, ◌+◌, ◌*◌, ◌≤◌, ◌<◌}
+use native.Mathlib.Nat.{zero-mul, suc-mul, add-mul, mul_assoc}
+use native.Mathlib.Omega.{arith}
+use lib.ListN.{get_or, drop}
+use lib.Seq.{get_or-drop}
 use Rattle.gates.specs.Wires.{wire, wires_of}
 use Rattle.gates.specs.Gate.{Gate}
 use Rattle.gates.proofs.Laws.{wires_start}

@@ -1,7 +1,11 @@
 -- A contest of two keys is well-formed, and says which key comes first.
 -- Assumes nothing.
-use Rattle.basics.proofs.Common.{◌≡◌, ◌∙◌, refl, sym, ap, subst, ◌⊎◌, inl, inr, ⊎_elim, [], ◌∷◌, ℕ, zero, suc, ◌+◌}
-use Rattle.basics.proofs.Common.{◌-◌, ◌*◌, ◌%◌, ◌^◌, ◌≤◌, ◌<◌, pow-succ', suc-mul, zero-mul, add-zero, arith}
+use mathlib.Core.Path.{◌≡◌, ◌∙◌, refl, sym, ap, subst}
+use mathlib.Core.Logic.{◌⊎◌, inl, inr, ⊎_elim}
+use mathlib.Core.List.{[], ◌∷◌}
+use Prim.Native.Nat.{ℕ, zero, suc, ◌+◌, ◌-◌, ◌*◌, ◌%◌, ◌^◌, ◌≤◌, ◌<◌}
+use native.Mathlib.Nat.{pow-succ', suc-mul, zero-mul, add-zero}
+use native.Mathlib.Omega.{arith}
 use Rattle.gates.proofs.Laws.{Holds, mux_zero, mux_one}
 use Rattle.basics.proofs.Cases.{below_or_not}
 use Rattle.gate_words.specs.Gates.{copy_of, or_of, mux_of}
@@ -153,7 +157,8 @@ module _ (p : Plan) (f : Planned p) where
         one_ballot : p.digits ≡ 0 → (g : ℕ) → A g ≡ C g
         one_ballot e g =
             let one : p.ballots ≡ 1 = omega (arith, f.n_least, f.high, ap (λ (k : ℕ). 2 ^ suc k) e) in
-            ⊎_elim (λ (l : g < median). omega (arith, a.passed g l, c.passed g l))
+            ⊎_elim
+            (λ (l : g < median). omega (arith, a.passed g l, c.passed g l))
             (λ (l : median ≤ g). omega (arith, a.reached g l, c.reached g l, a.most g, c.most g))
             (below_or_not g median)
 
@@ -173,15 +178,18 @@ module _ (p : Plan) (f : Planned p) where
             let t = compare_cut_law n x y r k hr W b h in
             ⊎_elim
             (λ (o : A 0 ≡ C 0). inl (t.same (omega arith), λ g l. let q : 0 ≡ g = omega arith in sym (ap A q) ∙ o ∙ ap C q))
-            (⊎_elim (λ (o : C 0 < A 0). inr (inl (
+            (⊎_elim
+            (λ (o : C 0 < A 0). inr (inl (
               t.differ (λ q. unlike (A 0) (C 0) o (omega arith)),
               t.over (omega arith),
               record { grade = 0; decides = first A C d o z },
-            ))) (λ (o : A 0 < C 0). inr (inr (
+            )))
+            (λ (o : A 0 < C 0). inr (inr (
               t.differ (λ q. unlike (C 0) (A 0) o (omega arith)),
               t.under (omega arith),
               record { grade = 0; decides = first C A d o z },
-            )))) (three_ways (A 0) (C 0))
+            ))))
+            (three_ways (A 0) (C 0))
           where
             unlike : (u v : ℕ) → v < u → u ≡ v → ⊥
             unlike u v l e = omega arith
@@ -204,9 +212,11 @@ module _ (p : Plan) (f : Planned p) where
             let q = n + compare_span r in
             let em = unequal_at n r in
             let sm = above_at n x r in
-            let o = cut2 W n (compare_cut n x y r k) (or_of e' em ∷ mux_of e' s' sm ∷ []) q (omega (
+            let o = cut2 W n (compare_cut n x y r k) (or_of e' em ∷ mux_of e' s' sm ∷ []) q
+            (omega (
               arith,
-              (compare_block n x y r k (omega arith) (single_of r x n z hx e) (single_of r y n z hy e)).long,
+              (compare_block n x y r k (omega arith) (single_of r x n z hx e)
+                  (single_of r y n z hy e)).long,
             )) h in
             let w₁ = holds_first W q (or_of e' em) (mux_of e' s' sm ∷ []) o.1 ∙ or_is W b e' em in
             let w₂ = holds_first W (q + 1) (mux_of e' s' sm) []
@@ -261,9 +271,11 @@ module _ (p : Plan) (f : Planned p) where
           (flags_end x n hx) (unary y j C c ky) (unary x i A a kx) o.0 in
           let decide : W em ≡ 1 → (W (result_at p n) ≡ 1) × (W (result_at p n + 1) ≡ W sm) =
           λ z. tie_break_below_medians x y p.digits (p.grades - 2) l k em sm hr refl refl (omega arith) (omega arith) z o.1 in
-          ⊎_elim (λ (q : i ≡ j).
+          ⊎_elim
+          (λ (q : i ≡ j).
           tie_break_below_law i a (subst (λ (u : ℕ). Sums p.ballots p.grades C u) (sym q) c) p.digits
-          (p.grades - 2) l k em sm hr refl refl (omega arith) (omega arith) (t.same (sym q)) o.1) (⊎_elim
+          (p.grades - 2) l k em sm hr refl refl (omega arith) (omega arith) (t.same (sym q)) o.1)
+          (⊎_elim
           (λ (q : j < i). let u = t.under q in let v = decide u.0 in inr (inr (v.0, v.1 ∙ u.1, ahead C A j i c a q)))
           (λ (q : i < j). let u = t.over q in let v = decide u.0 in inr (inl (v.0, v.1 ∙ u.1, ahead A C i j a c q))))
           (three_ways i j)

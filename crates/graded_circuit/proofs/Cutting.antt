@@ -1,6 +1,10 @@
 -- The wires of several blocks one after the other: those of each block, from its own place on.
 -- Assumes nothing.
-use Rattle.basics.proofs.Common.{◌≡◌, subst, List, ◌++◌, ℕ, ◌+◌, arith, length, length-append}
+use mathlib.Core.Path.{◌≡◌, subst}
+use mathlib.Core.List.{List, ◌++◌}
+use Prim.Native.Nat.{ℕ, ◌+◌}
+use native.Mathlib.Omega.{arith}
+use lib.ListN.{length, length-append}
 use Rattle.gates.specs.Gate.{Gate}
 use Rattle.gates.proofs.Laws.{Holds, holds_append}
 

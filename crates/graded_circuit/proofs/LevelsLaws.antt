@@ -1,8 +1,12 @@
 -- The levels of merges are well-formed, and find the best of their candidates.
 -- Assumes nothing.
-use Rattle.basics.proofs.Common.{◌≡◌, ◌∙◌, refl, sym, ap, subst, ◌⊎◌, inl, ⊎_elim, List, [], ◌++◌, ℕ, zero, suc, ◌+◌}
-use Rattle.basics.proofs.Common.{◌-◌, ◌*◌, ◌/◌, ◌^◌, ◌≤◌, ◌<◌, pow-succ', suc-mul, zero-mul, add-zero}
-use Rattle.basics.proofs.Common.{mul-le-mul_right, arith, le-leb, lt-leb}
+use mathlib.Core.Path.{◌≡◌, ◌∙◌, refl, sym, ap, subst}
+use mathlib.Core.Logic.{◌⊎◌, inl, ⊎_elim}
+use mathlib.Core.List.{List, [], ◌++◌}
+use Prim.Native.Nat.{ℕ, zero, suc, ◌+◌, ◌-◌, ◌*◌, ◌/◌, ◌^◌, ◌≤◌, ◌<◌}
+use native.Mathlib.Nat.{pow-succ', suc-mul, zero-mul, add-zero, mul-le-mul_right}
+use native.Mathlib.Omega.{arith}
+use borrow.Author.Tests.{le-leb, lt-leb}
 use Rattle.gates.specs.Gate.{Gate}
 use Rattle.gates.proofs.Laws.{Holds}
 use Rattle.basics.proofs.Cases.{below_or_not}
@@ -73,13 +77,15 @@ module _ (p : Plan) (f : Planned p) where
   unfolding candidates_from
   candidates_block n c zero h hc = sized (sym (zero-mul (candidate_span p))) (none_block n)
   candidates_block n c (suc m) h hc =
-      sized (omega (arith, suc-mul m (candidate_span p))) (both_block (candidate_block p f n c h (omega arith)) refl
+      sized (omega (arith, suc-mul m (candidate_span p)))
+      (both_block (candidate_block p f n c h (omega arith)) refl
       (candidates_block (n + candidate_span p) (c + 1) m (omega arith) (omega arith)))
 
   -- the key of a group, and its wires, end before what comes next
   pub key_place : (r n c m : ℕ) → levels_at p ≤ n → 0 < m → c + m ≤ p.candidates → best_key p r n c m + key_span p ≤ n + levels_span p r m
   key_place zero n c m h hm hc = unfold best_key levels_span in (omega (arith, key_before c (omega arith)))
-  key_place (suc r) n c m h hm hc = ⊎_elim (λ (l : 1 < m). omega (arith, key_more p r m n c l, span_more p r m l))
+  key_place (suc r) n c m h hm hc = ⊎_elim
+      (λ (l : 1 < m). omega (arith, key_more p r m n c l, span_more p r m l))
       (λ (l : m ≤ 1). omega (arith, key_one p r m n c l, span_one p r m l, key_before c (omega arith)))
       (below_or_not 1 m)
 
@@ -114,14 +120,17 @@ module _ (p : Plan) (f : Planned p) where
   pub levels_block : (r n c m : ℕ) → levels_at p ≤ n → 0 < m → m ≤ 2 ^ r → c + m ≤ p.candidates
       → Block n (levels p r n c m) (levels_span p r m)
   levels_block zero n c m h hm hr hc = unfold levels levels_span in (none_block n)
-  levels_block (suc r) n c m h hm hr hc = ⊎_elim (λ (l : 1 < m). let q = halves r m l hr in
+  levels_block (suc r) n c m h hm hr hc = ⊎_elim
+      (λ (l : 1 < m). let q = halves r m l hr in
       subst (λ (gs : List Gate). Block n gs (levels_span p (suc r) m)) (sym (levels_more p r m n c l))
       (sized (sym (span_more p r m l))
       (both_block (both_block (both_block (levels_block r n c (m / 2) h q.0 q.1 (omega arith)) refl
       (levels_block r (other_at p r n m) (c + m / 2) (m - m / 2) (omega arith) q.2 q.3 (omega arith))) (omega arith)
-      (halves_merge_block r n c m h l hr hc)) (omega arith) (halves_better_block r n c m h l hr hc))))
+      (halves_merge_block r n c m h l hr hc)) (omega arith)
+      (halves_better_block r n c m h l hr hc))))
       (λ (l : m ≤ 1). subst (λ (gs : List Gate). Block n gs (levels_span p (suc r) m)) (sym (levels_one p r m n c l))
-      (sized (sym (span_one p r m l)) (none_block n))) (below_or_not 1 m)
+      (sized (sym (span_one p r m l)) (none_block n)))
+      (below_or_not 1 m)
 
   -- the candidates' circuits, each from its own place on
   module _ (W : ℕ → ℕ) where
@@ -197,7 +206,8 @@ module _ (p : Plan) (f : Planned p) (S : ℕ → ℕ → ℕ) (Before : ℕ → 
   chosen_key r n c m at T choice w =
       let x = best_key p r n c (m / 2) in
       let y = best_key p r (other_at p r n m) (c + m / 2) (m - m / 2) in
-      ⊎_elim (λ (z : (W (result_at p (merge_at p r n m) + 1) ≡ 1) × Spells W b p f x T). better_one W b p
+      ⊎_elim
+      (λ (z : (W (result_at p (merge_at p r n m) + 1) ≡ 1) × Spells W b p f x T). better_one W b p
       f at (merge_at p r n m) x y T w z.0 z.1)
       (λ (z : (W (result_at p (merge_at p r n m) + 1) ≡ 0) × Spells W b p f y T). better_zero W b p
       f at (merge_at p r n m) x y T w z.0 z.1)
@@ -207,7 +217,8 @@ module _ (p : Plan) (f : Planned p) (S : ℕ → ℕ → ℕ) (Before : ℕ → 
       → Group p f S Before rule W b c m (best_key p r n c m) (winner_flags p r n m)
   levels_law zero n c m h hm hr hc w = unfold best_key in
       (alone c m (key_at p c) (winner_flags p 0 n m) (omega arith) hc (keys c (omega arith)))
-  levels_law (suc r) n c m h hm hr hc w = ⊎_elim (λ (l : 1 < m).
+  levels_law (suc r) n c m h hm hr hc w = ⊎_elim
+      (λ (l : 1 < m).
       let q = halves r m l hr in
       let other = other_at p r n m in
       let merge = merge_at p r n m in
@@ -233,7 +244,9 @@ module _ (p : Plan) (f : Planned p) (S : ℕ → ℕ → ℕ) (Before : ℕ → 
         standing = λ i z.
             subst (λ (u : ℕ). Standing p f S Before rule u (c + i) j.best)
             (ap (λ (u : ℕ). W (u + i)) (sym (won_more p r m n c l))
-            ∙ sym (won_bit_lem W (winner_flags p (suc r) n m) m i l)) (j.standing i (omega arith));
-      }) (λ (l : m ≤ 1). alone c m (best_key p (suc r) n c m) (winner_flags p (suc r) n m) (omega arith) hc
+            ∙ sym (won_bit_lem W (winner_flags p (suc r) n m) m i l))
+            (j.standing i (omega arith));
+      })
+      (λ (l : m ≤ 1). alone c m (best_key p (suc r) n c m) (winner_flags p (suc r) n m) (omega arith) hc
       (subst (λ (i : ℕ). Spells W b p f i (S c)) (sym (key_one p r m n c l)) (keys c (omega arith))))
       (below_or_not 1 m)

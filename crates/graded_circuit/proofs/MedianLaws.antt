@@ -1,8 +1,12 @@
 -- Which of two median grades is worse: compares the numbers of ones in two rows of wires whose ones come first.
 -- Assumes nothing.
-use Rattle.basics.proofs.Common.{◌≡◌, ◌∙◌, refl, ap, subst, subst₂, ⊎_elim, [], ◌∷◌, ◌++◌, ℕ, zero, suc, ◌+◌, ◌-◌, ◌*◌}
-use Rattle.basics.proofs.Common.{◌/◌, ◌%◌, ◌^◌, ◌≤◌, ◌<◌, max, pow-succ', suc-mul, zero-mul, add-mul, mul-add, arith}
-use Rattle.basics.proofs.Common.{length, length-append}
+use mathlib.Core.Path.{◌≡◌, ◌∙◌, refl, ap, subst, subst₂}
+use mathlib.Core.Logic.{⊎_elim}
+use mathlib.Core.List.{[], ◌∷◌, ◌++◌}
+use Prim.Native.Nat.{ℕ, zero, suc, ◌+◌, ◌-◌, ◌*◌, ◌/◌, ◌%◌, ◌^◌, ◌≤◌, ◌<◌, max}
+use native.Mathlib.Nat.{pow-succ', suc-mul, zero-mul, add-mul, mul-add}
+use native.Mathlib.Omega.{arith}
+use lib.ListN.{length, length-append}
 use Rattle.gates.proofs.Laws.{Holds, mux_zero, mux_one}
 use Rattle.gate_words.specs.Gates.{or_of, xor_of, mux_of}
 use Rattle.gate_words.specs.Word.{ones_at}
@@ -62,7 +66,8 @@ pub length_next : (n x y d m e s : ℕ) → length (next_digit n x y d m e s) �
 unfolding next_digit
 length_next n x y d m e s = omega (
   arith,
-  length-append (digit_difference n x y d m) (or_of e (differ_at n m) ∷ mux_of (differ_at n m) (left_digit n x m) s ∷ []),
+  length-append (digit_difference n x y d m)
+      (or_of e (differ_at n m) ∷ mux_of (differ_at n m) (left_digit n x m) s ∷ []),
   length_difference n x y d m,
 )
 
@@ -240,12 +245,16 @@ module _ (W : ℕ → ℕ) (b : Binary W) where
             let no : W q ≡ 0 = omega arith in
             let r = rest.same (omega arith) in
             (omega (arith, r.0), r.1 ∙ choice ∙ mux_zero (W q) (W left) (W s) no);
-        over = λ h. ⊎_elim (λ (l : j / 2 < i / 2). rest.over l) (λ (l : i / 2 ≤ j / 2).
+        over = λ h. ⊎_elim
+            (λ (l : j / 2 < i / 2). rest.over l)
+            (λ (l : i / 2 ≤ j / 2).
             let yes : W q ≡ 1 = omega arith in
             let r = rest.same (omega arith) in
             (omega (arith, r.0, b e), r.1 ∙ choice ∙ mux_one (W q) (W left) (W s) yes ∙ first ∙ omega arith))
             (below_or_not (j / 2) (i / 2));
-        under = λ h. ⊎_elim (λ (l : i / 2 < j / 2). rest.under l) (λ (l : j / 2 ≤ i / 2).
+        under = λ h. ⊎_elim
+            (λ (l : i / 2 < j / 2). rest.under l)
+            (λ (l : j / 2 ≤ i / 2).
             let yes : W q ≡ 1 = omega arith in
             let r = rest.same (omega arith) in
             (omega (arith, r.0, b e), r.1 ∙ choice ∙ mux_one (W q) (W left) (W s) yes ∙ first ∙ omega arith))
@@ -293,10 +302,12 @@ module _ (W : ℕ → ℕ) (b : Binary W) where
   all_digits i j q left e' s' differ first rest =
       record {
         same = λ h. (rest.same (omega arith)).0 ∙ differ ∙ omega arith;
-        over = λ h. ⊎_elim (λ (l : j / 2 < i / 2). rest.over l)
+        over = λ h. ⊎_elim
+            (λ (l : j / 2 < i / 2). rest.over l)
             (λ (l : i / 2 ≤ j / 2). let r = rest.same (omega arith) in (r.0 ∙ differ ∙ omega arith, r.1 ∙ first ∙ omega arith))
             (below_or_not (j / 2) (i / 2));
-        under = λ h. ⊎_elim (λ (l : i / 2 < j / 2). rest.under l)
+        under = λ h. ⊎_elim
+            (λ (l : i / 2 < j / 2). rest.under l)
             (λ (l : j / 2 ≤ i / 2). let r = rest.same (omega arith) in (r.0 ∙ differ ∙ omega arith, r.1 ∙ first ∙ omega arith))
             (below_or_not (i / 2) (j / 2));
       }

@@ -1,8 +1,13 @@
 -- Merging two groups of candidates: who is the best of both, and who is as good.
 -- Assumes nothing.
-use Rattle.basics.proofs.Common.{◌≡◌, ◌∙◌, refl, sym, ap, subst, ◌⊎◌, inl, inr, ⊎_elim, Bool, true, false, cond, [], ℕ}
-use Rattle.basics.proofs.Common.{zero, suc, ◌+◌, ◌-◌, ◌*◌, ◌/◌, ◌%◌, ◌≤◌, ◌<◌, min, suc-mul, add-zero}
-use Rattle.basics.proofs.Common.{mul-le-mul_right, arith, leb}
+use mathlib.Core.Path.{◌≡◌, ◌∙◌, refl, sym, ap, subst}
+use mathlib.Core.Logic.{◌⊎◌, inl, inr, ⊎_elim}
+use mathlib.Core.Bool.{Bool, true, false, cond}
+use mathlib.Core.List.{[]}
+use Prim.Native.Nat.{ℕ, zero, suc, ◌+◌, ◌-◌, ◌*◌, ◌/◌, ◌%◌, ◌≤◌, ◌<◌, min}
+use native.Mathlib.Nat.{suc-mul, add-zero, mul-le-mul_right}
+use native.Mathlib.Omega.{arith}
+use lib.Dec.{leb}
 use Rattle.gates.proofs.Laws.{Holds, mux_zero, mux_one}
 use Rattle.basics.proofs.Cases.{below_or_not}
 use Rattle.gate_words.specs.Gates.{copy_of, not_of, and_of, xor_of, mux_of}
@@ -206,11 +211,13 @@ module _ (p : Plan) (f : Planned p) (S : ℕ → ℕ → ℕ) (Before : ℕ → 
   next_standing : (bit stays j o best : ℕ) → j < p.candidates → o < p.candidates → best < p.candidates
       → Standing bit j o → Standing stays o best → Standing (min bit stays) j best
   next_standing bit stays j o best hj ho hb a c =
-      ⊎_elim (λ (x : (bit ≡ 1) × Same (p.grades - 1) S j o). let e = x.0 in ⊎_elim
+      ⊎_elim
+      (λ (x : (bit ≡ 1) × Same (p.grades - 1) S j o). let e = x.0 in ⊎_elim
       (λ (y : (stays ≡ 1) × Same (p.grades - 1) S o best). let e' = y.0 in inl (omega arith, λ g l. x.1 g l ∙ y.1 g l))
       (λ (y : (stays ≡ 0) × Before best o). let e' = y.0 in
       inr (omega arith, rule.same_second best o j hb ho hj y.1 (λ g l. sym (x.1 g l))))
-      c) (λ (x : (bit ≡ 0) × Before o j). let e = x.0 in ⊎_elim
+      c)
+      (λ (x : (bit ≡ 0) × Before o j). let e = x.0 in ⊎_elim
       (λ (y : (stays ≡ 1) × Same (p.grades - 1) S o best). let e' = y.0 in
       inr (omega arith, rule.same_first best o j hb ho hj (λ g l. sym (y.1 g l)) x.1))
       (λ (y : (stays ≡ 0) × Before best o). let e' = y.0 in inr (omega arith, rule.chained best o j hb ho hj y.1 x.1))
@@ -241,21 +248,26 @@ module _ (p : Plan) (f : Planned p) (S : ℕ → ℕ → ℕ) (Before : ℕ → 
         let v₂ = v.0 in
         let v₃ = v.1 in
         let v₄ = v.2 in
-        ⊎_elim (λ (t : (W q ≡ 0) × ((g : ℕ) → g < p.grades - 1 → S l g ≡ S r g)).
+        ⊎_elim
+        (λ (t : (W q ≡ 0) × ((g : ℕ) → g < p.grades - 1 → S l g ≡ S r g)).
         let z = t.0 in
         let none : W (q + 2) ≡ 0 = omega arith in
-        ⊎_elim (λ (s : W (q + 1) ≡ 0). record {
+        ⊎_elim
+        (λ (s : W (q + 1) ≡ 0). record {
           best = r;
           choice = inr (s, refl);
           left = inl (omega arith, t.1);
           right =
               inl (omega arith, λ g i. refl);
-        }) (λ (s : W (q + 1) ≡ 1). record {
+        })
+        (λ (s : W (q + 1) ≡ 1). record {
           best = l;
           choice = inl (s, refl);
           left = inl (omega arith, λ g i. refl);
           right = inl (omega arith, λ g i. sym (t.1 g i));
-        }) (bit_cases (W (q + 1)) (b (q + 1)))) (⊎_elim
+        })
+        (bit_cases (W (q + 1)) (b (q + 1))))
+        (⊎_elim
         (λ (t : (W q ≡ 1) × (W (q + 1) ≡ 1) × Ahead p.ballots (p.grades - 1) (S l) (S r)).
         let z = t.0 in
         let s = t.1 in
@@ -266,7 +278,8 @@ module _ (p : Plan) (f : Planned p) (S : ℕ → ℕ → ℕ) (Before : ℕ → 
           left = inl (omega arith, λ g i. refl);
           right =
               inr (omega arith, rule.ahead l r hl hr t.2);
-        }) (λ (t : (W q ≡ 1) × (W (q + 1) ≡ 0) × Ahead p.ballots (p.grades - 1) (S r) (S l)).
+        })
+        (λ (t : (W q ≡ 1) × (W (q + 1) ≡ 0) × Ahead p.ballots (p.grades - 1) (S r) (S l)).
         let z = t.0 in
         let s = t.1 in
         let first : W (q + 2) ≡ 0 = omega arith in
@@ -298,10 +311,12 @@ module _ (p : Plan) (f : Planned p) (S : ℕ → ℕ → ℕ) (Before : ℕ → 
           best = t.best;
           least = within.0;
           most = within.1;
-          choice = ⊎_elim (λ (z : (W (result_at p n + 1) ≡ 1) × (t.best ≡ a.best)). inl
+          choice = ⊎_elim
+              (λ (z : (W (result_at p n + 1) ≡ 1) × (t.best ≡ a.best)). inl
               (z.0, subst (λ (g : ℕ). Spells W b p f x (S g)) (sym z.1) a.spells))
               (λ (z : (W (result_at p n + 1) ≡ 0) × (t.best ≡ d.best)). inr
-              (z.0, subst (λ (g : ℕ). Spells W b p f y (S g)) (sym z.1) d.spells)) t.choice;
+              (z.0, subst (λ (g : ℕ). Spells W b p f y (S g)) (sym z.1) d.spells))
+              t.choice;
           standing = λ g z. ⊎_elim (λ (k : g < l). first g k) (λ (k : l ≤ g). second g k z) (below_or_not g l);
         }
       where
@@ -343,7 +358,9 @@ module _ (p : Plan) (f : Planned p) (S : ℕ → ℕ → ℕ) (Before : ℕ → 
         (omega (arith, (keep_winners_block (q + 5) u (left_stays p n) l (λ k. let z = hu k in omega arith) (omega arith)).long)) h in
         let hi : a.best < p.candidates = omega (arith, a.most) in
         let hj : d.best < p.candidates = omega (arith, d.most) in
-        joined n c x y u v l m inside a d (met q a.best d.best hi hj o.1
+        joined n c x y u v l m inside a d
+        (met q a.best d.best hi hj o.1
         (contest_law p f W b (S a.best) (S d.best) x y a.spells d.spells (medians a.best)
         (medians d.best) n (high_digits p (l + m)) (high_leaves p (l + m)) (sums a.best hi) (sums d.best hj)
-        hx hy o.0)) o.2 o.3
+        hx hy o.0))
+        o.2 o.3

@@ -1,7 +1,10 @@
 -- Two rows of sums with the same median: the two nearest differences decide which row comes first. This is only about
 -- numbers.
 -- Assumes nothing.
-use Rattle.basics.proofs.Common.{◌≡◌, sym, ap, ◌⊎◌, ⊎_elim, ◌≢◌, ℕ, suc, ◌+◌, ◌-◌, ◌≤◌, ◌<◌, arith}
+use mathlib.Core.Path.{◌≡◌, sym, ap}
+use mathlib.Core.Logic.{◌⊎◌, ⊎_elim, ◌≢◌}
+use Prim.Native.Nat.{ℕ, suc, ◌+◌, ◌-◌, ◌≤◌, ◌<◌}
+use native.Mathlib.Omega.{arith}
 use Rattle.basics.proofs.Cases.{below_or_not}
 use Rattle.graded_circuit.proofs.SumLaws.{Sums}
 
@@ -57,15 +60,21 @@ module _ (n d t median : ℕ) (A C : ℕ → ℕ) (a : Sums n d A median) (c : S
           (λ (h : A up ≡ C up). absurd (omega (arith, ap A e, ap C e))) reach
 
       before : (j : ℕ) → j < suc (suc t) → down < j → A j < C j → j < median → n ≤ A down + A j
-      before j hj l m k = ⊎_elim (λ (q : j < suc t). absurd (omega (arith, near.down_rest j l q k)))
-          (λ (q : suc t ≤ j). at_up j (⊎_elim (λ (u : up < suc t). absurd (omega (arith, (near.up_far u).0)))
-          (λ (u : suc t ≤ up). omega (arith, near.up_in)) (below_or_not up (suc t))) m) (below_or_not j (suc t))
+      before j hj l m k = ⊎_elim
+          (λ (q : j < suc t). absurd (omega (arith, near.down_rest j l q k)))
+          (λ (q : suc t ≤ j). at_up j
+          (⊎_elim (λ (u : up < suc t). absurd (omega (arith, (near.up_far u).0)))
+          (λ (u : suc t ≤ up). omega (arith, near.up_in)) (below_or_not up (suc t))) m)
+          (below_or_not j (suc t))
 
       behind : (j : ℕ) → j < suc (suc t) → down < j → A j < C j → median ≤ j → n ≤ A down + A j
-      behind j hj l m k = ⊎_elim (λ (q : j < up). absurd (omega (arith, near.up_rest j (omega arith) q k)))
-          (λ (q : up ≤ j). ⊎_elim (λ (h : n ≤ A down + A up). omega (arith, a.grows up j q))
+      behind j hj l m k = ⊎_elim
+          (λ (q : j < up). absurd (omega (arith, near.up_rest j (omega arith) q k)))
+          (λ (q : up ≤ j). ⊎_elim
+          (λ (h : n ≤ A down + A up). omega (arith, a.grows up j q))
           (λ (h : A up ≡ C up). let e : up ≡ j = omega (arith, up_last h) in absurd (omega (arith, ap A e, ap C e)))
-          reach) (below_or_not j up)
+          reach)
+          (below_or_not j up)
 
   pub upper_decides : C up < A up → (C down + C up < n) ⊎ (A down ≡ C down) → Decides n (suc (suc t)) A C up
   upper_decides larger short =
@@ -79,17 +88,22 @@ module _ (n d t median : ℕ) (A C : ℕ → ℕ) (a : Sums n d A median) (c : S
       between : (j : ℕ) → down < j → j < up → A j < C j → ⊥
       between j k l m = ⊎_elim
           (λ (q : j < median). let e = near.down_rest j k (omega (arith, near.up_in)) q in omega arith)
-          (λ (q : median ≤ j). let e = near.up_rest j (omega arith) l q in omega arith) (below_or_not j median)
+          (λ (q : median ≤ j). let e = near.up_rest j (omega arith) l q in omega arith)
+          (below_or_not j median)
 
       below : (j : ℕ) → j ≤ down → A j < C j → C j + C up < n
-      below j k m = ⊎_elim (λ (h : C down + C up < n). omega (arith, c.grows j down k))
+      below j k m = ⊎_elim
+          (λ (h : C down + C up < n). omega (arith, c.grows j down k))
           (λ (h : A down ≡ C down). let e : down ≡ j = omega (arith, down_first h) in absurd (omega (arith, ap A e, ap C e)))
           short
 
   pub all_same : A down ≡ C down → A up ≡ C up → (g : ℕ) → g < suc (suc t) → A g ≡ C g
-  all_same e₁ e₂ g l = ⊎_elim (λ (h : 0 < g). ⊎_elim (λ (k : g < suc t). ⊎_elim
+  all_same e₁ e₂ g l = ⊎_elim
+      (λ (h : 0 < g). ⊎_elim
+      (λ (k : g < suc t). ⊎_elim
       (λ (m : g < median). near.down_rest g (omega (arith, down_first e₁)) k m)
-      (λ (m : median ≤ g). near.up_rest g h (omega (arith, up_last e₂)) m) (below_or_not g median))
+      (λ (m : median ≤ g). near.up_rest g h (omega (arith, up_last e₂)) m)
+      (below_or_not g median))
       (λ (k : suc t ≤ g). let e : up ≡ g = omega (arith, up_last e₂) in omega (arith, ap A e, ap C e))
       (below_or_not g (suc t)))
       (λ (h : g ≤ 0). let e : down ≡ g = omega (arith, down_first e₁) in omega (arith, ap A e, ap C e))

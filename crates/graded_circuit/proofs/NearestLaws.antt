@@ -1,7 +1,11 @@
 -- What the flags of some grades say, and which words they choose.
 -- Assumes nothing.
-use Rattle.basics.proofs.Common.{◌≡◌, ◌∙◌, refl, sym, ap, ◌⊎◌, inl, inr, ⊎_elim, ◌≢◌, [], ◌∷◌, ℕ, zero, suc, ◌+◌, ◌-◌}
-use Rattle.basics.proofs.Common.{◌*◌, ◌≤◌, ◌<◌, suc-mul, zero-mul, arith}
+use mathlib.Core.Path.{◌≡◌, ◌∙◌, refl, sym, ap}
+use mathlib.Core.Logic.{◌⊎◌, inl, inr, ⊎_elim, ◌≢◌}
+use mathlib.Core.List.{[], ◌∷◌}
+use Prim.Native.Nat.{ℕ, zero, suc, ◌+◌, ◌-◌, ◌*◌, ◌≤◌, ◌<◌}
+use native.Mathlib.Nat.{suc-mul, zero-mul}
+use native.Mathlib.Omega.{arith}
 use Rattle.gates.proofs.Laws.{Holds}
 use Rattle.basics.proofs.Cases.{below_or_not, same_or_not}
 use Rattle.gate_words.specs.Gates.{and_of, xor_of}
@@ -142,20 +146,23 @@ module _ (W : ℕ → ℕ) (b : Binary W) where
       let c = cut2 W n (unequal_cut n x y r k) tail q (omega (arith, length_unequal_cut n x y r k hr)) h in
       let g₁ = holds_first W q (and_of e f) (xor_of e q ∷ []) c.1 ∙ and_is W b e f in
       let g₂ = holds_first W (q + 1) (xor_of e q) [] (holds_rest W q (and_of e f) (xor_of e q ∷ []) c.1) ∙ xor_is W b e q in
-      ⊎_elim (λ (s : spelled r x ≡ spelled r y). let z = unequal_cut_zero n x y r k hr W b s c.0 in
+      ⊎_elim
+      (λ (s : spelled r x ≡ spelled r y). let z = unequal_cut_zero n x y r k hr W b s c.0 in
       record {
         below_one = λ i. absurd (omega (arith, g₁, z));
         below_zero = λ i l. s;
         from_one =
             λ i. absurd (omega (arith, g₁, g₂, z));
         from_zero = λ i l. s;
-      }) (λ (s : spelled r x ≢ spelled r y). let z = unequal_cut_one n x y r k hr W b s c.0 in
+      })
+      (λ (s : spelled r x ≢ spelled r y). let z = unequal_cut_one n x y r k hr W b s c.0 in
       record {
         below_one = λ i. (s, omega (arith, g₁, z, b f));
         below_zero = λ i l. absurd (omega (arith, g₁, z));
         from_one = λ i. (s, omega (arith, g₁, g₂, z, b f));
         from_zero = λ i l. absurd (omega (arith, g₁, g₂, z));
-      }) (same_or_not (spelled r x) (spelled r y))
+      })
+      (same_or_not (spelled r x) (spelled r y))
 
   pub sides_law : (n x y r k t : ℕ) → k ≤ r → x + t * stride r ≤ n → y + t * stride r ≤ n
       → Holds W n (sides n x y r k t) → (i : ℕ) → i < t
@@ -213,15 +220,18 @@ module _ (W : ℕ → ℕ) (b : Binary W) where
       let first_flag = ap W (first_place f (side_span r)) in
       let first_x = ap (spelled r) (first_place x (stride r)) in
       let first_y = ap (spelled r) (first_place y (stride r)) in
-      ⊎_elim (λ (a : Absent (flag_at (f + side_span r) r) t (spelled r n) (spelled r (n + suc r))
+      ⊎_elim
+      (λ (a : Absent (flag_at (f + side_span r) r) t (spelled r n) (spelled r (n + suc r))
       (spelled r (left_end n' n r t)) (spelled r (right_end n' (n + suc r) r t))).
-      ⊎_elim (λ (z : W f ≡ 0). let k = either_zero n f x y u v r c.0 z in
+      ⊎_elim
+      (λ (z : W f ≡ 0). let k = either_zero n f x y u v r c.0 z in
       inl (record {
         none = zeros f r t (first_flag ∙ z) (λ i l. sym (F i) ∙ a.none i l);
         stays_left = sym left
             ∙ a.stays_left ∙ k.0;
         stays_right = sym right ∙ a.stays_right ∙ k.1;
-      })) (λ (z : W f ≡ 1). let k = either_one n f x y u v r c.0 z in
+      }))
+      (λ (z : W f ≡ 1). let k = either_one n f x y u v r c.0 z in
       inr (record {
         place = 0;
         inside = omega arith;
@@ -229,7 +239,8 @@ module _ (W : ℕ → ℕ) (b : Binary W) where
         later = positive f r t (λ i l. sym (F i) ∙ a.none i l);
         is_left = sym left ∙ a.stays_left ∙ k.0 ∙ sym first_x;
         is_right = sym right ∙ a.stays_right ∙ k.1 ∙ sym first_y;
-      })) (bit_cases (W f) (b f)))
+      }))
+      (bit_cases (W f) (b f)))
       (λ (a : LastAt (flag_at (f + side_span r) r) (word_of (x + stride r) r) (word_of (y + stride r) r) t
       (spelled r (left_end n' n r t)) (spelled r (right_end n' (n + suc r) r t))).
       inr (record {
@@ -239,7 +250,8 @@ module _ (W : ℕ → ℕ) (b : Binary W) where
         later = beyond f r t a.place (λ i l m. sym (F i) ∙ a.later i l m);
         is_left = sym left ∙ a.is_left ∙ ap (spelled r) (next_place x (stride r) a.place);
         is_right = sym right ∙ a.is_right ∙ ap (spelled r) (next_place y (stride r) a.place);
-      })) (last_of_law n' (f + side_span r) (x + stride r) (y + stride r) n (n + suc r) r t (omega arith) (omega arith)
+      }))
+      (last_of_law n' (f + side_span r) (x + stride r) (y + stride r) n (n + suc r) r t (omega arith) (omega arith)
       (omega arith) (omega arith) (omega arith) c.1)
     where
       zeros : (f r t : ℕ) → flag_at f r 0 ≡ 0 → ((i : ℕ) → i < t → flag_at f r (suc i) ≡ 0) → (i : ℕ) → i < suc t → flag_at f r i ≡ 0
@@ -276,13 +288,15 @@ module _ (W : ℕ → ℕ) (b : Binary W) where
       let right = ap (spelled r) (right_next n v r t) in
       ⊎_elim
       (λ (a : Absent (flag_at f r) t (spelled r n) (spelled r (n + suc r)) (spelled r (left_end n' n r t)) (spelled r (right_end n' (n + suc r) r t))).
-      ⊎_elim (λ (z : W g ≡ 0). let k = either_zero n g xt yt u v r c.0 z in
+      ⊎_elim
+      (λ (z : W g ≡ 0). let k = either_zero n g xt yt u v r c.0 z in
       inl (record {
         none = λ i l. ⊎_elim (λ (m : i < t). a.none i m) (λ (m : t ≤ i). let q : i ≡ t = omega arith in ap (flag_at f r) q ∙ z)
             (below_or_not i t);
         stays_left = sym left ∙ a.stays_left ∙ k.0;
         stays_right = sym right ∙ a.stays_right ∙ k.1;
-      })) (λ (z : W g ≡ 1). let k = either_one n g xt yt u v r c.0 z in
+      }))
+      (λ (z : W g ≡ 1). let k = either_one n g xt yt u v r c.0 z in
       inr (record {
         place = t;
         inside = omega arith;
@@ -291,7 +305,8 @@ module _ (W : ℕ → ℕ) (b : Binary W) where
         is_left = sym left
             ∙ a.stays_left ∙ k.0;
         is_right = sym right ∙ a.stays_right ∙ k.1;
-      })) (bit_cases (W g) (b g)))
+      }))
+      (bit_cases (W g) (b g)))
       (λ (a : FirstAt (flag_at f r) (word_of x r) (word_of y r) t (spelled r (left_end n' n r t)) (spelled r (right_end n' (n + suc r) r t))).
       inr (record {
         place = a.place;

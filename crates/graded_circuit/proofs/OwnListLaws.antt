@@ -1,6 +1,13 @@
 -- The length of the own list of a shape within its limits.
 -- Assumes nothing.
-use Rattle.basics.proofs.Common.{◌≡◌, subst, sym, true, ⊎_elim, List, ℕ, suc, ◌-◌, ◌≤◌, ◌<◌, arith, length, ne_eqb}
+use mathlib.Core.Path.{◌≡◌, subst, sym}
+use mathlib.Core.Bool.{true}
+use mathlib.Core.Logic.{⊎_elim}
+use mathlib.Core.List.{List}
+use Prim.Native.Nat.{ℕ, suc, ◌-◌, ◌≤◌, ◌<◌}
+use native.Mathlib.Omega.{arith}
+use lib.ListN.{length}
+use borrow.Author.Tests.{ne_eqb}
 use Rattle.gates.specs.Gate.{Gate}
 use Rattle.jury.specs.declared.shape.Shape.{Shape}
 use Rattle.jury.specs.Shape.{graded_limits}

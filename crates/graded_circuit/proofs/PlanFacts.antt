@@ -1,6 +1,8 @@
 -- What follows for a plan: its bits are inputs, and both counts have enough digits.
 -- Assumes nothing.
-use Rattle.basics.proofs.Common.{ℕ, suc, ◌-◌, ◌≤◌, ◌<◌, pow-succ', mul_assoc, suc-mul, mul-le-mul_right, arith}
+use Prim.Native.Nat.{ℕ, suc, ◌-◌, ◌≤◌, ◌<◌}
+use native.Mathlib.Nat.{pow-succ', mul_assoc, suc-mul, mul-le-mul_right}
+use native.Mathlib.Omega.{arith}
 use Rattle.gate_words.specs.Word.{Below}
 use Rattle.gate_words.specs.Counter.{Countable}
 use Rattle.gate_words.proofs.CounterLaws.{countable}

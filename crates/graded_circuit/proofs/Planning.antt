@@ -1,6 +1,10 @@
 -- The plan of a shape within its limits has all the properties of `Planned`.
 -- Assumes nothing.
-use Rattle.basics.proofs.Common.{◌≡◌, sym, subst, true, ℕ, suc, ◌+◌, ◌-◌, ◌/◌, ◌^◌, ◌≤◌, ◌<◌, pow-succ', arith}
+use mathlib.Core.Path.{◌≡◌, sym, subst}
+use mathlib.Core.Bool.{true}
+use Prim.Native.Nat.{ℕ, suc, ◌+◌, ◌-◌, ◌/◌, ◌^◌, ◌≤◌, ◌<◌}
+use native.Mathlib.Nat.{pow-succ'}
+use native.Mathlib.Omega.{arith}
 use Rattle.jury.specs.declared.shape.Shape.{Shape}
 use Rattle.jury.specs.Shape.{graded_limits}
 use Rattle.jury.specs.Width.{width_of}

@@ -1,7 +1,13 @@
 -- Full majority judgment orders candidates as the circuit needs it.
 -- Assumes nothing.
-use Rattle.basics.proofs.Common.{◌≡◌, ◌∙◌, sym, ap, subst, true, ◌⊎◌, ⊎_elim, List, ℕ, zero, suc, ◌+◌, ◌-◌, ◌≤◌, ◌<◌}
-use Rattle.basics.proofs.Common.{arith, length, ext_get_or}
+use mathlib.Core.Path.{◌≡◌, ◌∙◌, sym, ap, subst}
+use mathlib.Core.Bool.{true}
+use mathlib.Core.Logic.{◌⊎◌, ⊎_elim}
+use mathlib.Core.List.{List}
+use Prim.Native.Nat.{ℕ, zero, suc, ◌+◌, ◌-◌, ◌≤◌, ◌<◌}
+use native.Mathlib.Omega.{arith}
+use lib.ListN.{length}
+use lib.Seq.{ext_get_or}
 use Rattle.basics.specs.Lists.{sum}
 use Rattle.rule_judgment.specs.Median.{median_of}
 use Rattle.basics.proofs.Cases.{below_or_not}
@@ -45,14 +51,16 @@ module _ (n d : ℕ) (some : 0 < d) (a c : List ℕ) (ra : Row n d a) (rc : Row 
     where
       above : (t : ℕ) → suc h.grade < t → running a t < running c t → n ≤ running a (suc h.grade) + running a t
       above zero l m = absurd (omega arith)
-      above (suc j) l m = ⊎_elim (λ (k : j < d - 1). h.decides.worse_later j k (omega arith) m)
+      above (suc j) l m = ⊎_elim
+          (λ (k : j < d - 1). h.decides.worse_later j k (omega arith) m)
           (λ (k : d - 1 ≤ j). absurd (omega (
             arith,
             running_whole a (suc j) (omega (arith, ra.long)),
             running_whole c (suc j) (omega (arith, rc.long)),
             ra.total,
             rc.total,
-          ))) (below_or_not j (d - 1))
+          )))
+          (below_or_not j (d - 1))
 
       below : (t : ℕ) → t < suc h.grade → running a t < running c t → running c t + running c (suc h.grade) < n
       below zero l m = absurd (omega (arith, running_start a, running_start c))
@@ -65,13 +73,16 @@ module _ (n d : ℕ) (some : 0 < d) (a c : List ℕ) (ra : Row n d a) (rc : Row 
     where
       equal : (t : ℕ) → running a t ≡ running c t
       equal zero = running_start a ∙ sym (running_start c)
-      equal (suc g) = ⊎_elim (λ (k : g < d - 1). same g k) (λ (k : d - 1 ≤ g). omega (
-        arith,
-        running_whole a (suc g) (omega (arith, ra.long)),
-        running_whole c (suc g) (omega (arith, rc.long)),
-        ra.total,
-        rc.total,
-      )) (below_or_not g (d - 1))
+      equal (suc g) = ⊎_elim
+          (λ (k : g < d - 1). same g k)
+          (λ (k : d - 1 ≤ g). omega (
+            arith,
+            running_whole a (suc g) (omega (arith, ra.long)),
+            running_whole c (suc g) (omega (arith, rc.long)),
+            ra.total,
+            rc.total,
+          ))
+          (below_or_not g (d - 1))
 
 module _ (n d k : ℕ) (some : 0 < d) (rows : ℕ → List ℕ) (row_is : (c : ℕ) → c < k → Row n d (rows c)) where
   pub same_sequence : (i j : ℕ) → i < k → j < k → Same (d - 1) (λ c. up_to (rows c)) i j → sequence_of (rows i) ≡ sequence_of (rows j)

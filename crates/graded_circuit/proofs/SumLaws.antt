@@ -1,12 +1,16 @@
 -- What the running sums of a candidate are, and what its key says about them.
 -- Assumes nothing.
-use Rattle.basics.proofs.Common.{◌≡◌, ◌∙◌, sym, ap, subst, ⊎_elim, List, ◌++◌, ℕ, zero, suc, ◌+◌, ◌-◌, ◌*◌, ◌/◌, ◌^◌}
-use Rattle.basics.proofs.Common.{◌≤◌, ◌<◌, pow-succ', suc-mul, mul-one, zero-mul, add-mul, arith, length}
-use Rattle.basics.proofs.Common.{length-append}
+use mathlib.Core.Path.{◌≡◌, ◌∙◌, sym, ap, subst}
+use mathlib.Core.Logic.{⊎_elim}
+use mathlib.Core.List.{List, ◌++◌}
+use Prim.Native.Nat.{ℕ, zero, suc, ◌+◌, ◌-◌, ◌*◌, ◌/◌, ◌^◌, ◌≤◌, ◌<◌}
+use native.Mathlib.Nat.{pow-succ', suc-mul, mul-one, zero-mul, add-mul}
+use native.Mathlib.Omega.{arith}
 use Rattle.basics.specs.Lists.{sum, tabulate}
 use Rattle.basics.proofs.Sums.{sum_none, sum_last}
 use Rattle.basics.proofs.Cases.{below_or_not}
 use Rattle.basics.proofs.Arithmetic.{bit_cases}
+use lib.ListN.{length, length-append}
 use Rattle.gates.specs.Gate.{Gate}
 use Rattle.gates.proofs.Laws.{Holds}
 use Rattle.gate_words.specs.Word.{ones_at, number}
@@ -34,7 +38,8 @@ pub record Sums (n d : ℕ) (S : ℕ → ℕ) (median : ℕ) : Type 0 where
 -- the sum of the first m of n numbers is at most the sum of all
 sum_part : (v : ℕ → ℕ) (m n : ℕ) → m ≤ n → sum (tabulate m v) ≤ sum (tabulate n v)
 sum_part v m zero h = let e : m ≡ 0 = omega arith in omega (arith, ap (λ (k : ℕ). sum (tabulate k v)) e)
-sum_part v m (suc n) h = ⊎_elim (λ (l : m < suc n). omega (arith, sum_part v m n (omega arith), sum_last n v))
+sum_part v m (suc n) h = ⊎_elim
+    (λ (l : m < suc n). omega (arith, sum_part v m n (omega arith), sum_last n v))
     (λ (l : suc n ≤ m). let e : m ≡ suc n = omega arith in omega (arith, ap (λ (k : ℕ). sum (tabulate k v)) e))
     (below_or_not m (suc n))
 
@@ -60,9 +65,11 @@ module _ (W : ℕ → ℕ) (b : Binary W) (p : Plan) (f : Planned p) where
       let r = p.digits in
       let low = number_less W b q 1 r in
       let yes : 2 * v < p.ballots → W (q + r) ≡ 1 = λ l. ⊎_elim
-      (λ (z : W (q + r) ≡ 0). absurd (omega (arith, t.long z, f.offset_is))) (λ (z : W (q + r) ≡ 1). z)
+      (λ (z : W (q + r) ≡ 0). absurd (omega (arith, t.long z, f.offset_is)))
+      (λ (z : W (q + r) ≡ 1). z)
       (bit_cases (W (q + r)) (b (q + r))) in
-      let no : p.ballots ≤ 2 * v → W (q + r) ≡ 0 = λ l. ⊎_elim (λ (z : W (q + r) ≡ 0). z)
+      let no : p.ballots ≤ 2 * v → W (q + r) ≡ 0 = λ l. ⊎_elim
+      (λ (z : W (q + r) ≡ 0). z)
       (λ (z : W (q + r) ≡ 1). absurd (omega (arith, t.short z, low, f.offset_is)))
       (bit_cases (W (q + r)) (b (q + r))) in
       record {
@@ -184,7 +191,8 @@ module _ (W : ℕ → ℕ) (b : Binary W) (p : Plan) (f : Planned p) where
         let m = n + g * p.ballots in
         let row = xor_rows (row_at p n c g) (row_stride p g) (bits_at p c (suc g)) (ballot_stride p) p.ballots in
         let block = rows_block m (row_at p n c g) (row_stride p g) (bits_at p c (suc g)) (ballot_stride p) p.ballots
-        (counted_below p f n m c g h hc (omega arith)) (bits_below p f m c (suc g) (omega arith) hc (omega arith)) in
+        (counted_below p f n m c g h hc (omega arith))
+        (bits_below p f m c (suc g) (omega arith) hc (omega arith)) in
         let q = cut2 W m row (rows p n c (suc g) t) (n + suc g * p.ballots) (omega (arith, block.long, suc-mul g p.ballots)) w in
         let e : suc g + i ≡ g + suc i = omega arith in
         subst (Counted n) e (each_row n (suc g) t i h (omega arith) (next_row n g (omega arith) a q.0) (omega arith) q.1)
@@ -230,9 +238,11 @@ module _ (W : ℕ → ℕ) (b : Binary W) (p : Plan) (f : Planned p) where
         let counted = worst_levels_block p f k c (omega arith) hc in
         let worded = key_words_block p f x n m c 0 t h hc before (omega arith) in
         let first_four = rows p n c 0 (p.grades - 3) ++ all_levels p n m c 0 t ++ worst_levels p k c ++ key_words p n m c 0 t in
-        let o = cut2 W n first_four (worst_word p k c) (x + t * word_span p) (omega (
+        let o = cut2 W n first_four (worst_word p k c) (x + t * word_span p)
+        (omega (
           arith,
-          four (rows p n c 0 (p.grades - 3)) (all_levels p n m c 0 t) (worst_levels p k c) (key_words p n m c 0 t),
+          four (rows p n c 0 (p.grades - 3)) (all_levels p n m c 0 t) (worst_levels p k c)
+              (key_words p n m c 0 t),
           rowed.long,
           levelled.long,
           counted.long,
@@ -240,7 +250,8 @@ module _ (W : ℕ → ℕ) (b : Binary W) (p : Plan) (f : Planned p) where
         )) w in
         let q = cut4 W n (rows p n c 0 (p.grades - 3)) (all_levels p n m c 0 t) (worst_levels p k c) (key_words p n m c 0 t) m k x
         (omega (arith, rowed.long)) (omega (arith, levelled.long)) (omega (arith, counted.long)) o.0 in
-        ⊎_elim (λ (u : g < t).
+        ⊎_elim
+        (λ (u : g < t).
         let e : 0 + g ≡ g = omega arith in
         let row = subst (Counted n) e (each_row n 0 (p.grades - 3) g h (omega arith) (first_row n) (omega arith)
         (subst (λ (i : ℕ). Holds W i (rows p n c 0 (p.grades - 3))) (sym start) q.0)) in
@@ -249,7 +260,8 @@ module _ (W : ℕ → ℕ) (b : Binary W) (p : Plan) (f : Planned p) where
         (sym origin) q.1)) in
         let dig = subst (λ (i : ℕ). Holds W (x + g * word_span p) (key_word p n m c i)) e
         (each_word x n m c 0 t g h hc before (omega arith) u q.3) in
-        sum_word (low_at p x g) n m g row lev dig) (λ (u : t ≤ g).
+        sum_word (low_at p x g) n m g row lev dig)
+        (λ (u : t ≤ g).
         let e : t ≡ g = omega arith in
         subst (λ (i : ℕ). Word p.digits (low_at p x i) (S i)) e (last_word (x + t * word_span p) k t (omega arith) q.2 o.1))
         (below_or_not g t)

@@ -1,6 +1,9 @@
 -- The comparison of two keys with equal medians is well-formed.
 -- Assumes nothing.
-use Rattle.basics.proofs.Common.{◌≡◌, refl, ℕ, zero, suc, ◌+◌, ◌-◌, ◌*◌, ◌≤◌, ◌<◌, suc-mul, arith}
+use mathlib.Core.Path.{◌≡◌, refl}
+use Prim.Native.Nat.{ℕ, zero, suc, ◌+◌, ◌-◌, ◌*◌, ◌≤◌, ◌<◌}
+use native.Mathlib.Nat.{suc-mul}
+use native.Mathlib.Omega.{arith}
 use Rattle.gate_words.proofs.Ends.{chain_below}
 use Rattle.gate_words.specs.Halves.{unequal_span, unequal_at, compare_span, above_at}
 use Rattle.gate_words.specs.Reach.{reach_span}
@@ -36,7 +39,8 @@ pub compare_and_reach_block : (n a c u v e r h : ℕ) → h ≤ r → a + suc r 
     → Block n (compare_and_reach n a c u v e r h) (compare_and_reach_span r)
 unfolding compare_and_reach
 compare_and_reach_block n a c u v e r h hr ha hc hu hv =
-    sized (omega arith) (both_block (both_block (both_block (compare_block n a c r h hr ha hc) refl
+    sized (omega arith)
+    (both_block (both_block (both_block (compare_block n a c r h hr ha hc) refl
     (compare_block (n + compare_span r) u v r h hr (omega arith) (omega arith))) (omega arith)
     (reach_block (n + 2 * compare_span r) a u e r (omega arith) (omega arith))) (omega arith)
     (reach_block (n + 2 * compare_span r + reach_span r) c v e r (omega arith) (omega arith)))
@@ -64,14 +68,16 @@ resolve_block n e s e₁ s₁ e₂ s₂ j k f g he hs a₁ b₁ a₂ b₂ hj hk 
     let p = place n in
     let old = earlier n in
     let new : (i m : ℕ) → i < m → n + i < p m = here n in
-    gate_block (good_mux n s₁ j k b₁ hj hk) (gate_block (good_not (p 1) f (old 1 f hf))
+    gate_block (good_mux n s₁ j k b₁ hj hk)
+    (gate_block (good_not (p 1) f (old 1 f hf))
     (gate_block (good_xor (p 2) f g (old 2 f hf) (old 2 g hg))
     (gate_block (good_mux (p 3) (n + 2) n (n + 1) (new 2 3 (omega arith)) (omega (arith, place_is n 3)) (new 1 3 (omega arith)))
     (gate_block (good_and (p 4) e₁ e₂ (old 4 e₁ a₁) (old 4 e₂ a₂))
     (gate_block (good_xor (p 5) e₁ e₂ (old 5 e₁ a₁) (old 5 e₂ a₂))
     (gate_block (good_xor (p 6) (n + 5) (n + 4) (new 5 6 (omega arith)) (new 4 6 (omega arith)))
     (gate_block (good_mux (p 7) e₂ s₂ s₁ (old 7 e₂ a₂) (old 7 s₂ b₂) (old 7 s₁ b₁))
-    (gate_block (good_xor (p 8) s₁ s₂ (old 8 s₁ b₁) (old 8 s₂ b₂)) (gate_block (good_not (p 9) e (old 9 e he))
+    (gate_block (good_xor (p 8) s₁ s₂ (old 8 s₁ b₁) (old 8 s₂ b₂))
+    (gate_block (good_not (p 9) e (old 9 e he))
     (gate_block (good_and (p 10) (n + 8) (n + 9) (new 8 10 (omega arith)) (new 9 10 (omega arith)))
     (gate_block (good_and (p 11) (n + 4) (n + 10) (new 4 11 (omega arith)) (new 10 11 (omega arith)))
     (gate_block (good_and (p 12) (n + 11) (n + 3) (new 11 12 (omega arith)) (new 3 12 (omega arith)))
@@ -112,7 +118,8 @@ module _ (n x y r t : ℕ) (hx : x + suc (suc t) * stride r ≤ n) (hy : y + suc
       (chosen_high r h t) (chosen_high_lem r h t hr) dl dr ul ur)) (omega arith)
       (resolve_block q e s (unequal_at m r) (above_at m (down_left n x r t) r) (unequal_at m' r)
       (above_at m' (up_left n x r t) r) (left_carry m r) (right_carry m r) (x + suc r) (far_at x r t + suc r)
-      (omega arith) (omega arith) (chain_below (m + suc r) m r q (omega arith) (omega arith))
+      (omega arith) (omega arith)
+      (chain_below (m + suc r) m r q (omega arith) (omega arith))
       (chain_below (m + unequal_span r) (down_left n x r t) r q (omega arith) (omega arith))
       (chain_below (m' + suc r) m' r q (omega arith) (omega arith))
       (chain_below (m' + unequal_span r) (up_left n x r t) r q (omega arith) (omega arith))

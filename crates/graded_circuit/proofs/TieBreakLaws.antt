@@ -1,7 +1,11 @@
 -- Which of two keys with equal medians comes first, by the wires of their comparison.
 -- Assumes nothing.
-use Rattle.basics.proofs.Common.{◌≡◌, ◌∙◌, sym, ap, subst, ◌⊎◌, inl, inr, ⊎_elim, ◌≢◌, [], ◌∷◌, ℕ, zero, suc, ◌+◌, ◌-◌}
-use Rattle.basics.proofs.Common.{◌*◌, ◌%◌, ◌^◌, ◌≤◌, ◌<◌, min, max, suc-mul, zero-mul, arith}
+use mathlib.Core.Path.{◌≡◌, ◌∙◌, sym, ap, subst}
+use mathlib.Core.Logic.{◌⊎◌, inl, inr, ⊎_elim, ◌≢◌}
+use mathlib.Core.List.{[], ◌∷◌}
+use Prim.Native.Nat.{ℕ, zero, suc, ◌+◌, ◌-◌, ◌*◌, ◌%◌, ◌^◌, ◌≤◌, ◌<◌, min, max}
+use native.Mathlib.Nat.{suc-mul, zero-mul}
+use native.Mathlib.Omega.{arith}
 use Rattle.gates.proofs.Laws.{Holds, mux_zero, mux_one}
 use Rattle.basics.proofs.Cases.{below_or_not}
 use Rattle.gate_words.specs.Gates.{not_of, and_of, or_of, xor_of, mux_of}
@@ -198,7 +202,9 @@ module _ (W : ℕ → ℕ) (b : Binary W) where
       cut3 W n (nearest n x y r high t) (compare_and_reach m dl dr ul ur (p.ballots % 2) r ch)
       (resolve (resolve_at n r t) e s (unequal_at m r) (above_at m dl r) (unequal_at (m + compare_span r) r)
       (above_at (m + compare_span r) ul r) (left_carry m r) (right_carry m r) (x + suc r) (far_at x r t + suc r)) m
-      (resolve_at n r t) (omega (arith, (nearest_block n x y r high t hr hx hy).long)) (omega (
+      (resolve_at n r t)
+      (omega (arith, (nearest_block n x y r high t hr hx hy).long))
+      (omega (
         arith,
         (compare_and_reach_block m dl dr ul ur (p.ballots % 2) r ch (chosen_high_lem r high t hr)
             (down_left_below n x y r t hx hy) (down_right_below n x y r t hx hy) (up_left_below n x y r t hx hy)
@@ -316,7 +322,8 @@ module _ (W : ℕ → ℕ) (b : Binary W) where
         right : spelled W b r (down_right n y r t) ≡ word_of W b y r down
 
       down_is : DownIs
-      down_is = ⊎_elim absent found (let e = suc-mul (suc t) (stride r) in let e' = suc-mul t (stride r) in
+      down_is = ⊎_elim absent found
+          (let e = suc-mul (suc t) (stride r) in let e' = suc-mul t (stride r) in
           last_of_law W b (down_at n r t) (below_at n r) (x + stride r) (y + stride r) x y r t (omega arith)
           (omega arith) (omega arith) (omega arith) (omega arith) (parts h).1)
         where
@@ -367,7 +374,8 @@ module _ (W : ℕ → ℕ) (b : Binary W) where
         right : spelled W b r (up_right n y r t) ≡ word_of W b y r up
 
       up_is : UpIs
-      up_is = ⊎_elim absent found (let e = suc-mul (suc t) (stride r) in let e' = suc-mul t (stride r) in
+      up_is = ⊎_elim absent found
+          (let e = suc-mul (suc t) (stride r) in let e' = suc-mul t (stride r) in
           first_of_law W b (up_at n r t) (from_at n r) (x + stride r) (y + stride r) (far_at x r t) (far_at y r t) r t
           (omega arith) (omega arith) (omega arith) (omega arith) (omega arith) (parts h).2)
         where
@@ -432,18 +440,22 @@ module _ (W : ℕ → ℕ) (b : Binary W) where
         → (W (x + suc r) + W (far_at x r t + suc r) ≡ 1 → bit ≡ carry) → (W (x + suc r) ≡ W (far_at x r t + suc r) → bit + W (x + suc r) ≡ 1)
         → LowerFirst S down up bit
     lower_first_is S s down up bit carry hd hu far_down far_up carried apart one_side =
-        ⊎_elim (λ (m : 0 < median). let w₀ = sym (ap W first_wire) ∙ worse_one 0 (omega arith) m in
-        ⊎_elim (λ (m' : suc t < median). let w₁ = worse_one (suc t) (omega arith) m' in
+        ⊎_elim
+        (λ (m : 0 < median). let w₀ = sym (ap W first_wire) ∙ worse_one 0 (omega arith) m in
+        ⊎_elim
+        (λ (m' : suc t < median). let w₁ = worse_one (suc t) (omega arith) m' in
         let i = one_side (w₀ ∙ sym w₁) in
         record {
           reached = λ q. absurd (omega (arith, s.passed down (omega arith), s.passed up (omega arith)));
           missed = λ q. omega arith;
-        }) (λ (m' : median ≤ suc t). let w₁ = worse_zero (suc t) (omega arith) m' in
+        })
+        (λ (m' : median ≤ suc t). let w₁ = worse_zero (suc t) (omega arith) m' in
         let i = apart (omega (arith, w₀, w₁)) in
         let l : down < median = ⊎_elim (λ (j : 0 < down). far_down j) (λ (j : down ≤ 0). omega arith) (below_or_not 0 down) in
         let l' : median ≤ up = ⊎_elim (λ (j : up < suc t). far_up j) (λ (j : suc t ≤ up). omega arith) (below_or_not up (suc t)) in
         let k = carried l l' in
-        record { reached = λ q. i ∙ k.reached q; missed = λ q. i ∙ k.missed q }) (below_or_not (suc t) median))
+        record { reached = λ q. i ∙ k.reached q; missed = λ q. i ∙ k.missed q })
+        (below_or_not (suc t) median))
         (λ (m : median ≤ 0). let w₀ = sym (ap W first_wire) ∙ worse_zero 0 (omega arith) m in
         let w₁ = worse_zero (suc t) (omega arith) (omega arith) in
         let i = one_side (w₀ ∙ sym w₁) in
@@ -451,7 +463,8 @@ module _ (W : ℕ → ℕ) (b : Binary W) where
           reached = λ q. omega arith;
           missed =
               λ q. absurd (omega (arith, s.reached down (omega arith), s.reached up (omega arith)));
-        }) (below_or_not 0 median)
+        })
+        (below_or_not 0 median)
 
     -- if words differ by as much as sums do, comparing the words compares the sums
     tells_sums : {e s i j u v : ℕ} → i + v ≡ j + u → Tells e s i j → Tells e s u v
@@ -524,14 +537,19 @@ module _ (W : ℕ → ℕ) (b : Binary W) where
 
       tie_below : A down ≡ C down → Result
       unfolding Result
-      tie_below e = ⊎_elim (λ (o : A up ≡ C up). inl (
-        set.neither even (low.same e) (high.same o),
-        all_same p.ballots p.grades t median A C a c down up near e o,
-      )) (⊎_elim (λ (o : C up < A up). let v = set.upper_only even (low.same e)
+      tie_below e = ⊎_elim
+          (λ (o : A up ≡ C up). inl (
+            set.neither even (low.same e) (high.same o),
+            all_same p.ballots p.grades t median A C a c down up near e o,
+          ))
+          (⊎_elim
+          (λ (o : C up < A up). let v = set.upper_only even (low.same e)
           (high.differ (unlike' (A up) (C up) o)) in
           x_first v.0 (v.1 ∙ high.over o) (inr (x_upper o (inr e))))
-          (λ (o : A up < C up). let v = set.upper_only even (low.same e) (high.differ (unlike (A up) (C up) o)) in
-          y_first v.0 (v.1 ∙ high.under o) (inr (y_upper o (inr (sym e)))))) (three_ways (A up) (C up))
+          (λ (o : A up < C up). let v = set.upper_only even (low.same e)
+          (high.differ (unlike (A up) (C up) o)) in
+          y_first v.0 (v.1 ∙ high.under o) (inr (y_upper o (inr (sym e))))))
+          (three_ways (A up) (C up))
 
       x_above : C down < A down → Result
       x_above l =
@@ -540,15 +558,20 @@ module _ (W : ℕ → ℕ) (b : Binary W) where
           let w = left s in
           ⊎_elim
           (λ (o : A up ≡ C up). let v = set.lower_only even e₁ (high.same o) in x_first v.0 (v.1 ∙ s) (inl (x_lower l (inr o))))
-          (⊎_elim (λ (o : C up < A up). let e₂ = high.differ (unlike' (A up) (C up) o) in
-          ⊎_elim (λ (z : W (q + 3) ≡ 0). let v = set.upper_first even e₁ e₂ z in
+          (⊎_elim
+          (λ (o : C up < A up). let e₂ = high.differ (unlike' (A up) (C up) o) in
+          ⊎_elim
+          (λ (z : W (q + 3) ≡ 0). let v = set.upper_first even e₁ e₂ z in
           x_first v.0 (v.1 ∙ high.over o) (inr (x_upper o (inl (omega (arith, short w z))))))
           (λ (z : W (q + 3) ≡ 1). let v = set.lower_first even e₁ e₂ z in x_first v.0 (v.1 ∙ s) (inl (x_lower l (inl (long w z)))))
-          second_bit) (λ (o : A up < C up). let e₂ = high.differ (unlike (A up) (C up) o) in
-          ⊎_elim (λ (z : W (q + 3) ≡ 0). let v = set.upper_first even e₁ e₂ z in
+          second_bit)
+          (λ (o : A up < C up). let e₂ = high.differ (unlike (A up) (C up) o) in
+          ⊎_elim
+          (λ (z : W (q + 3) ≡ 0). let v = set.upper_first even e₁ e₂ z in
           y_first v.0 (v.1 ∙ high.under o) (inr (y_upper o (inl (short w z)))))
           (λ (z : W (q + 3) ≡ 1). let v = set.lower_first even e₁ e₂ z in x_first v.0 (v.1 ∙ s) (inl (x_lower l (inl (long w z)))))
-          second_bit)) (three_ways (A up) (C up))
+          second_bit))
+          (three_ways (A up) (C up))
 
       y_above : A down < C down → Result
       y_above l =
@@ -557,15 +580,20 @@ module _ (W : ℕ → ℕ) (b : Binary W) where
           let w = right s in
           ⊎_elim
           (λ (o : A up ≡ C up). let v = set.lower_only even e₁ (high.same o) in y_first v.0 (v.1 ∙ s) (inl (y_lower l (inr (sym o)))))
-          (⊎_elim (λ (o : C up < A up). let e₂ = high.differ (unlike' (A up) (C up) o) in
-          ⊎_elim (λ (z : W (q + 3) ≡ 0). let v = set.upper_first even e₁ e₂ z in
+          (⊎_elim
+          (λ (o : C up < A up). let e₂ = high.differ (unlike' (A up) (C up) o) in
+          ⊎_elim
+          (λ (z : W (q + 3) ≡ 0). let v = set.upper_first even e₁ e₂ z in
           x_first v.0 (v.1 ∙ high.over o) (inr (x_upper o (inl (short w z)))))
           (λ (z : W (q + 3) ≡ 1). let v = set.lower_first even e₁ e₂ z in y_first v.0 (v.1 ∙ s) (inl (y_lower l (inl (long w z)))))
-          second_bit) (λ (o : A up < C up). let e₂ = high.differ (unlike (A up) (C up) o) in
-          ⊎_elim (λ (z : W (q + 3) ≡ 0). let v = set.upper_first even e₁ e₂ z in
+          second_bit)
+          (λ (o : A up < C up). let e₂ = high.differ (unlike (A up) (C up) o) in
+          ⊎_elim
+          (λ (z : W (q + 3) ≡ 0). let v = set.upper_first even e₁ e₂ z in
           y_first v.0 (v.1 ∙ high.under o) (inr (y_upper o (inl (omega (arith, short w z))))))
           (λ (z : W (q + 3) ≡ 1). let v = set.lower_first even e₁ e₂ z in y_first v.0 (v.1 ∙ s) (inl (y_lower l (inl (long w z)))))
-          second_bit)) (three_ways (A up) (C up))
+          second_bit))
+          (three_ways (A up) (C up))
 
       decided : Outcome (W (q + 14)) (W (q + 15)) p.ballots (suc (suc t)) A C
       unfolding Result
@@ -604,7 +632,8 @@ module _ (W : ℕ → ℕ) (b : Binary W) where
         let set = resolve_law q e s (unequal_at m r) (above_at m dl r) (unequal_at m' r) (above_at m' ul r)
         (left_carry m r) (right_carry m r) (x + suc r) (far_at x r t + suc r) o.2 in
         decided i i' q e s (unequal_at m r) (above_at m dl r) (unequal_at m' r) (above_at m' ul r) (left_carry m r)
-        (right_carry m r) (x + suc r) (far_at x r t + suc r) (record {
+        (right_carry m r) (x + suc r) (far_at x r t + suc r)
+        (record {
           down_in = hd;
           up_in = u.up_in;
           down_rest = d.down_rest;

@@ -1,7 +1,10 @@
 -- Loops that write the blocks of a contest: one piece, and the pieces left.
 -- Assumes nothing.
-use Rattle.basics.proofs.Common.{◌≡◌, ◌∙◌, refl, sym, ap, subst, [], ◌∷◌, ◌++◌, ℕ, zero, suc, ◌+◌, ◌-◌, ◌*◌, ◌/◌, ◌%◌}
-use Rattle.basics.proofs.Common.{◌≤◌, ◌<◌, mul-le-mul, mul-le-mul_right, arith}
+use mathlib.Core.Path.{◌≡◌, ◌∙◌, refl, sym, ap, subst}
+use mathlib.Core.List.{[], ◌∷◌, ◌++◌}
+use Prim.Native.Nat.{ℕ, zero, suc, ◌+◌, ◌-◌, ◌*◌, ◌/◌, ◌%◌, ◌≤◌, ◌<◌}
+use native.Mathlib.Nat.{mul-le-mul, mul-le-mul_right}
+use native.Mathlib.Omega.{arith}
 use Rattle.gate_words.specs.Gates.{copy_of, or_of, mux_of}
 use Rattle.gate_words.specs.Halves.{unequal_at, compare_cut, compare_span, above_at}
 use Rattle.graded_circuit.specs.Median.{Fits, differ_at, difference_span, next_digit, later_digits, later_span, ones_span, differ_end, larger_end}

@@ -1,7 +1,10 @@
 -- The spans of the circuit's parts, case by case, as the program computes them.
 -- Assumes nothing.
-use Rattle.basics.proofs.Common.{⊎_elim, ◌≡◌, refl, ap, subst, ℕ, zero, suc, ◌+◌, ◌-◌, ◌*◌, ◌/◌, ◌≤◌, ◌<◌, mul-add}
-use Rattle.basics.proofs.Common.{mul-le-mul, arith}
+use mathlib.Core.Logic.{⊎_elim}
+use mathlib.Core.Path.{◌≡◌, refl, ap, subst}
+use Prim.Native.Nat.{ℕ, zero, suc, ◌+◌, ◌-◌, ◌*◌, ◌/◌, ◌≤◌, ◌<◌}
+use native.Mathlib.Nat.{mul-add, mul-le-mul}
+use native.Mathlib.Omega.{arith}
 use Rattle.gate_words.specs.Reach.{reach_span}
 use Rattle.graded_circuit.specs.declared.plan.Plan.{Plan}
 use Rattle.graded_circuit.specs.RunningSums.{sum_size, worst_size}
@@ -85,13 +88,16 @@ module _ (p : Plan) where
     contest_small = omega (arith, merge_few p f 4 4 (omega arith))
 
     pub pair_small : (m : ℕ) → m ≤ 2 → levels_span p 1 m ≤ 500
-    pair_small m h = ⊎_elim (λ (l : 1 < m). omega (arith, pair_two m l, contest_small))
-        (λ (l : m ≤ 1). omega (arith, pair_one m l)) (below_or_not 1 m)
+    pair_small m h = ⊎_elim
+        (λ (l : 1 < m). omega (arith, pair_two m l, contest_small))
+        (λ (l : m ≤ 1). omega (arith, pair_one m l))
+        (below_or_not 1 m)
 
     pub four_small : (m : ℕ) → m ≤ 4 → levels_span p 2 m ≤ 1500
     four_small m h = ⊎_elim
         (λ (l : 1 < m). omega (arith, four_more m l, contest_small, pair_small (m / 2) (omega arith), pair_small (m - m / 2) (omega arith)))
-        (λ (l : m ≤ 1). omega (arith, four_one m l)) (below_or_not 1 m)
+        (λ (l : m ≤ 1). omega (arith, four_one m l))
+        (below_or_not 1 m)
 
     -- a candidate's parts have at most 35,000 gates
     pub parts_small : (p.grades - 3) * p.ballots + (p.grades - 2) * sum_size p + worst_size p + key_span p ≤ 35000

@@ -1,7 +1,11 @@
 -- The numbers of a plan do not wrap; and the parts of a candidate's circuit, grade by grade.
 -- Assumes nothing.
-use Rattle.basics.proofs.Common.{◌≡◌, ◌∙◌, refl, sym, ap, List, [], ◌++◌, ℕ, zero, suc, ◌+◌, ◌-◌, ◌*◌, ◌^◌, ◌≤◌, ◌<◌}
-use Rattle.basics.proofs.Common.{pow-succ', mul-le-mul, mul-le-mul_right, add-one, arith}
+use mathlib.Core.Path.{◌≡◌, ◌∙◌, refl, sym, ap}
+use mathlib.Core.List.{List, [], ◌++◌}
+use Prim.Native.Nat.{ℕ, zero, suc, ◌+◌, ◌-◌, ◌*◌, ◌^◌, ◌≤◌, ◌<◌}
+use native.Mathlib.Nat.{pow-succ', mul-le-mul, mul-le-mul_right}
+use native.Mathlib.Numerals.{add-one}
+use native.Mathlib.Omega.{arith}
 use Rattle.gates.specs.Gate.{Gate}
 use Rattle.gate_words.specs.Rows.{xor_rows}
 use Rattle.gate_words.specs.Counter.{count_levels, count_digits_as}

@@ -1,8 +1,16 @@
 -- What the writers of the list share: the own list by its cases, and where the keys and wires of groups are.
 -- Assumes nothing.
-use Rattle.basics.proofs.Common.{◌≡◌, ◌∙◌, refl, sym, ap, subst, Bool, cond, ⊎_elim, List, [], ◌∷◌, ◌++◌, append_assoc}
-use Rattle.basics.proofs.Common.{ℕ, zero, suc, ◌+◌, ◌-◌, ◌*◌, ◌/◌, ◌≤◌, ◌<◌, suc-mul, mul_comm, mul-div_cancel}
-use Rattle.basics.proofs.Common.{add-one, arith, T, leb, length, eq-eqb, ne_eqb, le-leb, lt-leb}
+use mathlib.Core.Path.{◌≡◌, ◌∙◌, refl, sym, ap, subst}
+use mathlib.Core.Bool.{Bool, cond}
+use mathlib.Core.Logic.{⊎_elim}
+use mathlib.Core.List.{List, [], ◌∷◌, ◌++◌, append_assoc}
+use Prim.Native.Nat.{ℕ, zero, suc, ◌+◌, ◌-◌, ◌*◌, ◌/◌, ◌≤◌, ◌<◌}
+use native.Mathlib.Nat.{suc-mul, mul_comm, mul-div_cancel}
+use native.Mathlib.Numerals.{add-one}
+use native.Mathlib.Omega.{arith}
+use lib.Dec.{T, leb}
+use lib.ListN.{length}
+use borrow.Author.Tests.{eq-eqb, ne_eqb, le-leb, lt-leb}
 use Rattle.gates.specs.Gate.{Gate}
 use Rattle.gate_words.specs.Gates.{constant, copy_of, and_of}
 use Rattle.gate_words.specs.Choice.{choose}
@@ -124,7 +132,8 @@ candidates_none p n c k h = let e : k - c ≡ 0 = omega arith in rw e
 -- the places of a group's key and wires, from the end of its merges
 module _ (p : Plan) (r n m : ℕ) where
   pub key_is : (c : ℕ) → best_key p (suc r) n c m ≡ cond (leb m 1) (key_at p c) (n + levels_span p (suc r) m - key_span p)
-  key_is c = ⊎_elim (λ (l : 1 < m).
+  key_is c = ⊎_elim
+      (λ (l : 1 < m).
       let e : n + levels_span p r (m / 2) + levels_span p r (m - m / 2) + merge_span p (m / 2) (m - m / 2) ≡ n
       + levels_span p (suc r) m - key_span p = omega (arith, span_more p r m l) in
       key_more p r m n c l ∙ e ∙ sym (ap (λ (t : Bool). cond t (key_at p c) (n + levels_span p (suc r) m - key_span p)) (lt-leb m 1 l)))
@@ -133,7 +142,8 @@ module _ (p : Plan) (r n m : ℕ) where
       (below_or_not 1 m)
 
   pub won_is : winner_flags p (suc r) n m ≡ cond (leb m 1) 0 (n + levels_span p (suc r) m - key_span p - m)
-  won_is = ⊎_elim (λ (l : 1 < m).
+  won_is = ⊎_elim
+      (λ (l : 1 < m).
       let e : won_at p (merge_at p r n m) ≡ n + levels_span p (suc r) m - key_span p - m = omega (arith, span_more p r m l) in
       won_more p r m n 0 l ∙ e ∙ sym (ap (λ (t : Bool). cond {A = ℕ} t 0 (n + levels_span p (suc r) m - key_span p - m)) (lt-leb m 1 l)))
       (λ (l : m ≤ 1). none l ∙ sym (ap (λ (t : Bool). cond {A = ℕ} t 0 (n + levels_span p (suc r) m - key_span p - m)) (le-leb m 1 l)))

@@ -13,5 +13,3 @@ pub mod Rows
 pub mod CountFacts
 pub mod BallotOrder
 pub mod RankingLaws
-pub mod Theorems
-pub mod Scores

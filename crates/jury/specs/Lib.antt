@@ -8,5 +8,4 @@ pub mod WeakOrder
 pub mod Counts
 pub mod ClosingBytes
 pub mod Accepted
-pub mod Theorems
 pub mod inner

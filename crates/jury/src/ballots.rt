@@ -1,6 +1,6 @@
 // The tests of ballots.
 ghost use Rattle.std.specs.Prelude.{◌≡◌, ℕ, ◌*◌, ◌≤◌, ◌<◌, T, length, get_or};
-ghost use Rattle.jury.specs.Shape.{most_candidates, within_limits};
+ghost use Rattle.jury.specs.Shape.{within_limits};
 ghost use Rattle.jury.specs.Reason.{refused_for, first_of};
 ghost use Rattle.jury.specs.Ballots.{graded_reasons, ranked_reasons, ballot_reasons, ones, rows_of, first_bad_row};
 ghost use Rattle.jury.specs.inner.Ballots.{GradedBits, RowsOfBits};
@@ -40,16 +40,11 @@ fn test_grades(shape: Shape, ballots: &[u8]) -> Verdict
     }
 }
 
-// Tests rankings: all ballots for reason 11, then all ballots for 12. These searches end early and branch on the
-// ballots, so only a refused call makes them.
+// Tests rankings: all ballots for reason 11, then all ballots for 12.
 fn test_rankings(shape: Shape, ballots: &[u8]) -> Verdict
-    requires { (shape.candidates ≤ most_candidates)
-        × (length ballots.now ≡ shape.ballots * shape.candidates * shape.candidates) }
+    requires { length ballots.now ≡ shape.ballots * shape.candidates * shape.candidates }
     ensures { refused_for result ≡ first_of (ranked_reasons shape ballots.now) }
 {
-    if crate::orders::are_orders(ballots, shape.candidates, shape.ballots) {
-        return Verdict::Accepted;
-    }
     if let Place::At(i) = crate::rankings::first_not_asymmetric(
         ballots,
         shape.candidates,

@@ -1,7 +1,6 @@
 // Tasting juries: shapes, ballots with their tests and counts, reasons.
 pub mod ballots;
 pub mod counts;
-mod orders;
 pub mod rankings;
 pub mod reason;
 pub mod shape;

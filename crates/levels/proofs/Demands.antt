@@ -9,17 +9,16 @@ use native.Mathlib.Nat.{add-zero}
 use native.Mathlib.Omega.{arith}
 use lib.Dec.{T}
 use lib.ListN.{length, get_or, drop}
-use Rattle.basics.specs.Lists.{all, member, maximum}
+use Rattle.basics.specs.Lists.{all, member}
 use Rattle.gates.specs.Kind.{conditional_of}
 use Rattle.gates.specs.Gate.{Gate, gates_of, gate_at}
 use Rattle.gates.proofs.Table.{gates_from}
 use Rattle.gates.proofs.Laws.{AllGood, all_good}
 use Rattle.gate_levels.specs.Levels.{wire_level, gate_level, levels_of, rounds_of}
-use Rattle.gate_levels.proofs.Laws.{length_levels, Leveled, levels_leveled, OperandLevels, operand_levels, maximum_most, maximum_at, rounds_most}
+use Rattle.gate_levels.proofs.Laws.{length_levels, Leveled, levels_leveled, OperandLevels, operand_levels, maximum_most, rounds_most}
 use Rattle.jury.specs.declared.shape.Shape.{Shape}
 use Rattle.jury.specs.Shape.{ballot_bytes}
 use Rattle.jury.specs.Reason.{Reason, reason_at, first_of}
-use Rattle.jury.proofs.Limits.{bounds}
 use Rattle.tally.specs.Answer.{refused, accepted, outcome, has_number_in, size_of}
 use Rattle.tally.specs.Memory.{Each}
 use Rattle.tally.specs.Test.{test_reasons, test_reason_numbers, test_outcome}
@@ -149,23 +148,11 @@ module _ (s : Shape) (table levels : List ℕ) (depths : Depths) (e : levels_out
           rounds_most (ballot_bytes s) (gates_of table),
         );
         level = λ g. omega (arith, ap (λ (d : Depths). d.rounds) own, ap (λ (l : List ℕ). get_or l g 0) written, most g);
-        reached =
-            let top = maximum_at (levels_of (ballot_bytes s) (gates_of table)) some_gate in (
-              top.0,
-              omega (arith, top.1, length_levels (ballot_bytes s) (gates_of table), gates_own),
-              ap (λ (l : List ℕ). get_or l top.0 0) written ∙ top.2 ∙ rounds_own,
-            );
         a_operand = λ g h. operand g (gate_at table g).a h (bounds g).a_level;
         b_operand = λ g h. operand g (gate_at table g).b h (bounds g).b_level;
         c_operand = λ g h. operand g (gate_at table g).c h (bounds g).c_level;
       }
     where
-      some_gate : 0 < length (levels_of (ballot_bytes s) (gates_of table))
-      some_gate = omega (arith, length_levels (ballot_bytes s) (gates_of table), facts.enough, (bounds s facts.within).k_least)
-
-      rounds_own : maximum (levels_of (ballot_bytes s) (gates_of table)) ≡ depths.rounds
-      rounds_own = unfold rounds_of in sym (ap (λ (d : Depths). d.rounds) own)
-
       most : (g : ℕ) → get_or (levels_of (ballot_bytes s) (gates_of table)) g 0 ≤ rounds_of (ballot_bytes s) (gates_of table)
       most g = unfold rounds_of in maximum_most (levels_of (ballot_bytes s) (gates_of table)) g
 

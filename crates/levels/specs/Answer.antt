@@ -6,20 +6,17 @@ use Rattle.gate_levels.specs.Levels.{rounds_of}
 use Rattle.jury.specs.Reason.{Reason, reason_at, reason_of}
 use Rattle.tally.specs.Answer.{Outcome, refused, accepted}
 use Rattle.levels.specs.declared.answer.LevelRefusal.{LevelRefusal}
-use Rattle.levels.specs.declared.answer.LevelRefusal.TheVariants.{OfCore, Levels, Round, Heard, OutOfTurn, Uneven}
+use Rattle.levels.specs.declared.answer.LevelRefusal.TheVariants.{OfCore, Levels, Round, Heard}
 use Rattle.levels.specs.declared.answer.Answer.{Answer}
 use Rattle.levels.specs.declared.answer.Answer.TheVariants.{Accepted, Refused}
 
 -- The number and place of each case. Our own are 200 (the level table does not fit the list), 201 (the list has no
--- such round), 202 (the sums that a trustee heard are not two bits for each conditional gate), 203 (it is not this
--- round's turn) and 205 (the trustees have not published the same places).
+-- such round) and 202 (the sums that a trustee heard are not two bits for each conditional gate).
 unfoldable pub level_reason_of : LevelRefusal → Reason
 level_reason_of (OfCore r) = reason_of r
 level_reason_of Levels = reason_at 200 0
 level_reason_of Round = reason_at 201 0
 level_reason_of Heard = reason_at 202 0
-level_reason_of (OutOfTurn place) = reason_at 203 place
-level_reason_of (Uneven place) = reason_at 205 place
 
 -- The numbers answered: G, C and the rounds R.
 pub record Depths : Type 0 where

@@ -26,13 +26,12 @@ pub record OperandBelow (s : Shape) (table levels : List ℕ) (g x : ℕ) : Type
   pub below : conditional_of (gate_at table g).kind ≡ true
       → wire_level (ballot_bytes s) (levels_written s table levels) x < get_or (levels_written s table levels) g 0
 
--- For an accepted call: G, C and R are the list's own, R is at most C, no level is above R, and some gate's level is
--- R. If gates are opened level by level, every operand is there before its gate needs it.
+-- For an accepted call: G, C and R are the list's own, R is at most C, and no level is above R. If gates are opened
+-- level by level, every operand is there before its gate needs it.
 pub record Depth (s : Shape) (table levels : List ℕ) (depths : Depths) : Type 0 where
   pub own : depths ≡ depths_of (ballot_bytes s) (gates_of table)
   pub few : depths.rounds ≤ depths.conditional
   pub level : (g : ℕ) → get_or (levels_written s table levels) g 0 ≤ depths.rounds
-  pub reached : (g : ℕ) × (g < depths.gates) × (get_or (levels_written s table levels) g 0 ≡ depths.rounds)
   pub a_operand : (g : ℕ) → g < depths.gates → OperandBelow s table levels g (gate_at table g).a
   pub b_operand : (g : ℕ) → g < depths.gates → OperandBelow s table levels g (gate_at table g).b
   pub c_operand : (g : ℕ) → g < depths.gates → OperandBelow s table levels g (gate_at table g).c

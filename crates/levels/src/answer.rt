@@ -4,16 +4,13 @@ ghost use Rattle.levels.specs.Answer.{level_reason_of};
 
 use jury::reason::Refusal;
 
-// Why such a call is refused. The numbers from 200 on are our own; those of the requests end at 24. If a case holds a
-// number, that is the place.
+// Why such a call is refused. The numbers 200 to 202 are our own; those of the requests end at 24.
 #[derive(Drop)]
 pub enum LevelRefusal {
     OfCore(Refusal),
     Levels,
     Round,
     Heard,
-    OutOfTurn(usize),
-    Uneven(usize),
 }
 
 // G, C and R of the list, or the first reason that applies.
@@ -37,8 +34,6 @@ impl LevelRefusal {
             LevelRefusal::Levels => 200,
             LevelRefusal::Round => 201,
             LevelRefusal::Heard => 202,
-            LevelRefusal::OutOfTurn(_) => 203,
-            LevelRefusal::Uneven(_) => 205,
         }
     }
 
@@ -51,8 +46,6 @@ impl LevelRefusal {
             LevelRefusal::Levels => 0,
             LevelRefusal::Round => 0,
             LevelRefusal::Heard => 0,
-            LevelRefusal::OutOfTurn(place) => place,
-            LevelRefusal::Uneven(place) => place,
         }
     }
 }

@@ -1,8 +1,14 @@
 -- The own list of a ranked tasting is accurate: its last gates say who wins by Schulze's rule.
 -- Assumes nothing.
-use Rattle.basics.proofs.Common.{◌≡◌, ◌∙◌, refl, sym, ap, subst, Bool, true, cond, ◌||◌, ⊎_elim, ◌≢◌, ◌↔◌, List, []}
-use Rattle.basics.proofs.Common.{◌∷◌, ◌++◌, ℕ, zero, suc, max, ◌+◌, ◌-◌, ◌*◌, ◌≤◌, ◌<◌, eqb, eq-eqb, lt-ltb, le-ltb}
-use Rattle.basics.proofs.Common.{arith, length, length-append}
+use mathlib.Core.Path.{◌≡◌, ◌∙◌, refl, sym, ap, subst}
+use mathlib.Core.Bool.{Bool, true, cond, ◌||◌}
+use mathlib.Core.Logic.{⊎_elim, ◌≢◌, ◌↔◌}
+use mathlib.Core.List.{List, [], ◌∷◌, ◌++◌}
+use Prim.Native.Nat.{ℕ, zero, suc, max, ◌+◌, ◌-◌, ◌*◌, ◌≤◌, ◌<◌}
+use lib.Dec.{eqb}
+use borrow.Author.Tests.{eq-eqb, lt-ltb, le-ltb}
+use native.Mathlib.Omega.{arith}
+use lib.ListN.{length, length-append}
 use Rattle.gates.specs.Gate.{Gate}
 use Rattle.gates.proofs.Laws.{AllGood, Holds, holds_append, good_append, good_one, operand_counts_lem}
 use Rattle.gate_words.specs.Gates.{not_of}
@@ -55,13 +61,15 @@ module _ (beats : ℕ → ℕ → ℕ) (r n : ℕ) where
   pub rows_good : WiresBelow k beats n → AllGood n (loser_rows beats r n k)
   unfolding loser_rows
   rows_good below =
-      blocks_good n (loser_row beats r) k (λ i l. row_good beats r (start_of n (loser_row beats r) i) i
+      blocks_good n (loser_row beats r) k
+      (λ i l. row_good beats r (start_of n (loser_row beats r) i) i
       (λ s q. let h = below (other i s) i (other_low i s r q) l (other_apart i s) in omega arith))
 
   pub outputs_good : WiresBelow k beats n → AllGood (n + k * r) (output_gates beats r n k)
   unfolding output_gates
   outputs_good below =
-      blocks_good (n + k * r) output k (λ i l.
+      blocks_good (n + k * r) output k
+      (λ i l.
       let rows : i * r + r ≤ k * r = row_fits i l in
       let wire = start_of (n + k * r) output i in
       let low : joined_wire beats (suc r) (n + i * r) i (2 * r) < wire =
@@ -73,7 +81,8 @@ module _ (beats : ℕ → ℕ → ℕ) (r n : ℕ) where
       row_fits i l = omega (arith, row_within i k r l)
 
   module _ (W : ℕ → ℕ) (b : Binary W) (v : ℕ → ℕ → ℕ) (rows : Holds W n (loser_rows beats r n k))
-      (outputs : Holds W (n + k * r) (output_gates beats r n k)) (i : ℕ) (hi : i < k)
+      (outputs : Holds W (n + k * r) (output_gates beats r n k))
+      (i : ℕ) (hi : i < k)
       (winner_unbeaten : wins v k i ≡ true → (j : ℕ) → j < k → j ≢ i → W (beats j i) ≡ 0)
       (unbeaten_winner : ((j : ℕ) → j < k → j ≢ i → W (beats j i) ≡ 0) → wins v k i ≡ true) where
     lost : ℕ
@@ -91,11 +100,14 @@ module _ (beats : ℕ → ℕ → ℕ) (r n : ℕ) where
     unlost_winner : W lost ≡ 0 → wins v k i ≡ true
     unfolding lost
     unlost_winner z =
-        unbeaten_winner (λ j hj ne.
-        ⊎_elim (λ (e : W (beats j i) ≡ 0). e) (λ (e : W (beats j i) ≡ 1).
+        unbeaten_winner
+        (λ j hj ne.
+        ⊎_elim (λ (e : W (beats j i) ≡ 0). e)
+        (λ (e : W (beats j i) ≡ 1).
         let f = other_found i j r hi hj ne in
         let one = lost_one beats r (n + i * r) i W b row_holds f.0 f.1 (ap (λ (x : ℕ). W (beats x i)) f.2 ∙ e) in
-        absurd (omega (arith, z, one))) (bit_cases (W (beats j i)) (b (beats j i))))
+        absurd (omega (arith, z, one)))
+        (bit_cases (W (beats j i)) (b (beats j i))))
 
     output_is : W (n + k * r + i) ≡ 1 - W lost
     unfolding output_gates lost
@@ -106,7 +118,8 @@ module _ (beats : ℕ → ℕ → ℕ) (r n : ℕ) where
     pub output_law : W (n + k * r + i) ≡ cond (wins v k i) 1 0
     output_law =
         ⊎_elim (λ (z : W lost ≡ 0). let one : W (n + k * r + i) ≡ 1 = omega (arith, output_is) in one
-        ∙ sym (ap (λ (c : Bool). cond {A = ℕ} c 1 0) (unlost_winner z))) (λ (z : W lost ≡ 1).
+        ∙ sym (ap (λ (c : Bool). cond {A = ℕ} c 1 0) (unlost_winner z)))
+        (λ (z : W lost ≡ 1).
         let none : W (n + k * r + i) ≡ 0 = omega (arith, output_is) in
         none ∙ sym (ap (λ (c : Bool). cond {A = ℕ} c 1 0) (never_true (wins v k i) (λ e. let y = winner_unlost e in omega arith))))
         (bit_cases (W lost) (b lost))
@@ -183,13 +196,15 @@ module _ (r n w : ℕ) where
   beats_below : WiresBelow k₂ (beats_at k₂ n w) (losers_from k₂ n w)
   unfolding beats_at losers_from
   beats_below i j hi hj ne =
-      ⊎_elim (λ (q : max i j < l₂).
+      ⊎_elim
+      (λ (q : max i j < l₂).
       subst (λ (c : Bool). cond c (meeting_at k₂ n w i j) (duel_at k₂ n w i j) < meetings_from k₂ n w
       + length (meetings k₂ n w)) (sym (lt-ltb (max i j) l₂ q))
       (unfold meeting_at meetings in (meetings_below l₂ words₂ (duel_at k₂ n w) w (meetings_from k₂ n w) k₂ i j hi hj ne q)))
       (λ (q : l₂ ≤ max i j).
       subst (λ (c : Bool). cond c (meeting_at k₂ n w i j) (duel_at k₂ n w i j) < meetings_from k₂ n w
-      + length (meetings k₂ n w)) (sym (le-ltb (max i j) l₂ q)) (omega (arith, duel_below i j hi hj ne q)))
+      + length (meetings k₂ n w)) (sym (le-ltb (max i j) l₂ q))
+      (omega (arith, duel_below i j hi hj ne q)))
       (below_or_not (max i j) l₂)
 
   several_good : Countable n 0 w → AllGood (n * k₂ * k₂) (ranked_list (suc (suc (suc r))) n w)
@@ -289,7 +304,8 @@ module _ (r n w : ℕ) where
         let here = spelled i j hi hj ne ∙ part_all i j hi hj ne row in
         let back = spelled j i hj hi ji ∙ part_all j i hj hi ji (omega arith) in
         subst (λ (c : Bool). Above (W (cond c (meeting_at k₂ n w i j) (duel_at k₂ n w i j))) (all i j) (all j i))
-        (sym (le-ltb (max i j) l₂ row)) ((λ q. t.0 (omega arith)), (λ q. t.1 (omega arith)))
+        (sym (le-ltb (max i j) l₂ row))
+        ((λ q. t.0 (omega arith)), (λ q. t.1 (omega arith)))
 
     -- what a meeting says: whether i beats j, if neither is the last
     abbrev L : ℕ
@@ -354,7 +370,8 @@ module _ (r n w : ℕ) where
         other : (j : ℕ) → j < k₂ → j ≢ i → max j i < L → all j i ≤ all i j
         other j hj ne q =
             let u = last L (omega arith) (λ z. omega arith) (omega arith) in
-            ⊎_elim (λ (l : all i j < all j i).
+            ⊎_elim
+            (λ (l : all i j < all j i).
             let six = (by_six i j (omega arith) (omega arith) (λ z. ne (sym z)) u).0 l in
             absurd (omega (arith, (other_told j i (omega arith) (omega arith) ne).0 six, none j hj ne)))
             (λ (l : all j i ≤ all i j). l) (below_or_not (all i j) (all j i))
@@ -421,7 +438,8 @@ module _ (n w : ℕ) where
     pair_holds : Holds W (n * 2 * 2) (paths_to 2 n w 0).gates
         × Holds W (pair_from n w + 2 * 0) (output_gates (link_wire 2 n w) 0 (pair_from n w) 2)
     pair_holds =
-        let p = holds_append W (n * 2 * 2) (paths_to 2 n w 0).gates (output_gates (link_wire 2 n w) 0 (pair_from n w) 2)
+        let p = holds_append W (n * 2 * 2) (paths_to 2 n w 0).gates
+        (output_gates (link_wire 2 n w) 0 (pair_from n w) 2)
         (subst (λ (gs : List Gate). Holds W (n * 2 * 2) gs) pair_is h) in
         (p.0, subst (λ (l : ℕ). Holds W l (output_gates (link_wire 2 n w) 0 (pair_from n w) 2)) links_end p.1)
 
@@ -437,7 +455,8 @@ module _ (n w : ℕ) where
 
         winner : wins v 2 i ≡ true → (j : ℕ) → j < 2 → j ≢ i → W (link_wire 2 n w j i) ≡ 0
         winner e j hj ne =
-            ⊎_elim (λ (l : v i j < v j i).
+            ⊎_elim
+            (λ (l : v i j < v j i).
             let u = wins_unbeaten v 2 i e j hj ne in
             absurd (omega (
               arith,
@@ -446,11 +465,13 @@ module _ (n w : ℕ) where
               one_link (link v) i j hi hj (λ z. ne (sym z)),
               link_won v j i l,
               link_lost v i j (omega arith),
-            ))) (λ (l : v j i ≤ v i j). (told j hj ne).1 l) (below_or_not (v i j) (v j i))
+            )))
+            (λ (l : v j i ≤ v i j). (told j hj ne).1 l) (below_or_not (v i j) (v j i))
 
         loser : ((j : ℕ) → j < 2 → j ≢ i → W (link_wire 2 n w j i) ≡ 0) → wins v 2 i ≡ true
         loser none =
-            unbeaten_wins v 2 i (λ j hj ne.
+            unbeaten_wins v 2 i
+            (λ j hj ne.
             ⊎_elim (λ (l : v i j < v j i). absurd (omega (arith, (told j hj ne).0 l, none j hj ne)))
             (λ (l : v j i ≤ v i j). omega (arith, one_link (link v) j i hj hi ne, link_lost v j i l)) (below_or_not (v i j) (v j i)))
 

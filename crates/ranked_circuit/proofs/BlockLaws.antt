@@ -1,8 +1,12 @@
 -- What the wires of the blocks say, for every width; the lengths of the blocks, and that they are well-formed.
 -- Assumes nothing.
-use Rattle.basics.proofs.Common.{◌≡◌, ◌∙◌, refl, sym, ap, subst, ⊎_elim, List, [], ◌∷◌, ◌++◌, ℕ, zero, suc, min, max}
-use Rattle.basics.proofs.Common.{◌+◌, ◌-◌, ◌*◌, ◌^◌, ◌%◌, ◌≤◌, ◌<◌, add-zero, mul-suc, mul-le-mul_left, arith, length}
-use Rattle.basics.proofs.Common.{length-append}
+use mathlib.Core.Path.{◌≡◌, ◌∙◌, refl, sym, ap, subst}
+use mathlib.Core.Logic.{⊎_elim}
+use mathlib.Core.List.{List, [], ◌∷◌, ◌++◌}
+use Prim.Native.Nat.{ℕ, zero, suc, min, max, ◌+◌, ◌-◌, ◌*◌, ◌^◌, ◌%◌, ◌≤◌, ◌<◌}
+use native.Mathlib.Nat.{add-zero, mul-suc, mul-le-mul_left}
+use native.Mathlib.Omega.{arith}
+use lib.ListN.{length, length-append}
 use Rattle.gates.specs.Gate.{Gate}
 use Rattle.gates.proofs.Laws.{AllGood, Holds, holds_append, good_two, operand_counts_lem, mux_zero, mux_one}
 use Rattle.gate_words.specs.Gates.{and_of, xor_of, mux_of}
@@ -231,7 +235,8 @@ module _ (W : ℕ → ℕ) (b : Binary W) where
     highs =
         let place : n + 1 + 1 ≡ n + 2 = omega arith in
         let rest = above (n + 2 + w) (n + 2) (x + 1) (n + 1) w in
-        let all = subst (λ (m : ℕ). Holds W m high_digits) place (holds_rest W (n + 1) (and_of x n) high_digits
+        let all = subst (λ (m : ℕ). Holds W m high_digits) place
+        (holds_rest W (n + 1) (and_of x n) high_digits
         (holds_rest W n (xor_of x y) (and_of x n ∷ high_digits) opened)) in
         let p = holds_append W (n + 2) (differences (x + 1) (y + 1) w) rest all in
         (p.0, subst (λ (l : ℕ). Holds W (n + 2 + l) rest) (length_differences (x + 1) (y + 1) w) p.1)
@@ -434,10 +439,14 @@ module _ (W : ℕ → ℕ) (b : Binary W) where
         omega (
           arith,
           o.1 z,
-          choose_zero W b (n + order_size w h + 1) (n + order_size w h) x y (suc w) (omega arith) chosen,
-        )) (λ (z : W (cut_end n x w h) ≡ 1).
+          choose_zero W b (n + order_size w h + 1) (n + order_size w h) x y (suc w)
+              (omega arith) chosen,
+        ))
+        (λ (z : W (cut_end n x w h) ≡ 1).
         omega (
           arith,
           o.0 z,
-          choose_one W b (n + order_size w h + 1) (n + order_size w h) x y (suc w) (omega arith) chosen,
-        )) (bit_cases (W (cut_end n x w h)) (b (cut_end n x w h)))
+          choose_one W b (n + order_size w h + 1) (n + order_size w h) x y (suc w)
+              (omega arith) chosen,
+        ))
+        (bit_cases (W (cut_end n x w h)) (b (cut_end n x w h)))

@@ -1,7 +1,12 @@
 -- The number of ones that a counter of the circuit counts is the number of ballots that put one candidate before
 -- another.
 -- Assumes nothing.
-use Rattle.basics.proofs.Common.{◌≡◌, ◌∙◌, ap, List, ℕ, zero, suc, ◌+◌, ◌*◌, ◌≤◌, ◌<◌, zero-mul, suc-mul, arith, get_or}
+use mathlib.Core.Path.{◌≡◌, ◌∙◌, ap}
+use mathlib.Core.List.{List}
+use Prim.Native.Nat.{ℕ, zero, suc, ◌+◌, ◌*◌, ◌≤◌, ◌<◌}
+use native.Mathlib.Nat.{zero-mul, suc-mul}
+use native.Mathlib.Omega.{arith}
+use lib.ListN.{get_or}
 use Rattle.gate_words.specs.Word.{ones_at}
 use Rattle.gate_words.proofs.Laws.{ones_none, ones_more}
 use Rattle.jury.specs.Rankings.{rank_place, before}

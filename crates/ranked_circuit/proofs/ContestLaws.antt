@@ -1,8 +1,14 @@
 -- What the meetings of candidates before the last one say: who beats whom, by the strengths of the paths among three.
 -- Assumes nothing.
-use Rattle.basics.proofs.Common.{◌≡◌, ◌∙◌, refl, sym, ap, subst, Bool, true, inl, inr, ⊎_elim, ◌≢◌, List, [], ◌∷◌}
-use Rattle.basics.proofs.Common.{◌++◌, ℕ, suc, min, max, ◌+◌, ◌-◌, ◌*◌, ◌≤◌, ◌<◌, arith, ltb, ltb-true, lt-ltb, length}
-use Rattle.basics.proofs.Common.{length-append}
+use mathlib.Core.Path.{◌≡◌, ◌∙◌, refl, sym, ap, subst}
+use mathlib.Core.Bool.{Bool, true}
+use mathlib.Core.Logic.{inl, inr, ⊎_elim, ◌≢◌}
+use mathlib.Core.List.{List, [], ◌∷◌, ◌++◌}
+use Prim.Native.Nat.{ℕ, suc, min, max, ◌+◌, ◌-◌, ◌*◌, ◌≤◌, ◌<◌}
+use native.Mathlib.Omega.{arith}
+use lib.Dec.{ltb}
+use borrow.Author.Tests.{ltb-true, lt-ltb}
+use lib.ListN.{length, length-append}
 use Rattle.gates.specs.Gate.{Gate}
 use Rattle.gates.proofs.Laws.{AllGood, Holds, holds_append, good_two, operand_counts_lem, mux_zero, mux_one}
 use Rattle.gate_words.specs.Gates.{and_of, mux_of}
@@ -33,7 +39,8 @@ TellsSix bit a b β α' β' = (BeatsBySix a b β α' β' → bit ≡ 1) × ((Bea
 pub same_six : (bit a b β α' β' a₁ b₁ β₁ α₁ β₂ : ℕ) → a ≡ a₁ → b ≡ b₁ → β ≡ β₁ → α' ≡ α₁ → β' ≡ β₂
     → TellsSix bit a b β α' β' → TellsSix bit a₁ b₁ β₁ α₁ β₂
 same_six bit a b β α' β' a₁ b₁ β₁ α₁ β₂ ea eb eβ eα eβ' t =
-    subst (λ (x : ℕ). TellsSix bit a₁ b₁ β₁ α₁ x) eβ' (subst (λ (x : ℕ). TellsSix bit a₁ b₁ β₁ x β') eα
+    subst (λ (x : ℕ). TellsSix bit a₁ b₁ β₁ α₁ x) eβ'
+    (subst (λ (x : ℕ). TellsSix bit a₁ b₁ β₁ x β') eα
     (subst (λ (x : ℕ). TellsSix bit a₁ b₁ x α' β') eβ
     (subst (λ (x : ℕ). TellsSix bit a₁ x β α' β') eb (subst (λ (x : ℕ). TellsSix bit x b β α' β') ea t))))
 
@@ -50,7 +57,8 @@ choice_law a b β α' β' near met back far both bit n m k f e one zero = (beate
 
     farther : (BeatsBySix a b β α' β' → ⊥) → β ≤ β' → both ≡ 0
     farther none l =
-        ⊎_elim (λ (p : a < b). ⊎_elim (λ (q : β < b). absurd (none (inr (l, p, q))))
+        ⊎_elim
+        (λ (p : a < b). ⊎_elim (λ (q : β < b). absurd (none (inr (l, p, q))))
         (λ (q : b ≤ β). e ∙ (let y = f.1 q in omega arith)) (below_or_not β b))
         (λ (p : b ≤ a). e ∙ (let x = k.1 p in omega arith)) (below_or_not a b)
 
@@ -249,7 +257,8 @@ module _ (l : ℕ) (words met : ℕ → ℕ → ℕ) (w n k : ℕ) where
   pub meetings_below : (i j : ℕ) → i < k → j < k → i ≢ j → max i j < l
       → link_at n k (meetings_block l words met w) i j < n + length (table n k (meetings_block l words met w))
   meetings_below i j hi hj ne row =
-      rw meetings_are (later_below before (meeting_of l words met w) n k (λ at i j q. omega (
+      rw meetings_are (later_below before (meeting_of l words met w) n k
+      (λ at i j q. omega (
         arith,
         length_meeting (words l i) (words l j) (words i j) (words j i) (met i l) (met j l)
             w at,
@@ -291,5 +300,6 @@ module _ (l : ℕ) (words met : ℕ → ℕ → ℕ) (w n k : ℕ) where
     -- whether i beats j
     pub meeting_told : (i j : ℕ) → i < k → j < k → i ≢ j → max i j < l → Says (link_at n k (meetings_block l words met w) i j) i j
     meeting_told i j hi hj ne row =
-        rw meetings_are (⊎_elim (λ (q : j < i). (later i j hi hj q (omega arith)).0)
+        rw meetings_are
+        (⊎_elim (λ (q : j < i). (later i j hi hj q (omega arith)).0)
         (λ (q : i ≤ j). (later j i hj hi (omega arith) (omega arith)).1) (below_or_not j i))

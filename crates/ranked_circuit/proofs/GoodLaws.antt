@@ -1,7 +1,14 @@
 -- The own list of a ranked tasting is well-formed: every operand is an earlier wire.
 -- Assumes nothing.
-use Rattle.basics.proofs.Common.{◌≡◌, ◌∙◌, refl, sym, ap, subst, Bool, true, false, cond, ◌≢◌, List, [], ◌++◌, ℕ, zero}
-use Rattle.basics.proofs.Common.{suc, max, ◌+◌, ◌-◌, ◌*◌, ◌≤◌, ◌<◌, arith, eqb, leb, length, length-append, le-leb}
+use mathlib.Core.Path.{◌≡◌, ◌∙◌, refl, sym, ap, subst}
+use mathlib.Core.Bool.{Bool, true, false, cond}
+use mathlib.Core.Logic.{◌≢◌}
+use mathlib.Core.List.{List, [], ◌++◌}
+use Prim.Native.Nat.{ℕ, zero, suc, max, ◌+◌, ◌-◌, ◌*◌, ◌≤◌, ◌<◌}
+use native.Mathlib.Omega.{arith}
+use lib.Dec.{eqb, leb}
+use lib.ListN.{length, length-append}
+use borrow.Author.Tests.{le-leb}
 use Rattle.gates.specs.Gate.{Gate}
 use Rattle.gates.proofs.Laws.{AllGood, good_append}
 use Rattle.gate_words.specs.Word.{Below}
@@ -47,7 +54,9 @@ WiresBelow k wires wire = (i j : ℕ) → i < k → j < k → i ≢ j → wires 
 module _ (k w : ℕ) where
   pub links_good : (first : ℕ) (words : ℕ → ℕ → ℕ) (n : ℕ) → WordsBelow k w words n → AllGood n (table n k (links_block first words w))
   links_good first words n below =
-      rw (links_are first words w) (later_good (leb first) (comparing words w) n k (λ i j hi hj l row.
+      rw (links_are first words w)
+      (later_good (leb first) (comparing words w) n k
+      (λ i j hi hj l row.
       whole_good (entry_start n k (later_of (leb first) (comparing words w)) i j) (words i j) (words j i) w
       (omega (arith, below i j hi hj (λ e. omega arith))) (omega (arith, below j i hj hi (λ e. omega arith)))))
 
@@ -55,7 +64,8 @@ module _ (k w : ℕ) where
   pub links_below : (first : ℕ) (words : ℕ → ℕ → ℕ) (n i j : ℕ) → i < k → j < k → i ≢ j → first ≤ max i j
       → link_at n k (links_block first words w) i j < n + length (table n k (links_block first words w))
   links_below first words n i j hi hj ne f =
-      rw (links_are first words w) (later_below (leb first) (comparing words w) n k
+      rw (links_are first words w)
+      (later_below (leb first) (comparing words w) n k
       (λ at i j l. omega (arith, length_whole at (words i j) (words j i) w)) i j hi hj ne (le-leb first (max i j) f))
 
   -- a list after the weaker part of a way
@@ -166,12 +176,14 @@ module _ (k n w : ℕ) where
   pub paths_good : Countable n 0 w → (m : ℕ) → m ≤ suc k → AllGood (n * k * k) (paths_to k n w m).gates
   unfolding paths_to next_paths votes_table links_table
   paths_good c zero hm =
-      good_append (n * k * k) (votes_table k n w) (links_table k n w) (table_good (n * k * k) k (votes_block k n w)
+      good_append (n * k * k) (votes_table k n w) (links_table k n w)
+      (table_good (n * k * k) k (votes_block k n w)
       (λ i j hi hj. votes_good k n w (entry_start (n * k * k) k (votes_block k n w) i j) i j hi hj (omega arith) c))
       (unfold links_from in (links_good k w 0 (votes_at k n w) (links_from k n w) votes_below))
   paths_good c (suc m) hm =
       let block = path_block k (link_wire k n w) (paths_to k n w m).words w m in
       good_append (n * k * k) (paths_to k n w m).gates (table (end_of m) k block) (paths_good c m (omega arith))
-      (table_good (end_of m) k block (λ i j hi hj.
+      (table_good (end_of m) k block
+      (λ i j hi hj.
       stage_good k w (link_wire k n w) (paths_to k n w m).words m (entry_start (end_of m) k block i j) i j (omega arith) hi hj
       (λ a c ha hc ne. omega (arith, words_below m a c ha hc ne)) (λ a c ha hc ne. omega (arith, link_below m a c ha hc ne))))

@@ -1,7 +1,14 @@
 -- Tables with one block for each pair of candidates, whose last two wires are about the two: where these wires are.
 -- Assumes nothing.
-use Rattle.basics.proofs.Common.{◌≡◌, ◌∙◌, refl, ap, subst, Bool, true, false, cond, ◌&&◌, ⊎_elim, ◌≢◌, List, [], ℕ}
-use Rattle.basics.proofs.Common.{max, ◌+◌, ◌-◌, ◌≤◌, ◌<◌, arith, ltb, length, ltb-true, lt-ltb, le-ltb}
+use mathlib.Core.Path.{◌≡◌, ◌∙◌, refl, ap, subst}
+use mathlib.Core.Bool.{Bool, true, false, cond, ◌&&◌}
+use mathlib.Core.Logic.{⊎_elim, ◌≢◌}
+use mathlib.Core.List.{List, []}
+use Prim.Native.Nat.{ℕ, max, ◌+◌, ◌-◌, ◌≤◌, ◌<◌}
+use native.Mathlib.Omega.{arith}
+use lib.Dec.{ltb}
+use lib.ListN.{length}
+use borrow.Author.Tests.{ltb-true, lt-ltb, le-ltb}
 use Rattle.basics.proofs.Cases.{below_or_not}
 use Rattle.basics.proofs.Flags.{and_first, and_second, and_both}
 use Rattle.gates.specs.Gate.{Gate}
@@ -79,9 +86,12 @@ module _ (rows : ℕ → Bool) (block : ℕ → ℕ → ℕ → List Gate) where
     pub later_below : ((at i j : ℕ) → j < i → 2 ≤ length (block at i j)) → (i j : ℕ) → i < k → j < k → i ≢ j → rows (max i j) ≡ true
         → link_at n k (later_of rows block) i j < n + length (table n k (later_of rows block))
     later_below long i j hi hj ne row =
-        ⊎_elim (λ (l : j < i).
+        ⊎_elim
+        (λ (l : j < i).
         let r : rows i ≡ true = subst (λ (x : ℕ). rows x ≡ true) (later_is i j l) row in
-        (within i j hi hj l r (long (later_start i j hi hj l r) i j l)).0) (λ (l : i ≤ j).
+        (within i j hi hj l r (long (later_start i j hi hj l r) i j l)).0)
+        (λ (l : i ≤ j).
         let q : i < j = omega arith in
         let r : rows j ≡ true = subst (λ (x : ℕ). rows x ≡ true) (later_is' j i q) row in
-        (within j i hj hi q r (long (later_start j i hj hi q r) j i q)).1) (below_or_not j i)
+        (within j i hj hi q r (long (later_start j i hj hi q r) j i q)).1)
+        (below_or_not j i)

@@ -1,7 +1,13 @@
 -- Rows of gates that say whether one of the others beats a candidate.
 -- Assumes nothing.
-use Rattle.basics.proofs.Common.{◌≡◌, ◌∙◌, refl, sym, ap, Bool, cond, ⊎_elim, ◌≢◌, List, [], ◌∷◌, ℕ, zero, suc, max}
-use Rattle.basics.proofs.Common.{◌+◌, ◌-◌, ◌*◌, ◌/◌, ◌%◌, ◌≤◌, ◌<◌, arith, length, lt-ltb, le-ltb}
+use mathlib.Core.Path.{◌≡◌, ◌∙◌, refl, sym, ap}
+use mathlib.Core.Bool.{Bool, cond}
+use mathlib.Core.Logic.{⊎_elim, ◌≢◌}
+use mathlib.Core.List.{List, [], ◌∷◌}
+use Prim.Native.Nat.{ℕ, zero, suc, max, ◌+◌, ◌-◌, ◌*◌, ◌/◌, ◌%◌, ◌≤◌, ◌<◌}
+use native.Mathlib.Omega.{arith}
+use lib.ListN.{length}
+use borrow.Author.Tests.{lt-ltb, le-ltb}
 use Rattle.gates.specs.Gate.{Gate}
 use Rattle.gates.proofs.Laws.{AllGood, Holds, good_two, operand_counts_lem}
 use Rattle.gate_words.specs.Gates.{or_of}
@@ -68,7 +74,8 @@ module _ (beats : ℕ → ℕ → ℕ) (r at i : ℕ) where
   pub row_good : ((s : ℕ) → s ≤ r → beats (other i s) i < at) → AllGood at (loser_row beats r at i)
   unfolding loser_row
   row_good below =
-      blocks_good at row_gate r (λ t l.
+      blocks_good at row_gate r
+      (λ t l.
       let start = row_start t in
       let wire = start_of at row_gate t in
       let low : (s : ℕ) → s ≤ r → beats (other i s) i < wire = λ s q. omega (arith, below s q) in (
@@ -88,7 +95,8 @@ module _ (beats : ℕ → ℕ → ℕ) (r at i : ℕ) where
     none_joined : ((s : ℕ) → s ≤ r → W (beats (other i s) i) ≡ 0) → (fuel s : ℕ) → s < fuel → s ≤ 2 * r → W (item s) ≡ 0
     none_joined none zero s f l = absurd (omega arith)
     none_joined none (suc fuel) s f l =
-        ⊎_elim (λ (q : s < suc r). ap W (item_other s (omega arith)) ∙ none s (omega arith)) (λ (q : suc r ≤ s).
+        ⊎_elim (λ (q : s < suc r). ap W (item_other s (omega arith)) ∙ none s (omega arith))
+        (λ (q : suc r ≤ s).
         let t = s - suc r in
         let e : suc r + t ≡ s = omega arith in
         let g = gate_is t (omega arith) in
@@ -98,7 +106,8 @@ module _ (beats : ℕ → ℕ → ℕ) (r at i : ℕ) where
           g,
           none_joined none fuel (2 * t) (omega arith) (omega arith),
           none_joined none fuel (2 * t + 1) (omega arith) (omega arith),
-        )) (below_or_not s (suc r))
+        ))
+        (below_or_not s (suc r))
 
     pub lost_zero : ((s : ℕ) → s ≤ r → W (beats (other i s) i) ≡ 0) → W (item (2 * r)) ≡ 0
     lost_zero none = none_joined none (suc (2 * r)) (2 * r) (omega arith) (omega arith)

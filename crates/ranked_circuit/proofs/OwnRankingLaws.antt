@@ -1,8 +1,14 @@
 -- What holds for the own list of a ranking shape: the test accepts it, it is within its bound, and its closing bytes
 -- are those of Schulze's rule.
 -- Assumes nothing.
-use Rattle.basics.proofs.Common.{◌≡◌, ◌∙◌, sym, ap, subst, Bool, true, cond, ◌≢◌, List, [], ◌∷◌, ℕ, zero, suc, ◌+◌}
-use Rattle.basics.proofs.Common.{◌-◌, ◌*◌, ◌^◌, ◌≤◌, ◌<◌, arith, length, get_or, ext_get_or}
+use mathlib.Core.Path.{◌≡◌, ◌∙◌, sym, ap, subst}
+use mathlib.Core.Bool.{Bool, true, cond}
+use mathlib.Core.Logic.{◌≢◌}
+use mathlib.Core.List.{List, [], ◌∷◌}
+use Prim.Native.Nat.{ℕ, zero, suc, ◌+◌, ◌-◌, ◌*◌, ◌^◌, ◌≤◌, ◌<◌}
+use native.Mathlib.Omega.{arith}
+use lib.ListN.{length, get_or}
+use lib.Seq.{ext_get_or}
 use Rattle.gates.specs.Gate.{Gate}
 use Rattle.gates.specs.Wires.{wire, wires_of, outputs_of}
 use Rattle.gates.proofs.Laws.{AllGood, Holds, wires_hold, wires_bits, wire_bit, wires_start, output_is, length_outputs}
@@ -42,7 +48,8 @@ unfolding schulze_of
 closing_from k n xs gs enough h =
     let bytes = length_tabulate k (λ i. cond {A = ℕ} (wins (votes k n xs) k i) 1 0) in
     let long : length (outputs_of k (wires_of xs gs)) ≡ k = length_outputs k (wires_of xs gs) (omega (arith, length_wires xs gs)) in
-    ext_get_or 0 (outputs_of k (wires_of xs gs)) _ (long ∙ sym bytes) (λ i l.
+    ext_get_or 0 (outputs_of k (wires_of xs gs)) _ (long ∙ sym bytes)
+    (λ i l.
     let low : i < k = omega (arith, long) in
     output_is k (wires_of xs gs) i ∙ ap (λ (a : ℕ). wire (wires_of xs gs) (a - k + i)) (length_wires xs gs) ∙ h i low
     ∙ sym (get_d_tabulate k i (λ j. cond {A = ℕ} (wins (votes k n xs) k j) 1 0) 0 low))
@@ -57,7 +64,8 @@ single n xs bits =
     let good : AllGood (length xs) gs = (good_constant (length xs) 1, tt) in
     let w = holds_first (wire (wires_of xs gs)) (length xs) (constant 1) [] (wires_hold xs gs good)
     ∙ constant_is (wire (wires_of xs gs)) (bits_of xs gs bits good) 1 in
-    closing_from 1 n xs gs (omega arith) (λ i h.
+    closing_from 1 n xs gs (omega arith)
+    (λ i h.
     let at : length xs + 1 - 1 + i ≡ length xs = omega arith in
     let alone : wins (votes 1 n xs) 1 i ≡ true = unbeaten_wins (votes 1 n xs) 1 i (λ j hj ne. absurd (ne (omega arith))) in
     ap (wire (wires_of xs gs)) at ∙ w ∙ sym (ap (λ (c : Bool). cond {A = ℕ} c 1 0) alone))
@@ -77,7 +85,8 @@ several m n w xs count size bits =
     let counted : (i j : ℕ) → i < k → j < k → i ≢ j → ones_at W (i * k + j) (k * k) n ≡ votes k n xs i j =
     λ i j hi hj ne. column W xs k n i j hi hj bits (λ p l. wires_start xs gs p (omega arith)) in
     let end = list_end m n w in
-    closing_from k n xs gs (outputs_in m n w) (λ i h.
+    closing_from k n xs gs (outputs_in m n w)
+    (λ i h.
     let at : length xs + length gs - k + i ≡ outputs_from m n w + i = omega arith in
     ap W at ∙ closing_law m n w W (bits_of xs gs bits good) (votes k n xs) count counted holds i h)
 

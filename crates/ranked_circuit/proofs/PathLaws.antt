@@ -1,7 +1,14 @@
 -- The words in the tables of the circuit are the strengths of the strongest paths.
 -- Assumes nothing.
-use Rattle.basics.proofs.Common.{◌≡◌, ◌∙◌, refl, sym, ap, subst, Bool, true, false, cond, ◌||◌, true≢false, ⊎_elim}
-use Rattle.basics.proofs.Common.{◌≢◌, List, ℕ, zero, suc, ◌+◌, ◌-◌, ◌*◌, ◌≤◌, ◌<◌, arith, eqb, length, ne_eqb}
+use mathlib.Core.Path.{◌≡◌, ◌∙◌, refl, sym, ap, subst}
+use mathlib.Core.Bool.{Bool, true, false, cond, ◌||◌, true≢false}
+use mathlib.Core.Logic.{⊎_elim, ◌≢◌}
+use mathlib.Core.List.{List}
+use Prim.Native.Nat.{ℕ, zero, suc, ◌+◌, ◌-◌, ◌*◌, ◌≤◌, ◌<◌}
+use native.Mathlib.Omega.{arith}
+use lib.Dec.{eqb}
+use lib.ListN.{length}
+use borrow.Author.Tests.{ne_eqb}
 use Rattle.basics.proofs.Cases.{below_or_not}
 use Rattle.basics.proofs.Flags.{or_either, or_first, or_second}
 use Rattle.gates.specs.Gate.{Gate}
@@ -87,7 +94,8 @@ module _ (k n w : ℕ) (W : ℕ → ℕ) (b : Binary W) (v : ℕ → ℕ → ℕ
 
   module _ (p : Paths) (m : ℕ) (few : m ≤ k)
       (told : (i j : ℕ) → i < k → j < k → i ≢ j → (v j i < v i j → W (link_wire k n w i j) ≡ 1)
-      × (v i j ≤ v j i → W (link_wire k n w i j) ≡ 0)) (spelled : Spelled p.words (strength_after v m))
+      × (v i j ≤ v j i → W (link_wire k n w i j) ≡ 0))
+      (spelled : Spelled p.words (strength_after v m))
       (h : Holds W (n * k * k + length p.gates)
       (table (n * k * k + length p.gates) k (path_block k (link_wire k n w) p.words w m))) where
     start : ℕ
@@ -166,7 +174,8 @@ module _ (k n w : ℕ) (W : ℕ → ℕ) (b : Binary W) (v : ℕ → ℕ → ℕ
   -- the last stage, and those before it
   stages_hold : (m : ℕ) → Holds W (n * k * k) (paths_to k n w (suc m)).gates →
       Holds W (n * k * k) (paths_to k n w m).gates
-      × Holds W (n * k * k + length (paths_to k n w m).gates) (table (n * k * k + length (paths_to k n w m).gates) k
+      × Holds W (n * k * k + length (paths_to k n w m).gates)
+      (table (n * k * k + length (paths_to k n w m).gates) k
       (path_block k (link_wire k n w) (paths_to k n w m).words w m))
   unfolding paths_to next_paths
   stages_hold m h =

@@ -1,7 +1,10 @@
 -- The number of gates of a ranked tasting's own list, and its bound.
 -- Assumes nothing.
-use Rattle.basics.proofs.Common.{◌≡◌, refl, ℕ, zero, suc, ◌+◌, ◌-◌, ◌*◌, ◌/◌, ◌≤◌, ◌<◌, mul-le-mul, arith, length}
-use Rattle.basics.proofs.Common.{length-append}
+use mathlib.Core.Path.{◌≡◌, refl}
+use Prim.Native.Nat.{ℕ, zero, suc, ◌+◌, ◌-◌, ◌*◌, ◌/◌, ◌≤◌, ◌<◌}
+use native.Mathlib.Nat.{mul-le-mul}
+use native.Mathlib.Omega.{arith}
+use lib.ListN.{length, length-append}
 use Rattle.gate_words.specs.Counter.{count_size}
 use Rattle.gate_words.proofs.CounterSteps.{count_size_most, levels_product}
 use Rattle.gate_words.proofs.Laws.{length_counter, length_masked}

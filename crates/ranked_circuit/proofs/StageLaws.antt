@@ -1,8 +1,15 @@
 -- What the words of the circuit's blocks are: numbers of ballots, links, and the strengths of paths.
 -- Assumes nothing.
-use Rattle.basics.proofs.Common.{◌≡◌, ◌∙◌, refl, sym, ap, subst, Bool, true, false, cond, ◌&&◌, ◌||◌, not, ⊎_elim, ◌≢◌}
-use Rattle.basics.proofs.Common.{List, [], ◌++◌, ℕ, zero, suc, min, max, ◌+◌, ◌-◌, ◌*◌, ◌/◌, ◌≤◌, ◌<◌, add-zero, arith}
-use Rattle.basics.proofs.Common.{eqb, leb, ltb, length, length-append, eqb-false, ne_eqb, le-leb}
+use mathlib.Core.Path.{◌≡◌, ◌∙◌, refl, sym, ap, subst}
+use mathlib.Core.Bool.{Bool, true, false, cond, ◌&&◌, ◌||◌, not}
+use mathlib.Core.Logic.{⊎_elim, ◌≢◌}
+use mathlib.Core.List.{List, [], ◌++◌}
+use Prim.Native.Nat.{ℕ, zero, suc, min, max, ◌+◌, ◌-◌, ◌*◌, ◌/◌, ◌≤◌, ◌<◌}
+use native.Mathlib.Nat.{add-zero}
+use native.Mathlib.Omega.{arith}
+use lib.Dec.{eqb, leb, ltb}
+use lib.ListN.{length, length-append}
+use borrow.Author.Tests.{eqb-false, ne_eqb, le-leb}
 use Rattle.basics.proofs.Cases.{below_or_not}
 use Rattle.gates.specs.Gate.{Gate}
 use Rattle.gates.proofs.Laws.{Holds, holds_append}
@@ -219,8 +226,11 @@ module _ (W : ℕ → ℕ) (b : Binary W) where
       let s = smaller_law W b at (words i 0) (words 0 j) w h q p.0 in
       let e : to + suc w + order_size w h + 1 ≡ at + (order_size w h + suc w + (order_size w h + 1)) = omega arith in
       sym (ap (λ (m : ℕ). number W m 1 (suc w)) e)
-      ∙ ⊎_elim (λ (l : v j i < v i j).
+      ∙ ⊎_elim
+      (λ (l : v j i < v i j).
       let r = larger_if_lem W b (to + suc w) (links i j) (words i j) to w h q p.1 (told.0 l) in
-      omega (arith, r, s, link_won v i j l)) (λ (l : v i j ≤ v j i).
+      omega (arith, r, s, link_won v i j l))
+      (λ (l : v i j ≤ v j i).
       let r = larger_if_not W b (to + suc w) (links i j) (words i j) to w h q p.1 (told.1 l) in
-      omega (arith, r, s, link_lost v i j l)) (below_or_not (v j i) (v i j))
+      omega (arith, r, s, link_lost v i j l))
+      (below_or_not (v j i) (v i j))

@@ -1,9 +1,12 @@
 -- Tables of blocks: where each block starts, and that its gates are there.
 -- Assumes nothing.
-use Rattle.basics.proofs.Common.{◌≡◌, ◌∙◌, ap, subst, ⊎_elim, List, ℕ, zero, suc, ◌+◌, ◌*◌, ◌/◌, ◌%◌, ◌≤◌, ◌<◌}
-use Rattle.basics.proofs.Common.{suc-mul, zero-mul, add-zero, div-add-mod', div-lt_iff_lt-mul, mod-lt, arith, length}
-use Rattle.basics.proofs.Common.{length-append}
-use native.Mathlib.Nat.{mul-add-div_right, div-eq_of_lt, mul-add-mod_self_right, mod-eq_of_lt}
+use mathlib.Core.Path.{◌≡◌, ◌∙◌, ap, subst}
+use mathlib.Core.Logic.{⊎_elim}
+use mathlib.Core.List.{List}
+use Prim.Native.Nat.{ℕ, zero, suc, ◌+◌, ◌*◌, ◌/◌, ◌%◌, ◌≤◌, ◌<◌}
+use native.Mathlib.Nat.{suc-mul, zero-mul, add-zero, mul-add-div_right, div-eq_of_lt, mul-add-mod_self_right, mod-eq_of_lt, div-add-mod', div-lt_iff_lt-mul, mod-lt}
+use native.Mathlib.Omega.{arith}
+use lib.ListN.{length, length-append}
 use Rattle.gates.specs.Gate.{Gate}
 use Rattle.gates.proofs.Laws.{AllGood, Holds, holds_append, good_append}
 use Rattle.basics.proofs.Arithmetic.{row_within}
@@ -105,6 +108,7 @@ module _ (n k : ℕ) (block : ℕ → ℕ → ℕ → List Gate) where
       → AllGood (entry_start n k block i j) (block (entry_start n k block i j) i j)) → AllGood n (table n k block)
   unfolding table entries
   table_good good =
-      blocks_good n numbered (k * k) (λ e l.
+      blocks_good n numbered (k * k)
+      (λ e l.
       subst (λ (x : ℕ). AllGood (start_of n numbered x) (block (start_of n numbered x) (e / k) (e % k))) (number_of k e)
       (good (e / k) (e % k) (row_low k e l) (column_low k e l)))

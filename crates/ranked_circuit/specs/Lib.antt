@@ -5,4 +5,3 @@ pub mod Paths
 pub mod Contests
 pub mod RankedList
 pub mod OwnRanking
-pub mod Cost

@@ -1,6 +1,10 @@
 -- Orders of words that are cut in two halves, as they are written.
 -- Assumes nothing.
-use Rattle.basics.proofs.Common.{◌≡◌, ◌∙◌, refl, ap, [], ◌∷◌, ◌++◌, ℕ, suc, ◌+◌, ◌-◌, ◌*◌, ◌≤◌, arith, length}
+use mathlib.Core.Path.{◌≡◌, ◌∙◌, refl, ap}
+use mathlib.Core.List.{[], ◌∷◌, ◌++◌}
+use Prim.Native.Nat.{ℕ, suc, ◌+◌, ◌-◌, ◌*◌, ◌≤◌}
+use native.Mathlib.Omega.{arith}
+use lib.ListN.{length}
 use Rattle.gate_words.specs.Gates.{mux_of}
 use Rattle.gate_words.specs.Choice.{choose, chain_end}
 use Rattle.gate_words.specs.Halves.{compare_halves, unequal_at, above_at}

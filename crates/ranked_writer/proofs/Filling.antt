@@ -1,7 +1,11 @@
 -- Blocks written one after the other.
 -- Assumes nothing.
-use Rattle.basics.proofs.Common.{◌≡◌, ◌∙◌, sym, ap, subst, List, ℕ, suc, ◌+◌, ◌*◌, ◌/◌, ◌%◌, ◌≤◌, ◌<◌, add-one, arith}
-use Rattle.basics.proofs.Common.{length}
+use mathlib.Core.Path.{◌≡◌, ◌∙◌, sym, ap, subst}
+use mathlib.Core.List.{List}
+use Prim.Native.Nat.{ℕ, suc, ◌+◌, ◌*◌, ◌/◌, ◌%◌, ◌≤◌, ◌<◌}
+use native.Mathlib.Numerals.{add-one}
+use native.Mathlib.Omega.{arith}
+use lib.ListN.{length}
 use Rattle.jury.specs.Shape.{most_candidates, most_pairs}
 use Rattle.gates.specs.Gate.{Gate}
 use Rattle.gate_words.specs.declared.writer.Writer.{Writer}
@@ -15,7 +19,7 @@ use Rattle.gate_words.proofs.Standing.{wrote_then}
 -- room for k blocks of one gate each
 pub single_room : (w : Writer) (b : ℕ → ℕ → List Gate) (k : ℕ) → ((at e : ℕ) → length (b at e) ≡ 1) → Room w k
     → Room w (length (blocks w.wire b k))
-single_room w b k one room = room_less (omega (arith, length_same w.wire b 1 one k)) room
+single_room w b k one room = room_less w _ _ (omega (arith, length_same w.wire b 1 one k)) room
 
 module _ (w₀ : Writer) (t₀ : List ℕ) (block : ℕ → ℕ → List Gate) where
   -- m blocks are written
@@ -23,7 +27,7 @@ module _ (w₀ : Writer) (t₀ : List ℕ) (block : ℕ → ℕ → List Gate) w
   Filled m t w = Wrote w₀ t₀ (blocks w₀.wire block m) t w
 
   pub fill_start : Filled 0 t₀ w₀
-  fill_start = unfold blocks in (wrote_nothing)
+  fill_start = unfold blocks in (wrote_nothing w₀ t₀)
 
   pub fill_wire : (m : ℕ) (t : List ℕ) (w : Writer) → Filled m t w → w.wire ≡ start_of w₀.wire block m
   fill_wire m t w a = a.wires
@@ -32,14 +36,16 @@ module _ (w₀ : Writer) (t₀ : List ℕ) (block : ℕ → ℕ → List Gate) w
       → Wrote w t (block w.wire m) t₁ w₁ → Filled (m + 1) t₁ w₁
   fill_next m t w t₁ w₁ a b =
       subst (λ (n : ℕ). Filled n t₁ w₁) (sym (add-one m))
-      (unfold blocks in (wrote_then a b (ap (λ (at : ℕ). block at m) (fill_wire m t w a))))
+      (unfold blocks in (wrote_then w₀ t₀ (blocks w₀.wire block m) t w (block w.wire m)
+      (block (start_of w₀.wire block m) m) t₁ w₁ a b (ap (λ (at : ℕ). block at m) (fill_wire m t w a))))
 
   pub fill_room : (m most : ℕ) (t : List ℕ) (w : Writer) → m < most
       → Room w₀ (length (blocks w₀.wire block most)) → Filled m t w → Room w (length (block w.wire m))
   fill_room m most t w h r a =
       let next = start_next w₀.wire block m in
       let here = ap (λ (at : ℕ). length (block at m)) (fill_wire m t w a) in
-      room_after a (omega (arith, start_grows w₀.wire block most (suc m) h)) r
+      room_after w₀ t₀ (blocks w₀.wire block m) t w (length (block w.wire m))
+      (length (blocks w₀.wire block most)) a (omega (arith, start_grows w₀.wire block most (suc m) h)) r
 
   pub fill_end : (m most : ℕ) (t : List ℕ) (w : Writer) → most ≤ m → m ≤ most → Filled m t w → Filled most t w
   fill_end m most t w h g a = subst (λ (n : ℕ). Filled n t w) {x = m} {y = most} (omega arith) a
@@ -55,7 +61,8 @@ pub record Turn (x k e : ℕ) : Type 0 where
 pub turn : {x k e : ℕ} → x ≡ k → k ≤ most_candidates → e < x * x → Turn x k e
 turn {x} {k} {e} q h l =
     let m : e < k * k = subst (λ (y : ℕ). e < y * y) q l in
-    subst (λ (y : ℕ). Turn y k e) (sym q) (record {
+    subst (λ (y : ℕ). Turn y k e) (sym q)
+    (record {
       row = row_low k e m;
       column = column_low k e m;
       number = number_of k e;

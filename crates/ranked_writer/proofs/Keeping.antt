@@ -1,9 +1,15 @@
 -- What the loops over the tables keep for each pair of candidates.
 -- Assumes nothing.
-use Rattle.basics.proofs.Common.{◌≡◌, ◌∙◌, refl, sym, ap, Bool, true, false, cond, ◌&&◌, ◌||◌, true≢false, ⊎_elim, ◌≢◌}
-use Rattle.basics.proofs.Common.{List, [], ◌++◌, ℕ, zero, suc, max, ◌+◌, ◌-◌, ◌*◌, ◌/◌, ◌%◌, ◌≤◌, ◌<◌, arith, eqb, ltb}
-use Rattle.basics.proofs.Common.{length, get_or, set, length-set, get_or-set_same, get_or-set_other, eq-eqb, ltb-true}
-use Rattle.basics.proofs.Common.{lt-ltb, le-ltb}
+use mathlib.Core.Path.{◌≡◌, ◌∙◌, refl, sym, ap}
+use mathlib.Core.Bool.{Bool, true, false, cond, ◌&&◌, ◌||◌, true≢false}
+use mathlib.Core.Logic.{⊎_elim, ◌≢◌}
+use mathlib.Core.List.{List, [], ◌++◌}
+use Prim.Native.Nat.{ℕ, zero, suc, max, ◌+◌, ◌-◌, ◌*◌, ◌/◌, ◌%◌, ◌≤◌, ◌<◌}
+use native.Mathlib.Omega.{arith}
+use lib.Dec.{eqb, ltb}
+use lib.ListN.{length, get_or, set, length-set}
+use lib.Seq.{get_or-set_same, get_or-set_other}
+use borrow.Author.Tests.{eq-eqb, ltb-true, lt-ltb, le-ltb}
 use Rattle.jury.specs.Shape.{most_candidates, most_pairs}
 use Rattle.gates.specs.Gate.{Gate}
 use Rattle.basics.proofs.Cases.{below_or_not, same_or_not}
@@ -57,7 +63,8 @@ module _ (k : ℕ) (stay : ℕ → ℕ → Bool) (new : ℕ → ℕ → ℕ) (ws
             later = λ i j hi hj l. t.later i j hi hj (omega arith);
             moved =
                 λ i j hi hj l m.
-                ⊎_elim (λ (b : i * k + j < e). t.moved i j hi hj b m) (λ (b : e ≤ i * k + j).
+                ⊎_elim (λ (b : i * k + j < e). t.moved i j hi hj b m)
+                (λ (b : e ≤ i * k + j).
                 let p = same_place k i j e hj (omega arith) in
                 absurd (true≢false (sym s ∙ ap (λ (z : ℕ). stay z (e % k)) (sym p.0) ∙ ap (stay i) (sym p.1) ∙ m)))
                 (below_or_not (i * k + j) e);
@@ -84,7 +91,8 @@ module _ (k : ℕ) (stay : ℕ → ℕ → Bool) (new : ℕ → ℕ → ℕ) (ws
                 let here : i * k + j ≡ e = omega arith in
                 let p = same_place k i j e hj here in
                 ap (λ (z : ℕ). get_or (set ws e x) z 0) here ∙ get_or-set_same ws e x 0 (omega (arith, t.long)) ∙ ex
-                ∙ ap (λ (z : ℕ). new z (e % k)) (sym p.0) ∙ ap (new i) (sym p.1)) (below_or_not (i * k + j) e);
+                ∙ ap (λ (z : ℕ). new z (e % k)) (sym p.0) ∙ ap (new i) (sym p.1))
+                (below_or_not (i * k + j) e);
           }
           )
         where
@@ -142,7 +150,8 @@ module _ (k : ℕ) (rows : ℕ → Bool) (ends : ℕ → ℕ → ℕ) (ls₀ : L
         where
           before : (i j : ℕ) → j < k → j < i → rows i ≡ true → i * k + j < e + 1 → i * k + j < e
           before i j hj h y l =
-              ⊎_elim (λ (b : i * k + j ≡ e).
+              ⊎_elim
+              (λ (b : i * k + j ≡ e).
               let p = same_place k i j e hj b in
               let here = and_both (ltb j i) (rows i) (lt-ltb j i h) y in
               absurd (true≢false (sym here ∙ ap (λ (z : ℕ). ltb j z && rows z) p.0
@@ -225,12 +234,15 @@ module _ (k : ℕ) (rows : ℕ → Bool) (ends : ℕ → ℕ → ℕ) (ls₀ : L
       told : (i j : ℕ) → i < k → j < k → i ≢ j → rows (max i j) ≡ true → kept_of ls k i j
           ≡ cond (rows (max i j)) (cond (ltb j i) (ends i j - 2) (ends j i - 1)) (kept_of ls₀ k i j)
       told i j hi hj ne y =
-          ⊎_elim (λ (l : j < i).
+          ⊎_elim
+          (λ (l : j < i).
           t.up i j hi hj l (sym (ap rows (later_is i j l)) ∙ y) (omega (arith, number_low k i j hi hj))
-          ∙ sym (ap (λ (c : Bool). cond c (ends i j - 2) (ends j i - 1)) (lt-ltb j i l))) (λ (l : i ≤ j).
+          ∙ sym (ap (λ (c : Bool). cond c (ends i j - 2) (ends j i - 1)) (lt-ltb j i l)))
+          (λ (l : i ≤ j).
           let o : i < j = omega arith in
           t.down j i hj hi o (sym (ap rows (later_is' j i o)) ∙ y) (omega (arith, number_low k j i hj hi))
-          ∙ sym (ap (λ (c : Bool). cond c (ends i j - 2) (ends j i - 1)) (le-ltb j i l))) (below_or_not j i)
+          ∙ sym (ap (λ (c : Bool). cond c (ends i j - 2) (ends j i - 1)) (le-ltb j i l)))
+          (below_or_not j i)
           ∙ sym (ap (λ (c : Bool). cond c (cond (ltb j i) (ends i j - 2) (ends j i - 1)) (kept_of ls₀ k i j)) y)
 
 -- a block depends only on the link and the three words that it reads
@@ -272,8 +284,10 @@ pub meetings_agree : (l : ℕ) (words words' met met' : ℕ → ℕ → ℕ) (w 
     → meetings_block l words met w at i j ≡ meetings_block l words' met' w at i j
 unfolding meetings_block later_of
 meetings_agree l words words' met met' w at i j h =
-    ⊎_elim (λ (q : j < i).
-    ⊎_elim (λ (r : i < l). let e = h q r in rw (e.0, e.1, e.2, e.3, e.4, e.5)) (λ (r : l ≤ i). rw (le-ltb i l r)
+    ⊎_elim
+    (λ (q : j < i).
+    ⊎_elim (λ (r : i < l). let e = h q r in rw (e.0, e.1, e.2, e.3, e.4, e.5))
+    (λ (r : l ≤ i). rw (le-ltb i l r)
     (none (ltb j i) (meeting_of l words met w at i j) (meeting_of l words' met' w at i j))) (below_or_not i l))
     (λ (q : i ≤ j). rw (le-ltb j i q)) (below_or_not j i)
   where
@@ -339,8 +353,10 @@ module _ (w₀ : Writer) (t₀ : List ℕ) (k w m : ℕ) (links ws₀ : List ℕ
         → WordsBelow ws k w w₁.wire
     now_below t₁ w₁ a below i j hi hj ne =
         let from = table_from w₀ t₀ k stage_block e t₁ w₁ a in
-        bool_cases (stays m i j) (λ s. omega (arith, t.same i j hi hj s, below i j hi hj ne)) (λ s.
-        ⊎_elim (λ (l : i * k + j < e).
+        bool_cases (stays m i j) (λ s. omega (arith, t.same i j hi hj s, below i j hi hj ne))
+        (λ s.
+        ⊎_elim
+        (λ (l : i * k + j < e).
         let at = entry_start w₀.wire k stage_block i j in
         omega (
           arith,

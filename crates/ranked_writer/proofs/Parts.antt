@@ -1,8 +1,14 @@
 -- The parts of the own list as they are written, in terms of the wires that are kept.
 -- Assumes nothing.
-use Rattle.basics.proofs.Common.{◌≡◌, ◌∙◌, refl, sym, ap, subst, Bool, false, cond, ⊎_elim, ◌≢◌, List, [], ◌∷◌, ◌++◌}
-use Rattle.basics.proofs.Common.{append-nil, append_assoc, ℕ, zero, suc, max, ◌+◌, ◌-◌, ◌*◌, ◌≤◌, ◌<◌, arith, leb, ltb}
-use Rattle.basics.proofs.Common.{length, length-append, lt-ltb, le-ltb, le-leb}
+use mathlib.Core.Path.{◌≡◌, ◌∙◌, refl, sym, ap, subst}
+use mathlib.Core.Bool.{Bool, false, cond}
+use mathlib.Core.Logic.{⊎_elim, ◌≢◌}
+use mathlib.Core.List.{List, [], ◌∷◌, ◌++◌, append-nil, append_assoc}
+use Prim.Native.Nat.{ℕ, zero, suc, max, ◌+◌, ◌-◌, ◌*◌, ◌≤◌, ◌<◌}
+use native.Mathlib.Omega.{arith}
+use lib.Dec.{leb, ltb}
+use lib.ListN.{length, length-append}
+use borrow.Author.Tests.{lt-ltb, le-ltb, le-leb}
 use Rattle.gates.specs.Gate.{Gate}
 use Rattle.gate_words.specs.Gates.{or_of, not_of}
 use Rattle.basics.proofs.Cases.{below_or_not}
@@ -291,7 +297,8 @@ module _ (r : ℕ) (beats beats' : ℕ → ℕ → ℕ) (same : (i j : ℕ) → 
   joined_agree : (at i s : ℕ) → i < suc (suc r) → joined_wire beats (suc r) at i s ≡ joined_wire beats' (suc r) at i s
   unfolding joined_wire
   joined_agree at i s hi =
-      ⊎_elim (λ (l : s < suc r).
+      ⊎_elim
+      (λ (l : s < suc r).
       ap (λ (c : Bool). cond c (beats (other i s) i) (at + (s - suc r))) (lt-ltb s (suc r) l)
       ∙ same (other i s) i (other_low i s r (omega arith)) hi (other_apart i s)
       ∙ sym (ap (λ (c : Bool). cond c (beats' (other i s) i) (at + (s - suc r))) (lt-ltb s (suc r) l)))
@@ -305,7 +312,8 @@ module _ (r : ℕ) (beats beats' : ℕ → ℕ → ℕ) (same : (i j : ℕ) → 
       blocks_agree n
       (λ at i. blocks at (λ wire t. or_of (joined_wire beats (suc r) at i (2 * t)) (joined_wire beats (suc r) at i (2 * t + 1))
       ∷ []) r) (λ at i. blocks at (λ wire t. or_of (joined_wire beats' (suc r) at i (2 * t))
-      (joined_wire beats' (suc r) at i (2 * t + 1)) ∷ []) r) k (λ at i l.
+      (joined_wire beats' (suc r) at i (2 * t + 1)) ∷ []) r) k
+      (λ at i l.
       blocks_agree at (λ wire t. or_of (joined_wire beats (suc r) at i (2 * t)) (joined_wire beats (suc r) at i (2 * t + 1)) ∷
       []) (λ wire t. or_of (joined_wire beats' (suc r) at i (2 * t)) (joined_wire beats' (suc r) at i (2 * t + 1)) ∷ []) r
       (λ wire t q.

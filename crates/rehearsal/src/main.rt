@@ -1,11 +1,22 @@
 // Rehearses one jury: reads its shape and its ballots from standard input and prints who wins.
-ghost use Rattle.rehearsing.specs.inner.Buffers.{Zeros, ZeroTable, ZeroTape};
+mod rehearse;
 
-use libc::{STDIN_FILENO, STDOUT_FILENO};
-use reading::Input;
+ghost use Rattle.rehearsal.specs.inner.Buffers.{Zeros, ZeroTape};
+
+use crate::rehearse::Rehearsed;
+use jury::shape::Shape;
+use libc::STDIN_FILENO;
+
+fn print_jury(shape: Shape) {
+    printing::print_text(b"jury");
+    printing::print_number(shape.candidates);
+    printing::print_number(shape.grades);
+    printing::print_number(shape.ballots);
+    printing::print_text(b"\n");
+}
 
 fn table() -> [u32; 16000]
-    ensures { ZeroTable result }
+    ensures { Zeros 16000 result }
 {
     [0u32; 16000]
 }
@@ -32,21 +43,16 @@ fn board() -> [u8; 4008]
 
 fn main() {
     let mut input = [0u8; 16384];
-    let Input::Read(got) = reading::read_all(STDIN_FILENO, &mut input) else {
-        return;
-    };
     let mut table = table();
     let tape = tape();
     let mut wires = wires();
     let mut board = board();
-    let mut text = [0u8; 256];
-    let length = rehearsing::text::text(
-        &input[..got],
-        &mut table,
-        &tape,
-        &mut wires,
-        &mut board,
-        &mut text,
-    );
-    io::write_all(STDOUT_FILENO, &text[..length]);
+    let got = io::read_full(STDIN_FILENO, &mut input);
+    match rehearse::rehearse(&input[..got], &mut table, &tape, &mut wires, &mut board) {
+        Rehearsed::Refused(reason) => printing::print_refused(reason.number(), reason.place()),
+        Rehearsed::Winners { shape, first } => {
+            print_jury(shape);
+            printing::print_bytes(b"winners", &board[first..first + shape.candidates]);
+        }
+    }
 }

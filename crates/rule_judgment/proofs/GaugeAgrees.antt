@@ -1,20 +1,21 @@
 -- A candidate that beats another by the gauge has the earlier sequence, so the gauge's winner is the only winner.
 -- Assumes nothing.
 use mathlib.Core.Path.{◌≡◌, ◌∙◌}
-use mathlib.Core.Bool.{false}
+use mathlib.Core.Bool.{true, false}
 use mathlib.Core.Logic.{⊎_elim, ◌≢◌}
 use mathlib.Core.List.{List, []}
 use Prim.Native.Nat.{ℕ, suc, ◌+◌, ◌*◌, ◌≤◌, ◌<◌}
 use native.Mathlib.Omega.{arith}
-use lib.ListN.{length, get_or}
+use lib.ListN.{length, get_or, get_or-eq_default}
 use Rattle.basics.specs.Lists.{sum}
 use Rattle.rule_judgment.specs.Median.{median_of}
-use Rattle.rule_judgment.specs.Gauge.{p_of, q_of}
+use Rattle.rule_judgment.specs.Gauge.{p_of, q_of, beats, closing_of}
 use Rattle.basics.proofs.Cases.{below_or_not, same_or_not}
 use Rattle.basics.proofs.Flags.{never_true}
 use Rattle.rule_judgment.proofs.RunningSums.{running_grows, p_is, q_is}
-use Rattle.rule_judgment.specs.GaugeWinner.{Beats, GaugeWinner}
-use Rattle.rule_judgment.specs.GaugeWinner.Beats.{by_better_median, by_stronger_median, by_larger_p, by_smaller_q}
+use Rattle.rule_judgment.proofs.GaugeConditions.{Beats, beats_iff}
+use Rattle.rule_judgment.proofs.GaugeConditions.Beats.{by_better_median, by_stronger_median, by_larger_p, by_smaller_q}
+use Rattle.rule_judgment.proofs.GaugeClosing.{closing_length, closing_one}
 use Rattle.rule_judgment.specs.Judgment.{sequence_of, precedes, judgment_of}
 use Rattle.rule_judgment.specs.Theorems.{EachGets}
 use Rattle.rule_judgment.proofs.Statements.{running, Precedes, Alike}
@@ -73,12 +74,22 @@ module _ (n : ℕ) (a b : List ℕ) (al : Alike n a b) (some : 0 < n) where
   beaten_later (by_larger_p m l₁ l₂ l₃) = by_p (median_of a) (halves a al.sum_a) (halves_at m) l₁ l₃
   beaten_later (by_smaller_q m l₁ l₂ l₃) = by_q (median_of a) (halves a al.sum_a) (halves_at m) l₂ l₃
 
-module _ (n : ℕ) (rows : List (List ℕ)) (some : 1 ≤ n) (each : EachGets n rows) (i : ℕ) (row_at : i < length rows)
-    (wins : GaugeWinner rows i) where
+  pub beats_precedes : beats a b ≡ true → Precedes a b
+  beats_precedes e = beaten_later ((beats_iff a b).0 e)
+
+module _ (n : ℕ) (rows : List (List ℕ)) (some : 1 ≤ n) (each : EachGets n rows) (i : ℕ) (wins : get_or (closing_of rows) i 0 ≡ 1) where
+  row_at : i < length rows
+  row_at =
+      ⊎_elim (λ l. l)
+      (λ l. let z : get_or (closing_of rows) i 0 ≡ 0 =
+      get_or-eq_default (closing_of rows) 0 {n = i} (omega (arith, closing_length rows)) in absurd (omega arith))
+      (below_or_not i (length rows))
+
   -- the winner's sequence comes before each other one
   winner_first : (j : ℕ) → j < length rows → j ≢ i → Precedes (get_or rows i []) (get_or rows j [])
   winner_first j l ne =
-      beaten_later n (get_or rows i []) (get_or rows j []) (record { sum_a = each i row_at; sum_b = each j l }) some (wins j l ne)
+      beats_precedes n (get_or rows i []) (get_or rows j []) (record { sum_a = each i row_at; sum_b = each j l }) some
+      ((closing_one rows i row_at).0 wins j l ne)
 
   pub winner_wins : get_or (judgment_of rows) i 0 ≡ 1
   winner_wins = byte_one rows i row_at

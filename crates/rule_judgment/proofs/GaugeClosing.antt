@@ -2,7 +2,7 @@
 -- Assumes nothing.
 use mathlib.Core.Path.{◌≡◌, ◌∙◌, refl, sym, ap}
 use mathlib.Core.Bool.{Bool, true, false, cond, ◌&&◌, and-false, true≢false}
-use mathlib.Core.Logic.{⊎_elim, ◌≢◌}
+use mathlib.Core.Logic.{⊎_elim, ◌≢◌, ◌↔◌}
 use mathlib.Core.List.{List, [], ◌∷◌, ◌++◌}
 use Prim.Native.Nat.{ℕ, zero, suc, ◌+◌, ◌-◌, ◌≤◌, ◌<◌}
 use native.Mathlib.Nat.{add-zero}
@@ -10,11 +10,10 @@ use native.Mathlib.Omega.{arith}
 use lib.ListN.{length, get_or, take, drop, length-append, length-take, length-drop, get_or-append, get_or-eq_default}
 use lib.Seq.{get_or-take, get_or-drop, get_or-append-add, get_or-append_seam, take-append_seam, drop-append-add, append_snoc}
 use Rattle.rule_judgment.specs.Gauge.{beats, beats_all, closing_from, closing_of}
-use Rattle.rule_judgment.specs.GaugeWinner.{GaugeWinner}
-use Rattle.rule_judgment.specs.GaugeTheorems.{GaugeByteSays}
+use Rattle.rule_judgment.specs.GaugeWinner.{BeatsOthers}
 use Rattle.basics.proofs.Cases.{same_or_not, below_or_not}
-use Rattle.basics.proofs.Flags.{and_both, either, never_true}
-use Rattle.rule_judgment.proofs.GaugeConditions.{beats_iff, never_both}
+use Rattle.basics.proofs.Flags.{and_both}
+use Rattle.rule_judgment.proofs.GaugeConditions.{beats_one_way}
 
 -- Whether row i beats all other rows.
 unfoldable pub wins_in : List (List ℕ) → ℕ → Bool
@@ -122,32 +121,24 @@ unfolding closing_of
 closing_at rows i h = closing_from_at [] rows i h ∙ ap (λ (n : ℕ). cond {A = ℕ} (wins_in rows n) 1 0) {x = 0 + i} {y = i} (omega arith)
 
 module _ (rows : List (List ℕ)) (i : ℕ) (h : i < length rows) where
-  abbrev a : List ℕ
-  a = get_or rows i []
+  winner_beats : wins_in rows i ≡ true → BeatsOthers rows i
+  winner_beats e j l ne = go (beats (get_or rows i []) (get_or rows j [])) refl
+    where
+      go : (t : Bool) → beats (get_or rows i []) (get_or rows j []) ≡ t → beats (get_or rows i []) (get_or rows j []) ≡ true
+      go true f = f
+      go false f = absurd (true≢false (sym e ∙ wins_not rows i h j l ne f))
 
-  winner_beats : wins_in rows i ≡ true → GaugeWinner rows i
-  winner_beats e j l ne = either (beats a (get_or rows j [])) (beats_iff a (get_or rows j [])).0
-      (λ f. absurd (true≢false (sym e ∙ wins_not rows i h j l ne f)))
+  one_wins : get_or (closing_of rows) i 0 ≡ 1 → wins_in rows i ≡ true
+  one_wins e = go (wins_in rows i) refl
+    where
+      go : (t : Bool) → wins_in rows i ≡ t → wins_in rows i ≡ true
+      go true f = f
+      go false f = let z : ◌≡◌ {A = ℕ} 0 1 = sym (closing_at rows i h ∙ ap (λ (t : Bool). cond {A = ℕ} t 1 0) f) ∙ e in absurd (omega arith)
 
-  beats_wins : GaugeWinner rows i → get_or (closing_of rows) i 0 ≡ 1
-  beats_wins beaten =
-      closing_at rows i h
-      ∙ ap (λ (t : Bool). cond {A = ℕ} t 1 0) (wins rows i h (λ j l ne. (beats_iff a (get_or rows j [])).1 (beaten j l ne)))
-
-  one_wins : get_or (closing_of rows) i 0 ≡ 1 → GaugeWinner rows i
-  one_wins e = either (wins_in rows i) winner_beats
-      (λ f. let z : get_or (closing_of rows) i 0 ≡ 0 = closing_at rows i h ∙ ap (λ (t : Bool). cond {A = ℕ} t 1 0) f in absurd (omega arith))
-
-  -- a closing byte is 1 exactly if its row beats every other row, and 0 exactly if not
-  pub byte_says : GaugeByteSays rows i
-  byte_says = record {
-    one = (one_wins, beats_wins);
-    zero = (
-      λ e w. let o = beats_wins w in omega arith,
-      λ never. closing_at rows i h
-          ∙ ap (λ (t : Bool). cond {A = ℕ} t 1 0) (never_true (wins_in rows i) (λ e. never (winner_beats e))),
-    );
-  }
+  -- a closing byte is 1 exactly if its row beats every other row
+  pub closing_one : (get_or (closing_of rows) i 0 ≡ 1) ↔ BeatsOthers rows i
+  closing_one =
+      (λ e. winner_beats (one_wins e), λ beaten. closing_at rows i h ∙ ap (λ (t : Bool). cond {A = ℕ} t 1 0) (wins rows i h beaten))
 
 -- a byte that is 1 belongs to a row
 one_at_row : (rows : List (List ℕ)) (i : ℕ) → get_or (closing_of rows) i 0 ≡ 1 → i < length rows
@@ -165,8 +156,9 @@ one_winner rows i j ei ej = ⊎_elim (λ e. e) (λ ne. absurd (both ne)) (same_o
     both ne =
         let hi = one_at_row rows i ei in
         let hj = one_at_row rows j ej in
-        never_both (get_or rows i []) (get_or rows j []) ((byte_says rows i hi).one.0 ei j hj (λ e. ne (sym e)))
-        ((byte_says rows j hj).one.0 ej i hi ne)
+        let forth = (closing_one rows i hi).0 ei j hj (λ e. ne (sym e)) in
+        let back = (closing_one rows j hj).0 ej i hi ne in
+        true≢false (sym back ∙ beats_one_way (get_or rows i []) (get_or rows j []) forth)
 
 -- a single candidate wins
 pub single_wins : (a : List ℕ) → closing_of (a ∷ []) ≡ 1 ∷ []

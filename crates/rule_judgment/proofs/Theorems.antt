@@ -1,10 +1,9 @@
--- Proofs of the statements of specs/Theorems.antt and specs/GaugeTheorems.antt, and that accepted ballots meet their conditions.
+-- Proofs of the statements of specs/Theorems.antt, and that accepted ballots meet their conditions.
 -- Assumes nothing.
-use mathlib.Core.Path.{refl}
 use mathlib.Core.List.{List, []}
-use Prim.Native.Nat.{ℕ, ◌<◌}
+use Prim.Native.Nat.{ℕ}
 use native.Mathlib.Omega.{arith}
-use lib.ListN.{length, get_or}
+use lib.ListN.{get_or}
 use Rattle.basics.specs.Lists.{same_numbers}
 use Rattle.basics.proofs.Flags.{either}
 use Rattle.basics.proofs.Same.{same_true}
@@ -16,49 +15,19 @@ use Rattle.jury.proofs.Limits.{within}
 use Rattle.jury.proofs.Matrix.{array_rows}
 use Rattle.jury.proofs.CountFacts.{counts_length, counts_sum}
 use Rattle.rule_judgment.specs.Theorems.{EachGets, BytesSay, SomebodyWins, GaugeKept, SharedWin, EqualSequences}
-use Rattle.rule_judgment.specs.Median.{median_of}
-use Rattle.rule_judgment.specs.Gauge.{p_of, q_of}
-use Rattle.rule_judgment.specs.GaugeWinner.{Gauged}
-use Rattle.rule_judgment.specs.GaugeTheorems.{GaugeHolds}
-use Rattle.rule_judgment.proofs.MedianFacts.{median_passed, median_reached}
-use Rattle.rule_judgment.proofs.GaugeConditions.{conditions_exclude}
-use Rattle.rule_judgment.proofs.GaugeClosing.{closing_length, byte_says, one_winner, single_wins}
-use Rattle.rule_judgment.proofs.Winners as winners
-use Rattle.rule_judgment.proofs.Winners.{somebody_wins}
+use Rattle.rule_judgment.proofs.Winners.{byte_says, somebody_wins}
 use Rattle.rule_judgment.proofs.GaugeAgrees.{winner_wins, other_loses}
 use Rattle.rule_judgment.proofs.Equal.{equal_sequences}
 use Rattle.rule_judgment.proofs.Leading.{other_loses as loses_beside}
 
 pub bytes_say : BytesSay
-bytes_say n rows each i h = winners.byte_says n rows each i h
+bytes_say n rows each i h = byte_says n rows each i h
 
 pub somebody : SomebodyWins
 somebody = somebody_wins
 
 pub gauge_alone : GaugeKept
-gauge_alone n rows some each i h wins =
-    record { wins = winner_wins n rows some each i h wins; alone = other_loses n rows some each i h wins }
-
-gauged : (row : List ℕ) → 0 < length row → Gauged row (median_of row) (p_of row) (q_of row)
-unfolding p_of q_of
-gauged row h = record {
-  a_grade = (median_reached row h).0;
-  reached = (median_reached row h).1;
-  first = median_passed row;
-  better = refl;
-  worse = refl;
-}
-
-pub gauge_holds : GaugeHolds
-gauge_holds =
-    record {
-      gauged = gauged;
-      bytes = closing_length;
-      byte = byte_says;
-      one_winner = one_winner;
-      single_wins = single_wins;
-      exclusive = conditions_exclude;
-    }
+gauge_alone n rows some each i wins = record { wins = winner_wins n rows some each i wins; alone = other_loses n rows some each i wins }
 
 pub shared_win : SharedWin
 shared_win n rows each i j hi hj long one two =

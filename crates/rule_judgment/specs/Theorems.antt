@@ -1,7 +1,7 @@
 -- What holds for full majority judgment, as statements; proofs/Theorems.antt has a proof of each.
 use Rattle.std.specs.Prelude.{◌≡◌, ◌↔◌, ◌≢◌, List, [], ℕ, ◌≤◌, ◌<◌, length, get_or}
 use Rattle.basics.specs.Lists.{sum}
-use Rattle.rule_judgment.specs.GaugeWinner.{GaugeWinner}
+use Rattle.rule_judgment.specs.Gauge.{closing_of}
 use Rattle.rule_judgment.specs.Judgment.{sequence_of, judgment_of}
 use Rattle.rule_judgment.specs.Winner.{JudgmentWinner}
 
@@ -33,10 +33,10 @@ pub record NamedAlone (rows : List (List ℕ)) (i : ℕ) : Type 0 where
   pub wins : get_or (judgment_of rows) i 0 ≡ 1
   pub alone : (j : ℕ) → j < length rows → j ≢ i → get_or (judgment_of rows) j 0 ≡ 0
 
--- A candidate that beats each other one by the gauge is the only winner by full majority judgment [judgment-gauge].
+-- If the gauge has a winner, it is the only winner by full majority judgment [judgment-gauge].
 abbrev pub GaugeKept : Type 0
 GaugeKept =
-    (n : ℕ) (rows : List (List ℕ)) → 1 ≤ n → EachGets n rows → (i : ℕ) → i < length rows → GaugeWinner rows i
+    (n : ℕ) (rows : List (List ℕ)) → 1 ≤ n → EachGets n rows → (i : ℕ) → get_or (closing_of rows) i 0 ≡ 1
     → NamedAlone rows i
 
 -- Candidates share a win only if each grade was given to them equally often.

@@ -51,11 +51,8 @@ panels =
     ∷ []
 
 -- The rule gives each panel its closing bytes.
-abbrev pub RankedPanels : Type 0
-RankedPanels =
-    map (λ (p : Panel). schulze_of (preferring p.ballots) p.size) panels ≡ map (λ (p : Panel). p.closing) panels
-
-pub ranked_panels_hold : RankedPanels
+pub ranked_panels_hold : map (λ (p : Panel). schulze_of (preferring p.ballots) p.size) panels
+    ≡ map (λ (p : Panel). p.closing) panels
 unfolding panels panel ballots preferring schulze_of wins all strongest simple_paths maximum selections without
     all_candidates weakest link tabulate flat_map
 ranked_panels_hold = refl

@@ -2,5 +2,4 @@ pub mod MaskLaws
 pub mod RunLaws
 pub mod SumLaws
 pub mod Reasons
-pub mod Texts
-pub mod Theorems
+pub mod Edges

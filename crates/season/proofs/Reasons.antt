@@ -19,6 +19,7 @@ use Rattle.season.specs.declared.sheet.Refusal.TheVariants.{Length, BadRun}
 use Rattle.season.specs.declared.sheet.Answer.TheVariants.{Accepted, Refused}
 use Rattle.season.specs.Season.{run_bytes, most_runs, runs_in, first_bad_run, totals_of, sheet_reasons, sheet_reason_of, reason_for, totals_for, totals_after, sum_over, Sheet}
 use Rattle.season.specs.declared.run.Run.{Run}
+use Rattle.season.specs.Theorems.{SheetSums}
 
 -- the first reason, from the outcomes of both tests
 unfoldable pub judged : Bool → Place → Option Reason
@@ -67,7 +68,15 @@ module _ (bytes : List ℕ) where
   accepted_is t e h =
       record { reason = sym e; totals = ap some h ∙ sym (ap (λ (o : Option Reason). totals_after o (totals_of (runs_in bytes))) e) }
 
-pub sum_joined : (f : Run → ℕ) (rs qs : List Run) → sum_over f (rs ++ qs) ≡ sum_over f rs + sum_over f qs
+sum_joined : (f : Run → ℕ) (rs qs : List Run) → sum_over f (rs ++ qs) ≡ sum_over f rs + sum_over f qs
 unfolding sum_over
 sum_joined f [] qs = omega arith
 sum_joined f (r ∷ rs) qs = omega (arith, sum_joined f rs qs)
+
+pub sheet_sums : SheetSums
+unfolding totals_after
+sheet_sums =
+    record {
+      told = λ bytes r s e. s.totals ∙ ap (λ (o : Option Reason). totals_after o (totals_of (runs_in bytes))) e;
+      joined = sum_joined;
+    }

@@ -1,4 +1,3 @@
 pub mod Season
-pub mod Text
 pub mod Theorems
 pub mod inner

@@ -12,7 +12,7 @@ use Rattle.gates.specs.Board.{conditional_count, MaskTape, board_of}
 use Rattle.gates.specs.Hiding.{Finished}
 use Rattle.gates.proofs.WireLaws.{length_wires}
 use Rattle.gates.proofs.Evaluating.{accepted_list}
-use Rattle.gates.proofs.Hiding.{board_finished, board_hides_inputs}
+use Rattle.gates.proofs.Hiding.{board_finished, one_tape}
 use Rattle.jury.specs.declared.shape.Shape.{Shape}
 use Rattle.jury.specs.Shape.{ballot_bytes}
 use Rattle.jury.specs.Reason.{Reason, first_of}
@@ -109,9 +109,7 @@ board_tells_no_more s table xs ys t u vs ws bs ds first second e f closing =
     let p = run_passed s table xs t vs bs a.0 in
     let q = run_passed s table ys u ws ds b.0 in
     let o : outputs_of s.candidates (wires_of xs gs) ≡ outputs_of s.candidates (wires_of ys gs) =
-    sym (run_closing s table xs vs bs t p t p.mask) ∙ closing ∙ run_closing s table ys ws ds u q u q.mask in
-    let size = size_of gs in
-    let enough_gates = (accepted_list (ballot_bytes s) s.candidates table size.gates size.conditional p.test.tests).enough in (
+    sym (run_closing s table xs vs bs t p t p.mask) ∙ closing ∙ run_closing s table ys ws ds u q u q.mask in (
       a.1,
       b.1,
       record {
@@ -120,7 +118,7 @@ board_tells_no_more s table xs ys t u vs ws bs ds first second e f closing =
         second_answer = run_answer s table ys ws ds u q;
         second_board = run_finished s table ys ws ds u q;
         same_board = λ (v : List ℕ) m.
-            let one = (board_hides_inputs gs s.candidates xs ys enough_gates o).same_board v m in
+            let one = one_tape (wires_of xs gs) (wires_of ys gs) gs s.candidates o v m in
             let first_is = run_board_lem s table xs vs bs t p v m in (
               one.0,
               (one.1.0, first_is ∙ one.1.1 ∙ sym (run_board_lem s table ys ws ds u q one.0 one.1.0)),

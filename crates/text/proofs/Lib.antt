@@ -6,4 +6,3 @@ pub mod Whole
 pub mod Numbering
 pub mod RoundTrip
 pub mod Examples
-pub mod Order

@@ -41,7 +41,7 @@ no_feed_decimal (suc f) n = by (ltb n 10) (no_feed_decimal f (n / 10))
 
 no_feed_operand : (used : Bool) (x : ℕ) → NoFeed (operand_text used x)
 unfolding operand_text decimal
-no_feed_operand true x = (refl, no_feed_decimal 20 x)
+no_feed_operand true x = (refl, no_feed_decimal 10 x)
 no_feed_operand false x = tt
 
 -- a line without its line feed
@@ -64,7 +64,7 @@ no_feed_front g =
     let tb = operand_text (ltb 1 n) g.b in
     let tc = operand_text (ltb 2 n) g.c in
     no_feed_append (d ++ ta ++ tb) tc
-    (no_feed_append (d ++ ta) tb (no_feed_append d ta (no_feed_decimal 20 g.kind)
+    (no_feed_append (d ++ ta) tb (no_feed_append d ta (no_feed_decimal 10 g.kind)
     (no_feed_operand (ltb 0 n) g.a)) (no_feed_operand (ltb 1 n) g.b))
     (no_feed_operand (ltb 2 n) g.c)
 

@@ -5,7 +5,8 @@ use mathlib.Core.Bool.{Bool, true, false, cond, ◌&&◌}
 use mathlib.Core.Option.{none, some, some-injective, none-ne-some}
 use mathlib.Core.List.{List, [], ◌∷◌, ◌++◌, append_assoc}
 use Prim.Native.Nat.{ℕ, zero, suc, ◌+◌, ◌-◌, ◌*◌, ◌/◌, ◌%◌, ◌^◌, ◌≤◌, ◌<◌}
-use native.Mathlib.Nat.{pow-succ'}
+use native.Mathlib.Nat.{pow-succ', one-le-pow}
+use native.Mathlib.Numerals.{add-one}
 use native.Mathlib.Omega.{arith}
 use lib.Dec.{leb, ltb, eqb}
 use lib.ListN.{length, get_or, drop, length-append, drop_of_length-le}
@@ -80,11 +81,11 @@ read_digits (suc f) n rest pos fits few =
 -- What is written is read back if no digit follows.
 pub read_decimal : (n : ℕ) (rest : List ℕ) → n ≤ 4294967295 → Apart rest → number_in (decimal n ++ rest) ≡ taken n rest
 unfolding decimal
-read_decimal zero rest fits a = ap (λ (l : List ℕ). number_in (l ++ rest)) (one_digit 19 0 (omega arith)) ∙ zero_read
+read_decimal zero rest fits a = ap (λ (l : List ℕ). number_in (l ++ rest)) (one_digit 9 0 (omega arith)) ∙ zero_read
   where
     zero_read : number_in (48 ∷ rest) ≡ taken 0 rest
     zero_read = unfold number_in is_digit in refl
-read_decimal (suc n) rest fits a = read_digits 20 (suc n) rest (omega arith) fits (omega arith) ∙ digits_end (suc n) rest a
+read_decimal (suc n) rest fits a = read_digits 10 (suc n) rest (omega arith) fits (omega arith) ∙ digits_end (suc n) rest a
 
 -- allowing more digits than are needed changes nothing
 spare : (f n : ℕ) → n < 10 ^ suc f → decimal_within (suc (suc f)) n ≡ decimal_within (suc f) n
@@ -100,18 +101,18 @@ spare (suc f) n h = by (ltb n 10) refl (spare f (n / 10) (tenth (suc f) n h))
 
 pub decimal_one : (n : ℕ) → n < 10 → decimal n ≡ (48 + n) ∷ []
 unfolding decimal
-decimal_one n h = one_digit 19 n h
+decimal_one n h = one_digit 9 n h
 
 -- the decimal of a number above 0 with one more digit
-pub decimal_more : (n d : ℕ) → 0 < n → d < 10 → 10 * n + d ≤ 18446744073709551615 → decimal (10 * n + d) ≡ decimal n ++ (48 + d) ∷ []
+pub decimal_more : (n d : ℕ) → 0 < n → d < 10 → 10 * n + d ≤ 4294967295 → decimal (10 * n + d) ≡ decimal n ++ (48 + d) ∷ []
 unfolding decimal
 decimal_more n d pos small fits =
     let q : (10 * n + d) / 10 ≡ n = omega arith in
     let r : (10 * n + d) % 10 ≡ d = omega arith in
-    more_digits 19 (10 * n + d) (omega arith)
-    ∙ ap (λ (m : ℕ). decimal_within 19 m ++ (48 + (10 * n + d) % 10) ∷ []) q
-    ∙ ap (λ (m : ℕ). decimal_within 19 n ++ (48 + m) ∷ []) r
-    ∙ ap (λ (l : List ℕ). l ++ (48 + d) ∷ []) (sym (spare 18 n (omega arith)))
+    more_digits 9 (10 * n + d) (omega arith)
+    ∙ ap (λ (m : ℕ). decimal_within 9 m ++ (48 + (10 * n + d) % 10) ∷ []) q
+    ∙ ap (λ (m : ℕ). decimal_within 9 n ++ (48 + m) ∷ []) r
+    ∙ ap (λ (l : List ℕ). l ++ (48 + d) ∷ []) (sym (spare 8 n (omega arith)))
 
 -- the value of a digit
 pub digit_is : (c : ℕ) → is_digit c ≡ true → (c ≡ 48 + (c - 48)) × (c - 48 < 10)
@@ -162,7 +163,7 @@ wrote_digits (c ∷ cs) n m rest pos fits e =
           fits = w.fits;
           is = ap (λ (x : ℕ). decimal n ++ x ∷ cs) is.0
               ∙ sym (append_assoc (decimal n) ((48 + (c - 48)) ∷ []) cs)
-              ∙ ap (λ (l : List ℕ). l ++ cs) (sym (decimal_more n (c - 48) pos is.1 (omega arith)))
+              ∙ ap (λ (l : List ℕ). l ++ cs) (sym (decimal_more n (c - 48) pos is.1 few))
               ∙ w.is;
         }
 
@@ -180,7 +181,7 @@ wrote_number [] n rest e = nothing e
 wrote_number (c ∷ cs) n rest e = digit (is_digit c) refl e
   where
     zero_text : decimal 0 ≡ 48 ∷ []
-    zero_text = unfold decimal in one_digit 19 0 (omega arith)
+    zero_text = unfold decimal in one_digit 9 0 (omega arith)
 
     first : is_digit c ≡ true → (t : Bool) → eqb c 48 ≡ t → cond t (taken 0 cs) (digits_in (c - 48) cs) ≡ taken n rest → Wrote (c ∷ cs) n rest
     first d true z e =
@@ -191,7 +192,7 @@ wrote_number (c ∷ cs) n rest e = digit (is_digit c) refl e
         let ne = eqb-false c 48 z in
         let pos : 0 < c - 48 = omega arith in
         let w = wrote_digits cs (c - 48) n rest pos (omega arith) e in
-        let t : decimal (c - 48) ≡ (48 + (c - 48)) ∷ [] = unfold decimal in one_digit 19 (c - 48) is.1 in
+        let t : decimal (c - 48) ≡ (48 + (c - 48)) ∷ [] = unfold decimal in one_digit 9 (c - 48) is.1 in
         record { fits = w.fits; is = ap (λ (x : ℕ). x ∷ cs) is.0 ∙ ap (λ (l : List ℕ). l ++ cs) (sym t) ∙ w.is }
 
     digit : (t : Bool) → is_digit c ≡ t → cond t (cond (eqb c 48) (taken 0 cs) (digits_in (c - 48) cs)) none
@@ -199,36 +200,32 @@ wrote_number (c ∷ cs) n rest e = digit (is_digit c) refl e
     digit true d e = first d (eqb c 48) refl e
     digit false d e = nothing e
 
--- a number below a power of ten has at most so many digits
-digits_few : (f j n : ℕ) → n < 10 ^ suc j → length (decimal_within f n) ≤ suc j
-unfolding decimal_within
-digits_few zero j n few = omega arith
-digits_few (suc f) zero n few = omega (arith, ap length (one_digit f n (omega arith)))
-digits_few (suc f) (suc j) n few = by (ltb n 10) (digits_few f j (n / 10) (tenth (suc j) n few))
+-- n has more than j digits; with j = 0 this says nothing.
+abbrev pub Least : ℕ → ℕ → Type 0
+Least zero n = Unit {0}
+Least (suc j) n = 10 ^ suc j ≤ n
+
+digits_count : (f j n : ℕ) → n < 10 ^ suc f → n < 10 ^ suc j → Least j n → length (decimal_within (suc f) n) ≡ suc j
+digits_count f zero n small few l = ap length (one_digit f n (omega arith))
+digits_count zero (suc j) n small few l =
+    let p = pow-succ' 10 j in
+    let q = one-le-pow j 10 (omega arith) in
+    absurd (omega arith)
+digits_count (suc f) (suc j) n small few l =
+    let p = pow-succ' 10 j in
+    let q = one-le-pow j 10 (omega arith) in
+    ap length (more_digits (suc f) n (omega arith))
+    ∙ length-append (decimal_within (suc f) (n / 10)) ((48 + n % 10) ∷ [])
+    ∙ add-one (length (decimal_within (suc f) (n / 10)))
+    ∙ ap suc (digits_count f j (n / 10) (tenth (suc f) n small) (tenth (suc j) n few) (least_tenth j n l))
   where
-    by : (t : Bool) → length (decimal_within f (n / 10)) ≤ suc j
-        → length (cond t ((48 + n) ∷ []) (decimal_within f (n / 10) ++ (48 + n % 10) ∷ [])) ≤ suc (suc j)
-    by true ih = omega arith
-    by false ih = omega (arith, length-append (decimal_within f (n / 10)) ((48 + n % 10) ∷ []))
+    least_tenth : (j n : ℕ) → 10 ^ suc j ≤ n → Least j (n / 10)
+    least_tenth zero n l = tt
+    least_tenth (suc j) n l = let p = pow-succ' 10 (suc j) in omega arith
 
--- at most twenty digits are written, and at most ten of a number of 32 bits
-digits_most : (f n : ℕ) → length (decimal_within f n) ≤ f
-unfolding decimal_within
-digits_most zero n = omega arith
-digits_most (suc f) n = by (ltb n 10) (digits_most f (n / 10))
-  where
-    by : (t : Bool) → length (decimal_within f (n / 10)) ≤ f
-        → length (cond t ((48 + n) ∷ []) (decimal_within f (n / 10) ++ (48 + n % 10) ∷ [])) ≤ suc f
-    by true ih = omega arith
-    by false ih = omega (arith, length-append (decimal_within f (n / 10)) ((48 + n % 10) ∷ []))
-
-pub decimal_most : (n : ℕ) → length (decimal n) ≤ 20
+pub count_is : (j n : ℕ) → n ≤ 4294967295 → n < 10 ^ suc j → Least j n → length (decimal n) ≡ suc j
 unfolding decimal
-decimal_most n = digits_most 20 n
-
-pub decimal_short : (n : ℕ) → n ≤ 4294967295 → length (decimal n) ≤ 10
-unfolding decimal
-decimal_short n fits = digits_few 20 9 n (omega arith)
+count_is j n fits few l = digits_count 9 j n (omega arith) few l
 
 -- Reading digits from a place on.
 module _ (n : ℕ) (text : List ℕ) (i : ℕ) where
@@ -271,6 +268,6 @@ pub length_positive : (n : ℕ) → 0 < length (decimal n)
 unfolding decimal decimal_within
 length_positive n = by (ltb n 10)
   where
-    by : (t : Bool) → 0 < length (cond t ((48 + n) ∷ []) (decimal_within 19 (n / 10) ++ (48 + n % 10) ∷ []))
+    by : (t : Bool) → 0 < length (cond t ((48 + n) ∷ []) (decimal_within 9 (n / 10) ++ (48 + n % 10) ∷ []))
     by true = omega arith
-    by false = omega (arith, length-append (decimal_within 19 (n / 10)) ((48 + n % 10) ∷ []))
+    by false = omega (arith, length-append (decimal_within 9 (n / 10)) ((48 + n % 10) ∷ []))

@@ -1,9 +1,9 @@
 -- Characters stored one after the other: a number, an operand, a line.
 -- Assumes nothing.
 use mathlib.Core.Path.{◌≡◌, ◌∙◌, sym, ap}
-use mathlib.Core.Bool.{Bool, true, false}
+use mathlib.Core.Bool.{Bool, true, false, cond}
 use mathlib.Core.List.{List, [], ◌∷◌, ◌++◌}
-use Prim.Native.Nat.{ℕ, suc, ◌+◌, ◌*◌, ◌/◌, ◌%◌, ◌≤◌, ◌<◌}
+use Prim.Native.Nat.{ℕ, zero, suc, ◌+◌, ◌*◌, ◌/◌, ◌%◌, ◌≤◌, ◌<◌}
 use native.Mathlib.Nat.{add-zero}
 use native.Mathlib.Omega.{arith}
 use lib.Dec.{ltb}
@@ -11,10 +11,10 @@ use lib.ListN.{length, set, length-append}
 use lib.Seq.{sets, set_comm, length-sets}
 use Rattle.gates.specs.Kind.{operands_of}
 use Rattle.gates.specs.Gate.{Gate}
-use Rattle.text_lines.specs.Decimal.{decimal}
+use Rattle.text_lines.specs.Decimal.{decimal_within, decimal}
 use Rattle.text_lines.specs.Line.{operand_text, line_of}
 use Rattle.text_lines.specs.inner.Stored.{Stored}
-use Rattle.text_lines.proofs.DecimalLaws.{decimal_one, decimal_more, decimal_short}
+use Rattle.text_lines.proofs.DecimalLaws.{decimal_one, decimal_more}
 
 -- storing xs and then ys after them is storing xs ++ ys
 pub sets_append : (l : List ℕ) (at : ℕ) (xs ys : List ℕ) → sets l at (xs ++ ys) ≡ sets (sets l at xs) (at + length xs) ys
@@ -33,16 +33,16 @@ sets_behind l at (x ∷ xs) d =
     ∙ sets_behind (set l at x) (suc at) xs d
 
 -- the digits of a number from 10 on: those of its tenth, then the last digit
-decimal_tenth : (n : ℕ) → 10 ≤ n → n ≤ 18446744073709551615 → decimal n ≡ decimal (n / 10) ++ (48 + n % 10) ∷ []
+decimal_tenth : (n : ℕ) → 10 ≤ n → n ≤ 4294967295 → decimal n ≡ decimal (n / 10) ++ (48 + n % 10) ∷ []
 decimal_tenth n h fits =
     let e : 10 * (n / 10) + n % 10 ≡ n = omega arith in
     ap decimal (sym e) ∙ decimal_more (n / 10) (n % 10) (omega arith) (omega arith) (omega arith)
 
-pub length_tenth : (n : ℕ) → 10 ≤ n → n ≤ 18446744073709551615 → length (decimal n) ≡ suc (length (decimal (n / 10)))
+pub length_tenth : (n : ℕ) → 10 ≤ n → n ≤ 4294967295 → length (decimal n) ≡ suc (length (decimal (n / 10)))
 length_tenth n h fits = omega (arith, ap length (decimal_tenth n h fits), length-append (decimal (n / 10)) ((48 + n % 10) ∷ []))
 
 -- the last digit may be stored first
-pub store_last : (l : List ℕ) (at i n d : ℕ) → 10 ≤ n → n ≤ 18446744073709551615 → d ≡ 48 + n % 10 → suc i
+pub store_last : (l : List ℕ) (at i n d : ℕ) → 10 ≤ n → n ≤ 4294967295 → d ≡ 48 + n % 10 → suc i
     ≡ at + length (decimal n) → sets (set l i d) at (decimal (n / 10)) ≡ sets l at (decimal n)
 store_last l at i n d h fits e p =
     let q : i ≡ at + length (decimal (n / 10)) = omega (arith, length_tenth n h fits) in
@@ -69,6 +69,21 @@ stored_then {l} {at} {xs} {r} {e} s {ys} {r'} {e'} more =
       next = omega (arith, s.next, more.next, length-append xs ys);
     }
 
+-- Bounds for the lengths of numbers, operands and lines.
+digits_most : (f n : ℕ) → length (decimal_within f n) ≤ f
+unfolding decimal_within
+digits_most zero n = omega arith
+digits_most (suc f) n = by (ltb n 10) (digits_most f (n / 10))
+  where
+    by : (t : Bool) → length (decimal_within f (n / 10)) ≤ f
+        → length (cond t ((48 + n) ∷ []) (decimal_within f (n / 10) ++ (48 + n % 10) ∷ [])) ≤ suc f
+    by true ih = omega arith
+    by false ih = omega (arith, length-append (decimal_within f (n / 10)) ((48 + n % 10) ∷ []))
+
+pub decimal_most : (n : ℕ) → length (decimal n) ≤ 10
+unfolding decimal
+decimal_most n = digits_most 10 n
+
 pub text_unused : (used : Bool) (n : ℕ) → used ≡ false → operand_text used n ≡ []
 unfolding operand_text
 text_unused used n e = rw e
@@ -77,10 +92,10 @@ pub text_used : (used : Bool) (n : ℕ) → used ≡ true → operand_text used 
 unfolding operand_text
 text_used used n e = rw e
 
-pub operand_most : (used : Bool) (n : ℕ) → n ≤ 4294967295 → length (operand_text used n) ≤ 11
+pub operand_most : (used : Bool) (n : ℕ) → length (operand_text used n) ≤ 11
 unfolding operand_text
-operand_most true n fits = omega (arith, decimal_short n fits)
-operand_most false n fits = omega arith
+operand_most true n = omega (arith, decimal_most n)
+operand_most false n = omega arith
 
 -- a line whose kind uses m operands
 pub line_with : ℕ → Gate → List ℕ

@@ -19,9 +19,9 @@ decimal_within zero n = []
 decimal_within (suc digits) n =
     cond (ltb n 10) ((zero_character + n) ∷ []) (decimal_within digits (n / 10) ++ (zero_character + n % 10) ∷ [])
 
--- A 64-bit number in decimal: twenty digits are enough.
+-- A 32-bit number in decimal: ten digits are enough.
 unfoldable pub decimal : ℕ → List ℕ
-decimal n = decimal_within 20 n
+decimal n = decimal_within 10 n
 
 unfoldable pub is_digit : ℕ → Bool
 is_digit c = leb zero_character c && leb c nine_character

@@ -11,13 +11,9 @@ space = 32
 abbrev pub line_feed : ℕ
 line_feed = 10
 
--- A number after a space.
-abbrev pub spaced : ℕ → List ℕ
-spaced n = space ∷ decimal n
-
 -- An operand in use is written after a space; an unused one is not written.
 unfoldable pub operand_text : Bool → ℕ → List ℕ
-operand_text true n = spaced n
+operand_text true n = space ∷ decimal n
 operand_text false n = []
 
 -- The kind, its operands in use, and a line feed.

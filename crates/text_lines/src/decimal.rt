@@ -80,19 +80,20 @@ pub(crate) fn number(text: &[u8], at: usize) -> Found
 }
 
 // How many digits a number has.
-pub(crate) fn count(n: u64) -> usize
+pub(crate) fn count(n: u32) -> usize
     ensures { result ≡ length (decimal n) }
 {
-    let mut rest = n;
-    let mut found: usize = 1;
-    while 10 <= rest {
-        rest /= 10;
-        found += 1;
+    let number = n as u64;
+    let mut more: usize = 0;
+    let mut bound: u64 = 10;
+    while bound <= number {
+        bound *= 10;
+        more += 1;
     }
-    found
+    more + 1
 }
 
-fn digit(d: u64) -> u8
+fn digit(d: u32) -> u8
     requires { d < 10 }
     ensures { result ≡ 48 + d }
 {
@@ -100,7 +101,7 @@ fn digit(d: u64) -> u8
 }
 
 // Puts a number into a text, from its last digit to its first, and answers the place after it.
-pub fn put(n: u64, at: usize, output: &mut [u8]) -> usize
+pub(crate) fn put(n: u32, at: usize, output: &mut [u8]) -> usize
     requires { at + length (decimal n) ≤ length output.old }
     ensures { Stored output.old at (decimal n) output.new result }
 {

@@ -1,4 +1,4 @@
-// One gate as a line of text, and numbers in decimal.
-pub mod decimal;
+// One gate as a line of text, with its numbers in decimal.
+mod decimal;
 pub mod line;
 pub mod print;

@@ -1,6 +1,6 @@
 // Puts one gate into a text as a line.
 ghost use Rattle.std.specs.Prelude.{◌≡◌, ◌+◌, ◌≤◌, length};
-ghost use Rattle.text_lines.specs.Line.{spaced, operand_text, line_of};
+ghost use Rattle.text_lines.specs.Line.{operand_text, line_of};
 ghost use Rattle.text_lines.specs.inner.Stored.{Stored, LineLength};
 
 use crate::decimal;
@@ -11,11 +11,7 @@ use gates::kind;
 fn operand_length(used: bool, n: u32) -> usize
     ensures { result ≡ length (operand_text used n) }
 {
-    if used {
-        decimal::count(n as u64) + 1
-    } else {
-        0
-    }
+    if used { decimal::count(n) + 1 } else { 0 }
 }
 
 // How many characters a gate's line has.
@@ -24,20 +20,11 @@ pub fn line_length(kind: u32, a: u32, b: u32, c: u32) -> usize
 {
     let counts = kind::OPERANDS;
     let count = kind::operands(&counts, kind);
-    let kind_length = decimal::count(kind as u64);
+    let kind_length = decimal::count(kind);
     let a_length = operand_length(0 < count, a);
     let b_length = operand_length(1 < count, b);
     let c_length = operand_length(2 < count, c);
     kind_length + a_length + b_length + c_length + 1
-}
-
-// Puts a space and a number, and answers the place after them.
-pub fn put_spaced(n: u64, at: usize, output: &mut [u8]) -> usize
-    requires { at + length (spaced n) ≤ length output.old }
-    ensures { Stored output.old at (spaced n) output.new result }
-{
-    output[at] = SPACE;
-    decimal::put(n, at + 1, output)
 }
 
 // Puts a space and the operand if it is in use, and answers the place after it.
@@ -48,7 +35,8 @@ fn put_operand(used: bool, n: u32, at: usize, output: &mut [u8]) -> usize
     if !used {
         return at;
     }
-    put_spaced(n as u64, at, output)
+    output[at] = SPACE;
+    decimal::put(n, at + 1, output)
 }
 
 // Puts a gate's line, and answers the place after it.
@@ -58,7 +46,7 @@ pub fn put_line(kind: u32, a: u32, b: u32, c: u32, at: usize, output: &mut [u8])
 {
     let counts = kind::OPERANDS;
     let count = kind::operands(&counts, kind);
-    let kind_end = decimal::put(kind as u64, at, output);
+    let kind_end = decimal::put(kind, at, output);
     let a_end = put_operand(0 < count, a, kind_end, output);
     let b_end = put_operand(1 < count, b, a_end, output);
     let c_end = put_operand(2 < count, c, b_end, output);

@@ -10,9 +10,6 @@ use native.Mathlib.Omega.{arith}
 use lib.ListN.{length, replicate, length-append, length-replicate}
 use borrow.Author.Tests.{eq-eqb, le-leb, lt-ltb}
 use Rattle.gates.specs.Gate.{gates_of}
-use Rattle.gates.specs.declared.place.Place.TheVariants.{Nowhere}
-use Rattle.gates.proofs.Evaluating.{accepted_list}
-use Rattle.jury.proofs.Limits.{some_bytes}
 use Rattle.gates.specs.Board.{conditional_count, Bits}
 use Rattle.gate_levels.specs.Levels.{levels_of, rounds_of}
 use Rattle.jury.specs.Shape.{ballot_bytes}
@@ -27,35 +24,25 @@ use Rattle.trustee_shares.proofs.Hiding.{bits_piece}
 use Rattle.trustee_gates.specs.Dealing.{only_bits}
 use Rattle.trustee_gates.proofs.Parity.{opened_bit}
 use Rattle.trustee_gates.proofs.Dealt.{only_bits_back}
-use Rattle.trustee_rounds.specs.Rounds.{enters, publishes, start_wires, start_published, not_yet}
+use Rattle.trustee_rounds.specs.Rounds.{enters, publishes, start_wires, start_published}
 use Rattle.trustee_rounds.specs.Together.{sums_from, sums_of, turn_of, parts_after, published_after, holdings_after}
-use Rattle.trustee_rounds.specs.Turns.{first_out_of_turn}
 use Rattle.trustee_rounds.proofs.Publishing.{length_sums}
-use Rattle.trustee_rounds.proofs.Together.{in_turn}
-use Rattle.trustee_rounds.proofs.InTurn.{bits_started, bits_enters}
 use Rattle.trustee_rounds.proofs.Closing.{length_enters, length_publishes}
 use Rattle.trustees.specs.Call.{Call}
 use Rattle.trustees.proofs.Reasons.{CallPassed, passed_dealing}
-use Rattle.trustee_alone.specs.Own.{is_trustee, wires_fit, own_tables_fit}
+use Rattle.trustee_alone.specs.Own.{is_trustee, own_tables_fit}
 use Rattle.trustee_alone.specs.Start.{own_reasons, start_reasons, start_outcome, started_wires, started_published}
 use Rattle.trustee_alone.specs.Rounds.{table_reasons, round_reasons, round_outcome, own_turn, wires_made, published_made, rounded_wires, rounded_published}
 use Rattle.trustee_alone.specs.Demands.{heard_before, CallsOf}
 use Rattle.trustee_alone.proofs.Memory.{length_closes}
 use Rattle.basics.proofs.Same.{same_refl}
-use Rattle.trustee_alone.proofs.Tests.{pass, nowhere, end, behind, and_both, outcome_none, left_new}
+use Rattle.trustee_alone.proofs.Tests.{pass, end, behind, and_both, outcome_none, left_new}
 
 sums_bits : (t n j : ℕ) (published : Held) → Bits (sums_from t n j published)
 unfolding sums_from
 sums_bits t zero j published i = omega arith
 sums_bits t (suc n) j published zero = opened_bit t (λ p. part (published p) j)
 sums_bits t (suc n) j published (suc i) = sums_bits t n (suc j) published i
-
--- each trustee has a part of each input
-pub ballots_long : (c : Call) → CallPassed c → (q : ℕ) → q < c.trustees
-    → length (ballots_of (ballot_bytes c.shape) c.lent.dealing q) ≡ ballot_bytes c.shape
-unfolding ballots_of
-ballots_long c passed q h = length_piece c.trustees (ballot_bytes c.shape) c.lent.dealing.ballot_parts q
-    ((passed_dealing c passed).ballot_size ∙ ap (λ (n : ℕ). c.trustees * n) passed.ballots_passed.size) h
 
 module _ (c : Call) (passed : CallPassed c) (p : ℕ) (l : p < c.trustees) where
   good : GoodDealing c.trustees (gates_of c.table) c.ballots c.lent.dealing
@@ -66,7 +53,9 @@ module _ (c : Call) (passed : CallPassed c) (p : ℕ) (l : p < c.trustees) where
   trustee = rw (le-leb 2 c.trustees passed.parts.least, le-leb c.trustees 5 passed.parts.most, lt-ltb p c.trustees l)
 
   parts_long : length (ballots_of (ballot_bytes c.shape) c.lent.dealing p) ≡ ballot_bytes c.shape
-  parts_long = ballots_long c passed p l
+  unfolding ballots_of
+  parts_long = length_piece c.trustees (ballot_bytes c.shape) c.lent.dealing.ballot_parts p
+      (good.ballot_size ∙ ap (λ (n : ℕ). c.trustees * n) passed.ballots_passed.size) l
 
   triples_long : length (triples_of (gates_of c.table) c.lent.dealing p) ≡ 3 * conditional_count (gates_of c.table)
   unfolding triples_of
@@ -87,7 +76,7 @@ module _ (c : Call) (passed : CallPassed c) (p : ℕ) (l : p < c.trustees) where
       → length published ≡ 2 * conditional_count (gates_of c.table) + c.shape.candidates
       → own_tables_fit (ballot_bytes c.shape) c.shape.candidates (size_of (gates_of c.table))
       (triples_of (gates_of c.table) c.lent.dealing p) ws published ≡ true
-  unfolding own_tables_fit wires_fit size_of
+  unfolding own_tables_fit size_of
   fits ws published e f =
       rw (
         eq-eqb (length (triples_of (gates_of c.table) c.lent.dealing p)) (3 * conditional_count (gates_of c.table)) triples_long,
@@ -121,7 +110,7 @@ module _ (c : Call) (passed : CallPassed c) (p : ℕ) (l : p < c.trustees) where
         (replicate (length (gates_of c.table)) 0)
         ∙ ap (λ (n : ℕ). n + length (replicate {A = ℕ} (length (gates_of c.table)) 0)) parts_long
         ∙ ap (λ (n : ℕ). ballot_bytes c.shape + n) (length-replicate {A = ℕ} (length (gates_of c.table)) 0),
-    length-replicate {A = ℕ} (2 * conditional_count (gates_of c.table) + c.shape.candidates) not_yet,
+    length-replicate {A = ℕ} (2 * conditional_count (gates_of c.table) + c.shape.candidates) 0,
   )
   lengths (suc r) =
       let h = holdings_after c.trustees (ballot_bytes c.shape) (gates_of c.table) c.shape.candidates c.lent.dealing r in
@@ -149,23 +138,6 @@ module _ (c : Call) (passed : CallPassed c) (p : ℕ) (l : p < c.trustees) where
       only_bits_back (sums_from c.trustees (2 * conditional_count (gates_of c.table)) 0 all)
       (sums_bits c.trustees (2 * conditional_count (gates_of c.table)) 0 all)
 
-  -- each round up to R finds what it must
-  turn : (r : ℕ) → r ≤ rounds_of (ballot_bytes c.shape) (gates_of c.table)
-      → first_out_of_turn r (levels_of (ballot_bytes c.shape) (gates_of c.table)) (gates_of c.table) c.shape.candidates
-      ((holdings_after c.trustees (ballot_bytes c.shape) (gates_of c.table) c.shape.candidates c.lent.dealing r).published p) ≡ Nowhere
-  turn r h =
-      let f = accepted_list (ballot_bytes c.shape) c.shape.candidates c.table _ _ passed.test.tests in
-      in_turn c.trustees (ballot_bytes c.shape) c.shape.candidates (gates_of c.table) c.lent.dealing
-      (some_bytes c.shape passed.test.within) f.enough f.good (ballots_long c passed) r h p l
-
-  -- wire parts are bits all the time
-  wires_bits : (r : ℕ) → Bits ((holdings_after c.trustees (ballot_bytes c.shape) (gates_of c.table) c.shape.candidates
-      c.lent.dealing r).wire_parts p)
-  unfolding holdings_after parts_after ballots_of
-  wires_bits zero = bits_started (length (gates_of c.table)) (piece (ballot_bytes c.shape) c.lent.dealing.ballot_parts p)
-      (bits_piece (ballot_bytes c.shape) c.lent.dealing.ballot_parts p good.ballot_bits)
-  wires_bits (suc r) = bits_enters _ (gates_of c.table) 0 0 _ (wires_bits r)
-
   -- a round passes its tests
   round_passes : (r : ℕ) → r ≤ rounds_of (ballot_bytes c.shape) (gates_of c.table)
       → first_of (round_reasons c.shape c.table c.trustees p r
@@ -178,13 +150,12 @@ module _ (c : Call) (passed : CallPassed c) (p : ℕ) (l : p < c.trustees) where
   round_passes r e =
       let h = lengths r in
       behind (test_reasons c.shape c.table) _ passed.test.reasons ∙ pass _ 16 _ trustee
-      ∙ pass _ 17 _ (fits _ _ h.0 h.1)
-      ∙ pass _ 18 _ (and_both _ _ true triples_bits (only_bits_back _ (wires_bits r)))
+      ∙ pass _ 17 _ (fits _ _ h.0 h.1) ∙ pass _ 18 _ triples_bits
       ∙ pass _ 200 _ (same_refl (levels_of (ballot_bytes c.shape) (gates_of c.table)))
       ∙ pass _ 201 _ (le-leb r (rounds_of (ballot_bytes c.shape) (gates_of c.table)) e)
-      ∙ pass _ 202 _ (and_both _ _ true
+      ∙ pass _ 202 [] (and_both _ _ true
       (eq-eqb (length (heard_before c r)) (2 * conditional_count (gates_of c.table)) (heard_long r)) (heard_bits r))
-      ∙ nowhere _ 203 [] (turn r e) ∙ end
+      ∙ end
 
   pub calls_of : CallsOf c p
   unfolding start_outcome started_wires started_published round_outcome rounded_wires rounded_published wires_made

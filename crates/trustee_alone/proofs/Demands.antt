@@ -20,7 +20,7 @@ use Rattle.jury.proofs.Limits.{some_bytes}
 use Rattle.trustee_shares.specs.Shares.{part, Held}
 use Rattle.trustee_shares.specs.Views.{joined, others_of, Dealing, ballots_of, triples_of, wire_parts_of, published_of, View, view_of}
 use Rattle.trustee_shares.proofs.Accuracy.{opened_same}
-use Rattle.trustee_shares.proofs.Tables.{joined_cong, joined_same, others_cong, others_same}
+use Rattle.trustee_shares.proofs.Tables.{length_piece, joined_cong, joined_same, others_cong, others_same}
 use Rattle.trustee_rounds.specs.Rounds.{Turn, enters, publishes, closes}
 use Rattle.trustee_rounds.specs.Together.{sums_of, turn_of, parts_after, published_after}
 use Rattle.trustee_rounds.proofs.Together.{earlier_follows, rounds_make_the_tally}
@@ -33,8 +33,7 @@ use Rattle.trustees.proofs.Sums.{call_ready, opened_closing}
 use Rattle.trustees.proofs.Demands as one_call
 use Rattle.trustee_alone.specs.Demands.{rounds_in, holdings_in, parts_at_end, published_at_end, closing_heard, view_before, apart, NoEarlierView, AsTheOneCall, OwnTablesOnly, AloneHolds}
 use Rattle.trustee_alone.proofs.Memory.{memory}
-use Rattle.trustee_alone.proofs.Once.{published_once, bits_stay, in_turn}
-use Rattle.trustee_alone.proofs.Apart.{ballots_long, lengths, calls_of}
+use Rattle.trustee_alone.proofs.Apart.{lengths, calls_of}
 
 -- two turns are equal if triples and sums are
 turn_same : (t inputs : ℕ) (gs : List Gate) (d e : Dealing) (r : ℕ) (one other : Held) (p : ℕ) → triples_of gs d p
@@ -76,7 +75,9 @@ module _ (c : Call) (size : Size) (yes : (trustees_result c).answer ≡ accepted
   long = passed.ballots_passed.size
 
   parts_long : (q : ℕ) → q < c.trustees → length (ballots_of (ballot_bytes c.shape) c.lent.dealing q) ≡ ballot_bytes c.shape
-  parts_long = ballots_long c passed
+  unfolding ballots_of
+  parts_long q h = length_piece c.trustees (ballot_bytes c.shape) c.lent.dealing.ballot_parts q
+      (passed.parts.tables.ballot_length ∙ ap (λ (n : ℕ). c.trustees * n) long) h
 
   made : (p : ℕ) → p < c.trustees
       → ((holdings_in c (suc (rounds_in c))).wire_parts p
@@ -255,9 +256,6 @@ pub alone_holds : AloneHolds
 alone_holds =
     record {
       memory = memory;
-      published_once = published_once;
-      bits_stay = bits_stay;
-      in_turn = in_turn;
       own_tables_only = own_tables_only;
       tallies = tallies;
       no_earlier_view = no_earlier_view;

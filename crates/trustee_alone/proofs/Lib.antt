@@ -4,5 +4,4 @@ pub mod Sizes
 pub mod Passed
 pub mod Memory
 pub mod Apart
-pub mod Once
 pub mod Demands

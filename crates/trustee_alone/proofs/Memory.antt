@@ -3,10 +3,10 @@
 use mathlib.Core.Path.{◌≡◌, ◌∙◌, refl, sym, ap}
 use mathlib.Core.Bool.{Bool, true, false, cond}
 use mathlib.Core.Option.{Option, none, some}
-use mathlib.Core.List.{List, map}
+use mathlib.Core.List.{List}
 use Prim.Native.Nat.{ℕ, ◌+◌, ◌*◌}
 use lib.Dec.{T, eqb}
-use lib.ListN.{length, replicate, length-append, length-replicate, length-map}
+use lib.ListN.{length, replicate, length-append, length-replicate}
 use lib.Seq.{sets, length-sets}
 use borrow.Author.Tests.{eqb-true}
 use Rattle.basics.specs.Lists.{all, member}
@@ -17,20 +17,19 @@ use Rattle.jury.specs.Shape.{ballot_bytes}
 use Rattle.jury.specs.Reason.{Reason, reason_at, first_of}
 use Rattle.tally.specs.Answer.{refused, accepted, has_number_in, Size, size_of, afterwards}
 use Rattle.tally.specs.Test.{test_reasons, test_reason_numbers}
-use Rattle.tally.proofs.Numbering.{All, refused_number, both, unless_fine, found_fine, wider, test_all}
+use Rattle.tally.proofs.Numbering.{All, refused_number, both, unless_fine, wider, test_all}
 use Rattle.tally.specs.Memory.{Each}
 use Rattle.basics.proofs.Flags.{and_first, and_second}
 use Rattle.levels.specs.Answer.{depths_of}
 use Rattle.tally.proofs.RunReasons.{outcome_refused, accepted_values}
 use Rattle.gate_levels.specs.Levels.{rounds_of}
 use Rattle.trustee_shares.specs.Views.{closing_parts}
-use Rattle.trustee_rounds.specs.Rounds.{enters, publishes, closes, start_wires, start_published, not_yet}
-use Rattle.trustee_rounds.specs.Turns.{settled_byte, settled}
+use Rattle.trustee_rounds.specs.Rounds.{enters, publishes, closes, start_wires, start_published}
 use Rattle.trustee_rounds.proofs.Closing.{length_enters, length_publishes}
 use Rattle.trustee_alone.specs.Own.{own_tables_fit}
 use Rattle.trustee_alone.specs.Start.{own_reasons, start_reasons, start_reason_numbers, start_outcome, started_wires, started_published}
 use Rattle.trustee_alone.specs.Rounds.{table_reasons, round_reasons, round_reason_numbers, round_outcome, own_turn, wires_made, published_made, rounded_wires, rounded_published}
-use Rattle.trustee_alone.specs.Finish.{finish_reasons, finish_reason_numbers, finish_outcome, finished_wires, finished_published}
+use Rattle.trustee_alone.specs.Finish.{finish_reasons, finish_reason_numbers, finish_outcome, finished_wires}
 use Rattle.trustee_alone.specs.Demands.{AloneMemory}
 use Rattle.trustee_alone.proofs.Tests.{passed, both_passed, left_old, left_new}
 use Rattle.trustee_alone.proofs.Sizes.{fit}
@@ -58,17 +57,17 @@ round_number s table t p round levels triples heard ws published =
         unless_fine ns _ 17 tt,
         (
           unless_fine ns _ 18 tt,
-          (unless_fine ns _ 200 tt, (unless_fine ns _ 201 tt, (unless_fine ns _ 202 tt, (found_fine ns 203 _ (λ i. tt), tt)))),
+          (unless_fine ns _ 200 tt, (unless_fine ns _ 201 tt, (unless_fine ns _ 202 tt, tt))),
         ),
       ),
     ))
 
-pub finish_number : (s : Shape) (table ws published : List ℕ) (r : Reason) → finish_outcome s table ws published ≡ refused r
+pub finish_number : (s : Shape) (table ws : List ℕ) (r : Reason) → finish_outcome s table ws ≡ refused r
     → T (has_number_in finish_reason_numbers r)
 unfolding finish_outcome finish_reasons All all member reason_at
-finish_number s table ws published =
+finish_number s table ws =
     let ns = finish_reason_numbers in
-    refused_number ns (finish_reasons s table ws published) (size_of (gates_of table))
+    refused_number ns (finish_reasons s table ws) (size_of (gates_of table))
     (both ns (test_reasons s table) _ (wider test_reason_numbers ns tt (test_reasons s table) (test_all s table)) (unless_fine ns _ 17 tt, tt))
 
 start_refused : (s : Shape) (table : List ℕ) (t p : ℕ) (shares triples ws published : List ℕ) (r : Reason)
@@ -94,19 +93,17 @@ round_refused s table t p round levels triples heard ws published r e =
       sym (left_old o (published_made s table p round levels triples heard ws published) published r why),
     )
 
-finish_refused : (s : Shape) (table ws published : List ℕ) (r : Reason) → finish_outcome s table ws published ≡ refused r
-    → (finished_wires s table ws published ≡ ws) × (finished_published s table ws published ≡ published)
-unfolding finish_outcome finished_wires finished_published
-finish_refused s table ws published r e =
-    let o = first_of (finish_reasons s table ws published) in
-    let why = outcome_refused o (size_of (gates_of table)) r e in
-    (sym (left_old o (replicate (length ws) 0) ws r why), sym (left_old o (settled published) published r why))
-
-finish_empties : (s : Shape) (table ws published : List ℕ) (size : Size) → finish_outcome s table ws published ≡ accepted size
-    → finished_wires s table ws published ≡ replicate (length ws) 0
+finish_refused : (s : Shape) (table ws : List ℕ) (r : Reason) → finish_outcome s table ws ≡ refused r → finished_wires s table ws ≡ ws
 unfolding finish_outcome finished_wires
-finish_empties s table ws published size e =
-    let o = first_of (finish_reasons s table ws published) in
+finish_refused s table ws r e =
+    let o = first_of (finish_reasons s table ws) in
+    sym (left_old o (replicate (length ws) 0) ws r (outcome_refused o (size_of (gates_of table)) r e))
+
+finish_empties : (s : Shape) (table ws : List ℕ) (size : Size) → finish_outcome s table ws ≡ accepted size
+    → finished_wires s table ws ≡ replicate (length ws) 0
+unfolding finish_outcome finished_wires
+finish_empties s table ws size e =
+    let o = first_of (finish_reasons s table ws) in
     sym (left_new o (replicate (length ws) 0) ws (accepted_values o (size_of (gates_of table)) size e).0)
 
 -- no call changes a length
@@ -140,7 +137,7 @@ start_fit s table t p shares triples ws published e =
     let f = fit inputs s.candidates gs triples ws published (and_second a b at17) in (
       length-append shares (replicate (length gs) 0) ∙ ap (λ (n : ℕ). length shares + n) (length-replicate {A = ℕ} (length gs) 0)
           ∙ ap (λ (n : ℕ). n + length gs) long ∙ sym f.wires_length,
-      length-replicate {A = ℕ} (2 * conditional_count gs + s.candidates) not_yet ∙ sym f.published_length,
+      length-replicate {A = ℕ} (2 * conditional_count gs + s.candidates) 0 ∙ sym f.published_length,
     )
 
 start_lengths : (s : Shape) (table : List ℕ) (t p : ℕ) (shares triples ws published : List ℕ)
@@ -169,14 +166,10 @@ round_lengths s table t p round levels triples heard ws published =
           (publishes u W gs 0 0 published) ∙ length_publishes u W gs 0 0 published),
     )
 
-finish_lengths : (s : Shape) (table ws published : List ℕ)
-    → (length (finished_wires s table ws published) ≡ length ws) × (length (finished_published s table ws published) ≡ length published)
-unfolding finished_wires finished_published settled
-finish_lengths s table ws published =
-    let o = first_of (finish_reasons s table ws published) in (
-      kept o (replicate (length ws) 0) ws (λ e. length-replicate {A = ℕ} (length ws) 0),
-      kept o (map settled_byte published) published (λ e. length-map published settled_byte),
-    )
+finish_length : (s : Shape) (table ws : List ℕ) → length (finished_wires s table ws) ≡ length ws
+unfolding finished_wires
+finish_length s table ws = kept (first_of (finish_reasons s table ws)) (replicate (length ws) 0) ws
+    (λ e. length-replicate {A = ℕ} (length ws) 0)
 
 pub memory : AloneMemory
 unfolding Each
@@ -198,12 +191,11 @@ memory =
             empties = λ depths e. tt;
             lengths = (long.0, (long.1, tt));
           };
-      finish = λ s table ws published.
-          let long = finish_lengths s table ws published in
+      finish = λ s table ws.
           record {
-            number = finish_number s table ws published;
-            refusal = λ r e. let q = finish_refused s table ws published r e in (q.0, (q.1, tt));
-            empties = λ size e. (finish_empties s table ws published size e, tt);
-            lengths = (long.0, (long.1, tt));
+            number = finish_number s table ws;
+            refusal = λ r e. (finish_refused s table ws r e, tt);
+            empties = λ size e. (finish_empties s table ws size e, tt);
+            lengths = (finish_length s table ws, tt);
           };
     }

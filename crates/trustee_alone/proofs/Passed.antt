@@ -1,7 +1,6 @@
 -- What holds for a round if no reason applies.
 -- Assumes nothing.
 use mathlib.Core.Path.{◌≡◌, ◌∙◌, refl, sym, ap}
-use mathlib.Core.Bool.{true}
 use mathlib.Core.Option.{none}
 use mathlib.Core.List.{List}
 use Prim.Native.Nat.{ℕ, ◌*◌, ◌≤◌}
@@ -15,16 +14,14 @@ use Rattle.gate_levels.proofs.Laws.{length_levels}
 use Rattle.jury.specs.declared.shape.Shape.{Shape}
 use Rattle.jury.specs.Shape.{ballot_bytes}
 use Rattle.jury.specs.Reason.{first_of}
-use Rattle.basics.proofs.Flags.{and_first, and_second}
+use Rattle.basics.proofs.Flags.{and_first}
 use Rattle.tally.specs.Answer.{size_of}
 use Rattle.tally.specs.Test.{test_reasons, test_outcome}
 use Rattle.tally.proofs.TestReasons.{test_passed}
 use Rattle.levels.proofs.Reasons.{ListFacts, list_facts}
-use Rattle.gates.specs.declared.place.Place.TheVariants.{Nowhere}
 use Rattle.trustee_gates.specs.Dealing.{only_bits}
-use Rattle.trustee_rounds.specs.Turns.{first_out_of_turn}
 use Rattle.trustee_alone.specs.Rounds.{table_reasons, round_reasons}
-use Rattle.trustee_alone.proofs.Tests.{passed, found_nowhere, both_passed, outcome_none}
+use Rattle.trustee_alone.proofs.Tests.{passed, both_passed, outcome_none}
 use Rattle.basics.proofs.Same.{same_true}
 use Rattle.trustee_alone.proofs.Sizes.{Fit, fit}
 
@@ -35,8 +32,6 @@ pub record Passed (s : Shape) (table : List ℕ) (round : ℕ) (levels triples h
   pub levels_length : length levels ≡ length (gates_of table)
   pub early : round ≤ rounds_of (ballot_bytes s) (gates_of table)
   pub heard_length : length heard ≡ 2 * conditional_count (gates_of table)
-  pub wires_bits : only_bits wire_parts ≡ true
-  pub turn : first_out_of_turn round levels (gates_of table) s.candidates published ≡ Nowhere
 
 -- facts about a list that has passed its test
 pub facts_by : (s : Shape) (table : List ℕ) → first_of (test_reasons s table) ≡ none
@@ -56,10 +51,10 @@ round_passed s table t p round levels triples heard wire_parts published e =
     let two = both_passed (test_reasons s table) _ e in
     let after16 = (passed _ 16 _ two.1).1 in
     let at17 = passed _ 17 _ after16 in
-    let at18 = passed _ 18 _ at17.1 in
-    let at200 = passed _ 200 _ at18.1 in
+    let after18 = (passed _ 18 _ at17.1).1 in
+    let at200 = passed _ 200 _ after18 in
     let at201 = passed _ 201 _ at200.1 in
-    let at202 = passed _ 202 _ at201.1 in
+    let at202 = (passed _ 202 _ at201.1).0 in
     let same = same_true levels (levels_of inputs gs) at200.0 in
     record {
       facts = facts_by s table two.0;
@@ -68,7 +63,5 @@ round_passed s table t p round levels triples heard wire_parts published e =
       levels_length = ap length same ∙ length_levels inputs gs;
       early = leb-true round (rounds_of inputs gs) at201.0;
       heard_length = eqb-true (length heard) (2 * conditional_count gs)
-          (and_first (eqb (length heard) (2 * conditional_count gs)) (only_bits heard) at202.0);
-      wires_bits = and_second (only_bits triples) (only_bits wire_parts) at18.0;
-      turn = (found_nowhere _ 203 _ at202.1).0;
+          (and_first (eqb (length heard) (2 * conditional_count gs)) (only_bits heard) at202);
     }

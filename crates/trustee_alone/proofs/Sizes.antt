@@ -1,7 +1,7 @@
 -- The sizes of a list that has passed its test, and of one trustee's tables.
 -- Assumes nothing.
 use mathlib.Core.Path.{◌≡◌, ◌∙◌, refl, ap}
-use mathlib.Core.Bool.{Bool, true, false, cond}
+use mathlib.Core.Bool.{Bool, true, false, cond, ◌&&◌}
 use mathlib.Core.List.{List, ◌++◌}
 use Prim.Native.Nat.{ℕ, zero, suc, ◌+◌, ◌*◌}
 use native.Mathlib.Nat.{zero-add, suc-add}
@@ -24,8 +24,8 @@ use Rattle.jury.proofs.Limits.{bounds, inputs_bound}
 use Rattle.tally.specs.Answer.{size_of}
 use Rattle.levels.proofs.Reasons.{ListFacts}
 use Rattle.trustees.specs.inner.Sizes.{SmallSizes}
-use Rattle.trustee_rounds.specs.Rounds.{start_wires, start_published, not_yet}
-use Rattle.trustee_alone.specs.Own.{wires_fit, own_tables_fit}
+use Rattle.trustee_rounds.specs.Rounds.{start_wires, start_published}
+use Rattle.trustee_alone.specs.Own.{own_tables_fit}
 use Rattle.basics.specs.Lists.{same_numbers}
 use Rattle.basics.proofs.Same.{same_true}
 use Rattle.trustee_alone.specs.inner.Ready.{TablesReady}
@@ -66,28 +66,18 @@ pub record Fit (inputs k : ℕ) (gs : List Gate) (triples wire_parts published :
   pub wires_length : length wire_parts ≡ inputs + length gs
   pub published_length : length published ≡ 2 * conditional_count gs + k
 
-pub wires_fit_lem : (inputs k : ℕ) (gs : List Gate) (wire_parts published : List ℕ)
-    → wires_fit inputs k (size_of gs) wire_parts published ≡ true
-    → (length wire_parts ≡ inputs + length gs) × (length published ≡ 2 * conditional_count gs + k)
-unfolding wires_fit size_of
-wires_fit_lem inputs k gs wire_parts published e =
-    let b = eqb (length wire_parts) (inputs + length gs) in
-    let c = eqb (length published) (2 * conditional_count gs + k) in (
-      eqb-true (length wire_parts) (inputs + length gs) (and_first b c e),
-      eqb-true (length published) (2 * conditional_count gs + k) (and_second b c e),
-    )
-
 pub fit : (inputs k : ℕ) (gs : List Gate) (triples wire_parts published : List ℕ)
     → own_tables_fit inputs k (size_of gs) triples wire_parts published ≡ true → Fit inputs k gs triples wire_parts published
 unfolding own_tables_fit size_of
 fit inputs k gs triples wire_parts published e =
     let a = eqb (length triples) (3 * conditional_count gs) in
-    let two = wires_fit_lem inputs k gs wire_parts published (and_second a (wires_fit inputs k (size_of gs) wire_parts published) e) in
+    let b = eqb (length wire_parts) (inputs + length gs) in
+    let c = eqb (length published) (2 * conditional_count gs + k) in
+    let two = and_first (a && b) c e in
     record {
-      triples_length = eqb-true (length triples) (3 * conditional_count gs)
-          (and_first a (wires_fit inputs k (size_of gs) wire_parts published) e);
-      wires_length = two.0;
-      published_length = two.1;
+      triples_length = eqb-true (length triples) (3 * conditional_count gs) (and_first a b two);
+      wires_length = eqb-true (length wire_parts) (inputs + length gs) (and_second a b two);
+      published_length = eqb-true (length published) (2 * conditional_count gs + k) (and_second (a && b) c e);
     }
 
 -- what the comparison of levels says
@@ -134,6 +124,6 @@ started parts wire_parts inputs gates e f =
     ∙ ap (λ (l : List ℕ). parts ++ l) (drop_zeros (length parts) gates)
 
 pub started_published_lem : (published : List ℕ) (conditional k : ℕ) → length published ≡ 2 * conditional + k
-    → replicate {A = ℕ} (length published) not_yet ≡ start_published conditional k
+    → replicate {A = ℕ} (length published) 0 ≡ start_published conditional k
 unfolding start_published
-started_published_lem published conditional k e = ap (λ (n : ℕ). replicate {A = ℕ} n not_yet) e
+started_published_lem published conditional k e = ap (λ (n : ℕ). replicate {A = ℕ} n 0) e

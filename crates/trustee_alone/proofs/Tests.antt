@@ -6,12 +6,11 @@ use mathlib.Core.Option.{Option, none, some}
 use mathlib.Core.List.{List, [], ◌∷◌, ◌++◌}
 use Prim.Native.Nat.{ℕ}
 use native.Mathlib.Omega.{arith}
-use Rattle.gates.specs.declared.place.Place.{Place}
-use Rattle.gates.specs.declared.place.Place.TheVariants.{At, Nowhere}
-use Rattle.jury.specs.Reason.{Reason, reason_at, unless, found_at, first_of}
-use Rattle.tally.specs.Answer.{Outcome, refused, accepted, outcome, afterwards}
+use Rattle.jury.specs.Reason.{Reason, reason_at, unless, first_of}
+use Rattle.tally.specs.Answer.{Outcome, refused, accepted, outcome, Size, afterwards}
 use Rattle.tally.proofs.TestReasons.{or_else, first_append}
 use Rattle.trustee_alone.specs.Own.{OwnResult}
+use Rattle.trustee_alone.specs.Finish.{FinishResult}
 
 -- the first reason, if the first test passes or fails
 pub pass : (b : Bool) (n : ℕ) (rest : List (Option Reason)) → b ≡ true → first_of (unless b n ∷ rest) ≡ first_of rest
@@ -26,20 +25,6 @@ pub passed : (b : Bool) (n : ℕ) (rest : List (Option Reason)) → first_of (un
 unfolding unless first_of
 passed true n rest e = (refl, e)
 passed false n rest e = let z : ◌≡◌ {A = ℕ} 0 1 = cc in absurd (omega arith)
-
--- the same for a search
-pub nowhere : (at : Place) (n : ℕ) (rest : List (Option Reason)) → at ≡ Nowhere → first_of (found_at n at ∷ rest) ≡ first_of rest
-unfolding found_at first_of
-nowhere at n rest e = rw e
-
-pub found : (at : Place) (n place : ℕ) (rest : List (Option Reason)) → at ≡ At place → first_of (found_at n at ∷ rest) ≡ some (reason_at n place)
-unfolding found_at first_of
-found at n place rest e = rw e
-
-pub found_nowhere : (at : Place) (n : ℕ) (rest : List (Option Reason)) → first_of (found_at n at ∷ rest) ≡ none → (at ≡ Nowhere) × (first_of rest ≡ none)
-unfolding found_at first_of
-found_nowhere Nowhere n rest e = (refl, e)
-found_nowhere (At place) n rest e = let z : ◌≡◌ {A = ℕ} 0 1 = cc in absurd (omega arith)
 
 pub end : first_of [] ≡ none
 end = unfold first_of in refl
@@ -87,3 +72,7 @@ left_new o new old e = rw e
 pub same_own : {Values : Type 0} {a a' : Outcome Values} {w w' q q' : List ℕ} → a ≡ a' → w ≡ w' → q ≡ q'
     → ◌≡◌ {A = OwnResult Values} (record { answer = a; wires = w; published = q }) (record { answer = a'; wires = w'; published = q' })
 same_own e f g = rw (e, f, g) refl
+
+pub same_finish : {a a' : Outcome Size} {w w' : List ℕ} → a ≡ a' → w ≡ w'
+    → ◌≡◌ {A = FinishResult} (record { answer = a; wires = w }) (record { answer = a'; wires = w' })
+same_finish e f = rw (e, f) refl

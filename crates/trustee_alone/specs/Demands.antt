@@ -19,14 +19,13 @@ use Rattle.trustees.specs.Result.{trustees_result}
 use Rattle.trustees.specs.Demands.{Way, Tallies}
 use Rattle.trustee_alone.specs.Start.{start_reason_numbers, start_outcome, started_wires, started_published}
 use Rattle.trustee_alone.specs.Rounds.{round_reason_numbers, round_outcome, rounded_wires, rounded_published}
-use Rattle.trustee_alone.specs.Finish.{finish_reason_numbers, finish_outcome, finished_wires, finished_published}
-use Rattle.trustee_alone.specs.Once.{PublishedOnce, BitsStay, InTurn}
+use Rattle.trustee_alone.specs.Finish.{finish_reason_numbers, finish_outcome, finished_wires}
 
 -- A table before and after a call.
 abbrev pub lent : (before after : List ℕ) → Lent
 lent before after = record { before = before; after = after }
 
--- Demand 1. Each call may write to the wire parts and the published bits; finish empties the wire parts.
+-- Demand 1. Start and rounds may write to the wire parts and the published bits; finish empties the wire parts.
 pub record AloneMemory : Type 0 where
   pub start : (s : Shape) (table : List ℕ) (t p : ℕ) (shares triples ws published : List ℕ)
       → KeepsMemory start_reason_numbers (start_outcome s table t p shares triples ws published)
@@ -36,11 +35,9 @@ pub record AloneMemory : Type 0 where
       → KeepsMemory round_reason_numbers (round_outcome s table t p round levels triples heard ws published)
       (lent ws (rounded_wires s table t p round levels triples heard ws published)
       ∷ lent published (rounded_published s table t p round levels triples heard ws published) ∷ []) []
-  pub finish : (s : Shape) (table ws published : List ℕ)
-      → KeepsMemory finish_reason_numbers (finish_outcome s table ws published)
-      (lent ws (finished_wires s table ws published)
-      ∷ lent published (finished_published s table ws published) ∷ [])
-      (lent ws (finished_wires s table ws published) ∷ [])
+  pub finish : (s : Shape) (table ws : List ℕ)
+      → KeepsMemory finish_reason_numbers (finish_outcome s table ws) (lent ws (finished_wires s table ws) ∷ [])
+      (lent ws (finished_wires s table ws) ∷ [])
 
 -- I of the call's shape.
 abbrev pub inputs_in : Call → ℕ
@@ -163,9 +160,6 @@ OwnTablesOnly =
 -- accepts.
 pub record AloneHolds : Type 0 where
   pub memory : AloneMemory
-  pub published_once : PublishedOnce
-  pub bits_stay : BitsStay
-  pub in_turn : InTurn
   pub own_tables_only : OwnTablesOnly
   pub tallies : Tallies apart
   pub no_earlier_view : NoEarlierView

@@ -3,5 +3,4 @@ pub mod inner
 pub mod Start
 pub mod Rounds
 pub mod Finish
-pub mod Once
 pub mod Demands

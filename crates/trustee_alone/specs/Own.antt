@@ -7,15 +7,11 @@ use Rattle.trustees.specs.Reasons.{most_trustees}
 unfoldable pub is_trustee : ℕ → ℕ → Bool
 is_trustee t p = leb 2 t && leb t most_trustees && ltb p t
 
--- Whether a trustee's wire parts and published bits have the right lengths.
-unfoldable pub wires_fit : ℕ → ℕ → Size → List ℕ → List ℕ → Bool
-wires_fit inputs k size wire_parts published =
-    eqb (length wire_parts) (inputs + size.gates) && eqb (length published) (2 * size.conditional + k)
-
--- Whether its triples have too.
+-- Whether a trustee's triples, wire parts and published bits have the right lengths.
 unfoldable pub own_tables_fit : ℕ → ℕ → Size → List ℕ → List ℕ → List ℕ → Bool
 own_tables_fit inputs k size triples wire_parts published =
-    eqb (length triples) (3 * size.conditional) && wires_fit inputs k size wire_parts published
+    eqb (length triples) (3 * size.conditional) && eqb (length wire_parts) (inputs + size.gates)
+    && eqb (length published) (2 * size.conditional + k)
 
 -- What a call leaves: its answer, the wire parts and what is published.
 pub record OwnResult (Values : Type 0) : Type 0 where

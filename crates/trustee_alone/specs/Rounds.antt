@@ -6,29 +6,27 @@ use Rattle.gates.specs.Board.{conditional_count}
 use Rattle.gate_levels.specs.Levels.{levels_of, rounds_of}
 use Rattle.jury.specs.declared.shape.Shape.{Shape}
 use Rattle.jury.specs.Shape.{ballot_bytes}
-use Rattle.jury.specs.Reason.{Reason, unless, found_at, first_of}
+use Rattle.jury.specs.Reason.{Reason, unless, first_of}
 use Rattle.tally.specs.Answer.{Outcome, outcome, size_of, afterwards}
 use Rattle.tally.specs.Test.{test_reasons, test_reason_numbers}
 use Rattle.levels.specs.Answer.{Depths, depths_of}
 use Rattle.trustee_gates.specs.Dealing.{only_bits}
 use Rattle.trustee_rounds.specs.Rounds.{Turn, enters, publishes, closes}
-use Rattle.trustee_rounds.specs.Turns.{first_out_of_turn}
 use Rattle.basics.specs.Lists.{same_numbers}
 use Rattle.trustee_alone.specs.Own.{is_trustee, own_tables_fit, OwnResult}
 
 -- The reasons after those of the list, in the order of their tests: 16, 17 and 18 of the trustee's number and
 -- tables; 200 if the level table is not the list's own; 201 for a round above R; 202 if the sums are not two bits
--- for each conditional gate; 203 at the first published place that is not as this round finds it.
+-- for each conditional gate.
 unfoldable pub table_reasons : ℕ → ℕ → List Gate → ℕ → ℕ → ℕ → List ℕ → List ℕ → List ℕ → List ℕ → List ℕ
     → List (Option Reason)
 table_reasons inputs k gs t p round levels triples heard wire_parts published =
     unless (is_trustee t p) 16
     ∷ unless (own_tables_fit inputs k (size_of gs) triples wire_parts published) 17
-    ∷ unless (only_bits triples && only_bits wire_parts) 18
+    ∷ unless (only_bits triples) 18
     ∷ unless (same_numbers levels (levels_of inputs gs)) 200
     ∷ unless (leb round (rounds_of inputs gs)) 201
     ∷ unless (eqb (length heard) (2 * conditional_count gs) && only_bits heard) 202
-    ∷ found_at 203 (first_out_of_turn round levels gs k published)
     ∷ []
 
 -- All reasons: 1, 2 and 3 of the list come first.
@@ -40,7 +38,7 @@ round_reasons s table t p round levels triples heard wire_parts published =
     published
 
 abbrev pub round_reason_numbers : List ℕ
-round_reason_numbers = test_reason_numbers ++ 16 ∷ 17 ∷ 18 ∷ 200 ∷ 201 ∷ 202 ∷ 203 ∷ []
+round_reason_numbers = test_reason_numbers ++ 16 ∷ 17 ∷ 18 ∷ 200 ∷ 201 ∷ 202 ∷ []
 
 -- The answer: a reason, or G, C and R.
 unfoldable pub round_outcome : Shape → List ℕ → ℕ → ℕ → ℕ → List ℕ → List ℕ → List ℕ → List ℕ → List ℕ → Outcome Depths

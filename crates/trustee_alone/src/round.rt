@@ -11,15 +11,13 @@ ghost use Rattle.jury.specs.Shape.{ballot_bytes};
 use crate::own;
 use gate_levels::level;
 use gate_levels::level::Compared;
-use gates::place::Place;
 use jury::reason::Refusal;
 use jury::shape::Shape;
 use levels::answer::{Answer, LevelRefusal};
 use trustee_gates::dealing;
 use trustee_rounds::round::Seat;
-use trustee_rounds::turn;
 
-// Tests for reasons 16 to 18 and 200 to 203, for a list that has passed its test.
+// Tests for reasons 16 to 18 and 200 to 202, for a list that has passed its test.
 fn test_tables(
     inputs: usize,
     k: usize,
@@ -49,7 +47,7 @@ fn test_tables(
     if !own::tables_fit(inputs, k, gates, conditional, triples, wires, published) {
         return Answer::Refused(LevelRefusal::OfCore(Refusal::PartTables));
     }
-    if !own::both_bits(triples, wires) {
+    if !dealing::only_bits(triples) {
         return Answer::Refused(LevelRefusal::OfCore(Refusal::Dealing));
     }
     if levels.len() != gates {
@@ -67,13 +65,10 @@ fn test_tables(
     if !dealing::only_bits(heard) {
         return Answer::Refused(LevelRefusal::Heard);
     }
-    match turn::first_out_of_turn(inputs, k, round, table, levels, published) {
-        Place::At(place) => Answer::Refused(LevelRefusal::OutOfTurn(place)),
-        Place::Nowhere => Answer::Accepted {
-            gates,
-            conditional,
-            rounds,
-        },
+    Answer::Accepted {
+        gates,
+        conditional,
+        rounds,
     }
 }
 

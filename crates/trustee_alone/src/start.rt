@@ -48,7 +48,7 @@ fn test_own(
     Verdict::Accepted
 }
 
-// Trustee p of t starts: its wire parts become its ballot parts, then zeros; nothing is published yet.
+// Trustee p of t starts: its wire parts become its ballot parts, then zeros; its published bits become zeros.
 pub fn start(
     shape: Shape,
     table: &[u32],
@@ -85,6 +85,6 @@ pub fn start(
     }
     basics::table::empty(wires);
     bytes::copy(shares, wires);
-    trustee_rounds::turn::clear(published);
+    basics::table::empty(published);
     answer
 }

@@ -86,7 +86,7 @@ module _ (inputs : ℕ) (table : List ℕ) where
             c_in = omega (arith, below.c_below, ap (λ (x : Gate). x.c) is);
           }
 
-      pub conditional_here : conditional_of n.kind ≡ true → i + 1 ≤ conditional_count (gates_of table)
+      conditional_here : conditional_of n.kind ≡ true → i + 1 ≤ conditional_count (gates_of table)
       conditional_here e = omega (arith, count_here, mark_one (gate_at table g) (ap (λ (x : Gate). conditional_of x.kind) (sym is) ∙ e))
 
       pub part_ready : (triples heard ws : List ℕ) → length ws ≡ inputs + length (gates_of table) → length triples ≡ 3

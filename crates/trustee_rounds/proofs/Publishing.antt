@@ -1,5 +1,5 @@
 -- What is published, level by level: after round r both masked factors are published for each conditional gate of a
--- level up to r + 1; for the others "not yet".
+-- level up to r + 1; for the others there are zeros.
 -- Assumes nothing.
 use mathlib.Core.Path.{◌≡◌, ◌∙◌, refl, sym, ap, subst}
 use mathlib.Core.Bool.{Bool, true, false, cond, ◌&&◌}
@@ -19,7 +19,7 @@ use Rattle.gate_levels.proofs.Laws.{operand_levels}
 use Rattle.trustee_shares.specs.Shares.{opened, part, first_factor, second_factor, masked_first, masked_second, Held, opened_first, opened_second, mark_of}
 use Rattle.trustee_shares.specs.Views.{masked_factors}
 use Rattle.trustee_shares.proofs.Accuracy.{opened_same, count_mark, mark_one}
-use Rattle.trustee_rounds.specs.Rounds.{publishes_gate, publishes, not_yet}
+use Rattle.trustee_rounds.specs.Rounds.{publishes_gate, publishes}
 use Rattle.trustee_rounds.specs.Together.{sums_from, sums_of}
 use Rattle.trustee_rounds.proofs.Entering.{GateFits, Fits, Heard, turn, Stands, wire_there}
 use Rattle.trustee_shares.proofs.Publishing.{mark_none}
@@ -59,8 +59,8 @@ module _ (t inputs : ℕ) (triples final : Held) (levels : List ℕ) where
   -- What trustee p has published for gate g after all levels below n were published.
   abbrev pub ShownGate : ℕ → ℕ → List ℕ → ℕ → ℕ → Gate → Type 0
   ShownGate p n published g i x = conditional_of x.kind ≡ true
-      → (part published (2 * i) ≡ cond (ltb (get_or levels g 0) n) (masked_first (final p) (triples p) i x) not_yet)
-      × (part published (2 * i + 1) ≡ cond (ltb (get_or levels g 0) n) (masked_second (final p) (triples p) i x) not_yet)
+      → (part published (2 * i) ≡ cond (ltb (get_or levels g 0) n) (masked_first (final p) (triples p) i x) 0)
+      × (part published (2 * i + 1) ≡ cond (ltb (get_or levels g 0) n) (masked_second (final p) (triples p) i x) 0)
 
   abbrev pub Shown : ℕ → ℕ → List ℕ → List Gate → ℕ → ℕ → Type 0
   Shown p n published [] g i = Unit {0}
@@ -88,11 +88,11 @@ module _ (t inputs : ℕ) (triples final : Held) (levels : List ℕ) where
         let l : get_or levels g 0 < suc r = omega arith in (
           sums_at t conditional (2 * i) published (omega arith)
               ∙ opened_same t (λ q. part (published q) (2 * i)) (λ q. masked_first (final q) (triples q) i x)
-              (λ (q : ℕ) h. ((s q h).0 is).0 ∙ ap (λ (b : Bool). cond b (masked_first (final q) (triples q) i x) not_yet)
+              (λ (q : ℕ) h. ((s q h).0 is).0 ∙ ap (λ (b : Bool). cond b (masked_first (final q) (triples q) i x) 0)
               (lt-ltb (get_or levels g 0) (suc r) l)),
           sums_at t conditional (2 * i + 1) published (omega arith)
               ∙ opened_same t (λ q. part (published q) (2 * i + 1)) (λ q. masked_second (final q) (triples q) i x)
-              (λ (q : ℕ) h. ((s q h).0 is).1 ∙ ap (λ (b : Bool). cond b (masked_second (final q) (triples q) i x) not_yet)
+              (λ (q : ℕ) h. ((s q h).0 is).1 ∙ ap (λ (b : Bool). cond b (masked_second (final q) (triples q) i x) 0)
               (lt-ltb (get_or levels g 0) (suc r) l)),
         ),
     heard_shown xs (suc g) (i + mark_of x) r conditional published (omega (arith, count_mark x xs)) (λ (q : ℕ) h. (s q h).1) p,
@@ -142,7 +142,7 @@ module _ (t inputs : ℕ) (triples final : Held) (levels : List ℕ) where
             }
           where
             later : (v : ℕ) (b : Bool) → ltb (get_or levels g 0) (suc r) ≡ b
-                → cond (ltb (get_or levels g 0) (suc r)) v not_yet ≡ cond (ltb (get_or levels g 0) (suc (suc r))) v not_yet
+                → cond (ltb (get_or levels g 0) (suc r)) v 0 ≡ cond (ltb (get_or levels g 0) (suc (suc r))) v 0
             later v true e = let k = ltb-true (get_or levels g 0) (suc r) e in rw (e, lt-ltb (get_or levels g 0) (suc (suc r)) (omega arith))
             later v false e = let k = ltb-false (get_or levels g 0) (suc r) e in let other =
                 eqb-false (get_or levels g 0) (suc r) f in
@@ -166,11 +166,11 @@ module _ (t inputs : ℕ) (triples final : Held) (levels : List ℕ) where
                 get_or-set_other (set published (2 * i) first) (suc (2 * i)) (2 * i) second 0 (λ e. omega arith)
                     ∙ get_or-set_same published (2 * i) first 0 (omega arith)
                     ∙ first_same ws (final p) (triples p) i x ea
-                    ∙ sym (ap (λ (b : Bool). cond b (masked_first (final p) (triples p) i x) not_yet) yes),
+                    ∙ sym (ap (λ (b : Bool). cond b (masked_first (final p) (triples p) i x) 0) yes),
                 ap (λ (j : ℕ). get_or (set (set published (2 * i) first) (suc (2 * i)) second) j 0) more
                     ∙ get_or-set_same (set published (2 * i) first) (suc (2 * i)) second 0 (omega arith)
                     ∙ second_same ws (final p) (triples p) i x eb ec
-                    ∙ sym (ap (λ (b : Bool). cond b (masked_second (final p) (triples p) i x) not_yet) yes),
+                    ∙ sym (ap (λ (b : Bool). cond b (masked_second (final p) (triples p) i x) 0) yes),
               );
               before = λ (j : ℕ) h. get_or-set_other (set published (2 * i) first) (suc (2 * i)) j second 0
                   (λ e. omega arith) ∙ get_or-set_other published (2 * i) j first 0 (λ e. omega arith);
@@ -258,9 +258,9 @@ module _ (t inputs : ℕ) (triples final : Held) (levels : List ℕ) where
           let b : suc (suc (2 * i)) ≡ 2 * (i + mark_of x) = omega arith in
           let d : 2 * i + 1 ≡ suc (2 * i) = omega arith in
           let f : i + mark_of x ≡ i + 1 = omega arith in
-          let va : get_or published (2 * i) 0 ≡ first = unfold part in (s.0 is).0 ∙ ap (λ (b : Bool). cond b first not_yet) yes in
+          let va : get_or published (2 * i) 0 ≡ first = unfold part in (s.0 is).0 ∙ ap (λ (b : Bool). cond b first 0) yes in
           let vb : get_or published (suc (2 * i)) 0 ≡ second = ap (λ (j : ℕ). get_or published j 0) (sym d)
-          ∙ (unfold part in (s.0 is).1 ∙ ap (λ (b : Bool). cond b second not_yet) yes) in
+          ∙ (unfold part in (s.0 is).1 ∙ ap (λ (b : Bool). cond b second 0) yes) in
           ap (λ (m : ℕ). take m (drop (2 * i) published)) a
           ∙ ap (λ (l : List ℕ). take (suc (suc (2 * conditional_count xs))) l)
           (drop-cons published (2 * i) 0 (omega arith)
@@ -302,9 +302,9 @@ module _ (inputs : ℕ) (levels : List ℕ) (p n : ℕ) where
           let h = heads f in
           let one = mark_one x is in
           let first : part a (2 * i) ≡ part b (2 * i) =
-          (s.0 is).0 ∙ ap (λ (v : ℕ). cond (ltb (get_or levels g 0) n) v not_yet) h.0 ∙ sym (s'.0 is).0 in
+          (s.0 is).0 ∙ ap (λ (v : ℕ). cond (ltb (get_or levels g 0) n) v 0) h.0 ∙ sym (s'.0 is).0 in
           let second : part a (2 * i + 1) ≡ part b (2 * i + 1) =
-          (s.0 is).1 ∙ ap (λ (v : ℕ). cond (ltb (get_or levels g 0) n) v not_yet) h.1 ∙ sym (s'.0 is).1 in
+          (s.0 is).1 ∙ ap (λ (v : ℕ). cond (ltb (get_or levels g 0) n) v 0) h.1 ∙ sym (s'.0 is).1 in
           let same : i + 1 ≡ i + mark_of x = omega arith in
           place first second
           (λ l. more (subst (λ (m : ℕ). masked_factors (final p) (triples p) m xs

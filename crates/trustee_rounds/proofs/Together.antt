@@ -7,7 +7,7 @@ use Prim.Native.Nat.{ℕ, zero, suc, ◌+◌, ◌-◌, ◌*◌, ◌≤◌, ◌<�
 use native.Mathlib.Nat.{add-zero, add-suc}
 use native.Mathlib.Omega.{arith}
 use lib.Dec.{ltb}
-use lib.ListN.{length, get_or, take, drop, replicate, get_or-replicate, length-append, length-replicate, length-drop, drop_of_length-le, get_or-append}
+use lib.ListN.{length, get_or, take, drop, replicate, length-append, length-replicate, length-drop, drop_of_length-le, get_or-append}
 use lib.Seq.{ext_get_or, get_or-append-add, sets, sets-eq, take_at}
 use borrow.Author.Tests.{ltb-true, ltb-false, lt-ltb, le-ltb, eq-eqb, ne_eqb}
 use Rattle.basics.proofs.Tables.{zeros_at}
@@ -23,20 +23,13 @@ use Rattle.gates.proofs.Reading.{Below, operands_below}
 use Rattle.gate_levels.proofs.Laws.{Leveled, levels_leveled, operand_levels, maximum_most}
 use Rattle.trustee_shares.specs.Shares.{part, Held, new_part, mark_of, parts_of}
 use Rattle.trustee_shares.specs.Views.{Dealing, ballots_of, triples_of, wire_parts_of, masked_factors, closing_parts, published_of}
-use Rattle.trustee_shares.proofs.Accuracy.{part_new, count_mark, mark_one}
+use Rattle.trustee_shares.proofs.Accuracy.{part_new}
 use Rattle.trustee_shares.proofs.Publishing.{length_masked}
 use Rattle.trustee_gates.proofs.Running.{SameParts, new_cong, parts_keep, length_parts}
-use Rattle.trustee_rounds.specs.Rounds.{Turn, enters, publishes, closes, start_wires, start_published, not_yet}
+use Rattle.trustee_rounds.specs.Rounds.{Turn, enters, publishes, closes, start_wires, start_published}
 use Rattle.trustee_rounds.specs.Together.{sums_of, Holdings, turn_of, parts_after, published_after, holdings_after, RoundsMakeTheTally, EarlierFollows}
-use Rattle.trustee_rounds.specs.Turns.{first_unlike, first_out_of_turn}
-use Rattle.trustee_rounds.proofs.InTurn.{blank_like, shown_like}
 use Rattle.trustee_rounds.proofs.Entering.{Fits, Heard, reached, turn, Stands, stands_end}
 use Rattle.trustee_rounds.proofs.Publishing.{Shown, heard_shown, Published, published_end, all_shown, same_shown}
-
--- an entry of a table of one number
-same_at : (n j : ℕ) → j < n → part (replicate {A = ℕ} n not_yet) j ≡ not_yet
-unfolding part
-same_at n j h = get_or-replicate n j not_yet 0 h
 
 -- a list's own levels and parts fit each of its gates
 fits_list : (t inputs : ℕ) (triples final : Held) (levels : List ℕ) → 1 ≤ inputs
@@ -128,18 +121,16 @@ module _ (t inputs k : ℕ) (gs : List Gate) (d : Dealing) (pos : 1 ≤ inputs) 
   level_most h = maximum_most (levels_of inputs gs) h
 
   -- a conditional gate's level is not 0, so nothing has to be published at the start
-  first_shown : (p : ℕ) (published : List ℕ) → (n : ℕ) → ((j : ℕ) → j < n → part published j ≡ not_yet) → (hs : List Gate) (g i : ℕ)
-      → 2 * (i + conditional_count hs) ≤ n → Fits t inputs triples final levels hs g i → Shown t inputs triples final levels p 1 published hs g i
-  first_shown p published n none [] g i room f = tt
-  first_shown p published n none (x ∷ xs) g i room f = (
+  first_shown : (p : ℕ) (published : List ℕ) → ((j : ℕ) → part published j ≡ 0) → (hs : List Gate) (g i : ℕ)
+      → Fits t inputs triples final levels hs g i → Shown t inputs triples final levels p 1 published hs g i
+  first_shown p published none [] g i f = tt
+  first_shown p published none (x ∷ xs) g i f = (
     λ is.
-        let c = count_mark x xs in
-        let one = mark_one x is in
         let mark : cond {A = ℕ} (conditional_of x.kind) 1 0 ≡ 1 = ap (λ (b : Bool). cond {A = ℕ} b 1 0) is in
         let high : 1 ≤ get_or levels g 0 = omega (arith, f.0.level, (operand_levels inputs levels x).a_level) in
         let late = le-ltb (get_or levels g 0) 1 high in
-        (none (2 * i) (omega arith) ∙ rw late refl, none (2 * i + 1) (omega arith) ∙ rw late refl),
-    first_shown p published n none xs (suc g) (i + mark_of x) (omega (arith, count_mark x xs)) f.1,
+        (none (2 * i) ∙ rw late refl, none (2 * i + 1) ∙ rw late refl),
+    first_shown p published none xs (suc g) (i + mark_of x) f.1,
   )
 
   -- What holds for trustee p after n rounds.
@@ -149,7 +140,7 @@ module _ (t inputs k : ℕ) (gs : List Gate) (d : Dealing) (pos : 1 ≤ inputs) 
     gate : (h : ℕ) → h < size → part (s.wire_parts p) (inputs + h) ≡ reached t inputs triples final levels p n h
     published_long : length (s.published p) ≡ 2 * C + k
     shown : Shown t inputs triples final levels p (suc n) (s.published p) gs 0 0
-    blank : (j : ℕ) → 2 * C ≤ j → j < 2 * C + k → part (s.published p) j ≡ not_yet
+    blank : (j : ℕ) → 2 * C ≤ j → part (s.published p) j ≡ 0
 
   at_start : (p : ℕ) → p < t → Reached 0 (holdings_after t inputs gs k d 0) p
   unfolding holdings_after start_wires start_published size C part
@@ -163,10 +154,9 @@ module _ (t inputs k : ℕ) (gs : List Gate) (d : Dealing) (pos : 1 ≤ inputs) 
             ap (λ (n : ℕ). get_or (b ++ replicate (length gs) 0) (n + h) 0) (sym long)
             ∙ get_or-append-add b (replicate (length gs) 0) h 0 ∙ zeros_at (length gs) h
             ∙ sym (ap (λ (c : Bool). cond c (get_or (final p) (inputs + h) 0) 0) (le-ltb (get_or levels h 0) 0 (omega arith)));
-        published_long = length-replicate {A = ℕ} (2 * conditional_count gs + k) not_yet;
-        shown = first_shown p (replicate (2 * conditional_count gs + k) not_yet) (2 * conditional_count gs + k)
-            (λ (j : ℕ) h. same_at (2 * conditional_count gs + k) j h) gs 0 0 (omega arith) fits;
-        blank = λ (j : ℕ) h m. same_at (2 * conditional_count gs + k) j m;
+        published_long = length-replicate {A = ℕ} (2 * conditional_count gs + k) 0;
+        shown = first_shown p (replicate (2 * conditional_count gs + k) 0) (λ (j : ℕ). zeros_at (2 * conditional_count gs + k) j) gs 0 0 fits;
+        blank = λ (j : ℕ) h. zeros_at (2 * conditional_count gs + k) j;
       }
 
   -- one round
@@ -233,7 +223,7 @@ module _ (t inputs k : ℕ) (gs : List Gate) (d : Dealing) (pos : 1 ≤ inputs) 
           gate = λ (x : ℕ) m. ap (λ (v : List ℕ). part v (inputs + x)) w ∙ enters_all.done x m;
           published_long = ap length q ∙ publishes_all.long ∙ (all p l).published_long;
           shown = subst (λ (v : List ℕ). Shown t inputs triples final levels p (suc (suc r)) v gs 0 0) (sym q) publishes_all.shows;
-          blank = λ (j : ℕ) m h. ap (λ (v : List ℕ). part v j) q ∙ publishes_all.behind j (omega (arith, m, count_is)) ∙ (all p l).blank j m h;
+          blank = λ (j : ℕ) m. ap (λ (v : List ℕ). part v j) q ∙ publishes_all.behind j (omega (arith, m, count_is)) ∙ (all p l).blank j m;
         }
 
     -- in the last round, all wire parts are final
@@ -282,17 +272,6 @@ module _ (t inputs k : ℕ) (gs : List Gate) (d : Dealing) (pos : 1 ≤ inputs) 
       next_reached r (holdings_after t inputs gs k d r) (before_last r (omega arith)) p l
       (holdings_after t inputs gs k d (suc r)) (unfold holdings_after in refl) (unfold holdings_after in refl)
       (omega arith)
-
-  -- what is published before round n is as that round finds it
-  pub in_turn : (n : ℕ) → n ≤ rounds_of inputs gs → (p : ℕ) → p < t
-      → first_out_of_turn n (levels_of inputs gs) gs k ((holdings_after t inputs gs k d n).published p) ≡ Nowhere
-  unfolding first_out_of_turn R C levels
-  in_turn n h p l =
-      let s = before_last n h p l in
-      let ps = (holdings_after t inputs gs k d n).published p in
-      let z : 2 * (0 + conditional_count gs) ≡ 2 * conditional_count gs = omega arith in
-      shown_like t inputs triples final (levels_of inputs gs) p n ps gs 0 0 (replicate k false) s.shown
-      (ap (λ (j : ℕ). first_unlike j (replicate k false) ps) z ∙ blank_like k (2 * conditional_count gs) ps s.blank)
 
   pub tally_made : (p : ℕ) → p < t
       → ((holdings_after t inputs gs k d (suc (rounds_of inputs gs))).wire_parts p ≡ wire_parts_of t inputs gs d p)
@@ -355,15 +334,15 @@ module _ (t inputs k : ℕ) (gs : List Gate) (d e : Dealing) (pos : 1 ≤ inputs
   published_earlier same =
       ext_get_or 0 ((holdings_after t inputs gs k d n).published p) ((holdings_after t inputs gs k e n).published p)
       (one.published_long ∙ sym other.published_long)
-      (λ (j : ℕ) m. at j (omega (arith, m, one.published_long)) (ltb j (2 * conditional_count gs)) refl)
+      (λ (j : ℕ) m. at j (ltb j (2 * conditional_count gs)) refl)
     where
-      at : (j : ℕ) → j < 2 * conditional_count gs + k → (b : Bool) → ltb j (2 * conditional_count gs) ≡ b
+      at : (j : ℕ) (b : Bool) → ltb j (2 * conditional_count gs) ≡ b
           → get_or ((holdings_after t inputs gs k d n).published p) j 0 ≡ get_or ((holdings_after t inputs gs k e n).published p) j 0
-      at j m true f =
+      at j true f =
           same_shown inputs (levels_of inputs gs) p (suc n) t (triples_of gs d) (wire_parts_of t inputs gs d)
           (triples_of gs e) (wire_parts_of t inputs gs e) gs 0 0 _ _ one.shown other.shown
           (factors_same same) j (omega arith) (omega (arith, ltb-true j (2 * conditional_count gs) f))
-      at j m false f = one.blank j (ltb-false j (2 * conditional_count gs) f) m ∙ sym (other.blank j (ltb-false j (2 * conditional_count gs) f) m)
+      at j false f = one.blank j (ltb-false j (2 * conditional_count gs) f) ∙ sym (other.blank j (ltb-false j (2 * conditional_count gs) f))
 
 pub earlier_follows : EarlierFollows
 earlier_follows t inputs k gs d e pos enough good bd be n h p l =

@@ -54,10 +54,6 @@ closes round last conditional k ws published =
 unfoldable pub start_wires : ℕ → List ℕ → List ℕ
 start_wires gates ballot_parts = ballot_parts ++ replicate gates 0
 
--- What a place holds as long as nothing is published there.
-abbrev pub not_yet : ℕ
-not_yet = 2
-
--- What a trustee has published at the start: nothing.
+-- What a trustee has published at the start: zeros.
 unfoldable pub start_published : ℕ → ℕ → List ℕ
-start_published conditional k = replicate (2 * conditional + k) not_yet
+start_published conditional k = replicate (2 * conditional + k) 0

@@ -1,4 +1,3 @@
 // One trustee's work, level by level, in its own tables. This crate knows gates and parts, but no juries.
 pub mod part;
 pub mod round;
-pub mod turn;

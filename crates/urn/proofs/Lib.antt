@@ -10,4 +10,3 @@ pub mod EmptyUrn
 pub mod Previews
 pub mod UrnTheorems
 pub mod UrnMemory
-pub mod Order

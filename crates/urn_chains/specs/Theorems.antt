@@ -1,5 +1,5 @@
--- An urn is sound exactly if it is the layout of two good chains, and these are unique. Believe only `layout` and
--- `good_chains`, with what they name; nobody has to follow how `sound` reads the chains.
+-- An urn is sound exactly if it is the layout of two good chains, and these are unique. So a reader can believe
+-- `layout` and `good_chains`, and need not follow how `sound` reads the chains.
 use Rattle.std.specs.Prelude.{◌≡◌, ◌↔◌, true, List, ℕ, ◌*◌, ◌≤◌}
 use Rattle.urn_chains.specs.Slots.{bytes_of}
 use Rattle.urn_chains.specs.Chains.{Entry, layout}

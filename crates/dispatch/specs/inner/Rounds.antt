@@ -1,5 +1,5 @@
 -- What the functions inside this crate require and promise.
-use Rattle.std.specs.Prelude.{◌≡◌, cond, List, [], ◌∷◌, ℕ, ◌+◌, ◌*◌, ◌≤◌, ltb, take}
+use Rattle.std.specs.Prelude.{◌≡◌, List, [], ◌∷◌, ℕ, ◌+◌, ◌*◌, ◌≤◌, max, take}
 use Rattle.std.proofs.Math.Option.{Option, none, some}
 use Rattle.gates.specs.Gate.{gates_of}
 use Rattle.gates.specs.Board.{conditional_count}
@@ -9,19 +9,24 @@ use Rattle.tally.specs.Answer.{Outcome, outcome, Size, size_of}
 use Rattle.tally.specs.declared.answer.Answer.{Answer}
 use Rattle.tally.specs.declared.answer.Answer.TheVariants as answer
 use Rattle.dispatch_rounds.specs.declared.header.JuryHeader.{JuryHeader}
-use Rattle.dispatch_rounds.specs.Tables.{Tables, tables_of, header_shape, list_of}
+use Rattle.dispatch_rounds.specs.Tables.{Tables, header_shape, list_of}
 use Rattle.dispatch_rounds.specs.Reasons.{reasons_of, jury_reasons}
-use Rattle.dispatch_rounds.specs.Rounds.{eight_of, rounds_with_gate, RoundState, most_juries, most_gates_per_round}
+use Rattle.dispatch_rounds.specs.Rounds.{eight_of, RoundState, most_juries, most_gates_per_round}
+use Rattle.gates.specs.Test.{most_gates}
 use Rattle.dispatch.specs.declared.verdict.Tests.{Tests}
 use Rattle.dispatch.specs.Call.{Call, juries_in}
 use Rattle.dispatch.specs.NoIdleRound.{NoIdleRound}
-unfoldable pub use Rattle.dispatch.specs.OneRound.{longest_list}
 use Rattle.dispatch.specs.Reasons.{verdict_reason}
 
 -- How many wires all juries have.
 unfoldable pub wire_bytes : List JuryHeader → ℕ
 wire_bytes [] = 0
 wire_bytes (s ∷ ss) = ballot_bytes (header_shape s) + s.gates + wire_bytes ss
+
+-- The number of gates of the longest list.
+unfoldable pub longest_list : List JuryHeader → ℕ
+longest_list [] = 0
+longest_list (s ∷ ss) = max s.gates (longest_list ss)
 
 -- How many conditional gates a jury has, counted in its piece of the lists.
 abbrev pub piece_conditional : JuryHeader → Tables → ℕ
@@ -50,29 +55,17 @@ pub record Ready (c : Call) (conditional : List ℕ) : Type 0 where
   pub accepted : first_of (jury_reasons 0 (juries_in c) c.tables) ≡ none
   pub conditional_are : conditional ≡ eight_of piece_conditional (juries_in c) c.tables
 
--- One more for each number that has grown.
-unfoldable pub count_grown : (numbers before after : List ℕ) → List ℕ
-count_grown [] before after = []
-count_grown (n ∷ ns) [] after = []
-count_grown (n ∷ ns) (x ∷ xs) [] = []
-count_grown (n ∷ ns) (x ∷ xs) (y ∷ ys) = (n + cond (ltb x y) 1 0) ∷ count_grown ns xs ys
+-- What counting the rounds requires: the numbers are so small that no sum wraps.
+pub record RoundsSmall (count : ℕ) (headers : List JuryHeader) (gates_per_round : ℕ) : Type 0 where
+  pub few : count ≤ most_juries
+  pub per_round_least : 1 ≤ gates_per_round
+  pub per_round_most : gates_per_round ≤ most_gates_per_round
+  pub gates_most : longest_list (take count headers) ≤ most_gates
 
--- What the rounds leave after `done` rounds: every jury has done all its gates, no round was idle, and the rounds in
--- which a jury's number of gates done grew are counted.
-pub record RoundsFinished (c : Call) (conditional wires boards rounds : List ℕ) : Type 0 where
+-- What the rounds leave after `done` rounds: every jury has done all its gates, and no round was idle.
+pub record RoundsFinished (c : Call) (conditional wires boards : List ℕ) : Type 0 where
   pub done : ℕ
   pub shown : List ℕ
   pub all : longest_list (juries_in c) ≤ done * c.gates_per_round
   pub none_idle : NoIdleRound c.gates_per_round done (juries_in c)
   pub state : RoundState (done * c.gates_per_round) (juries_in c) c.tables conditional wires boards shown
-  pub counted : rounds ≡ eight_of (λ (s : JuryHeader) (p : Tables). rounds_with_gate done s.gates c.gates_per_round)
-      (juries_in c) c.tables
-
--- What counting the shown bits requires: no jury is refused, for some other tables.
-pub record ShownReady (count : ℕ) (headers : List JuryHeader) (lists : List ℕ) : Type 0 where
-  pub few : count ≤ most_juries
-  pub ballots : List ℕ
-  pub tapes : List ℕ
-  pub wires : List ℕ
-  pub boards : List ℕ
-  pub accepted : first_of (jury_reasons 0 (take count headers) (tables_of lists ballots tapes wires boards)) ≡ none

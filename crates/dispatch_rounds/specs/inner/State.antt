@@ -1,19 +1,13 @@
 -- What the functions inside this crate require and promise.
 use Rattle.std.specs.Prelude.{◌≡◌, List, ℕ, ◌+◌, ◌*◌, ◌≤◌, ◌<◌, T, length, take}
-use Rattle.std.proofs.Math.Option.{none}
 use Rattle.gates.specs.Gate.{gates_of}
-use Rattle.gates.specs.Board.{conditional_count}
 use Rattle.gates.specs.inner.Step.{RunReady}
 use Rattle.jury.specs.Shape.{within_limits, ballot_bytes}
-use Rattle.jury.specs.Reason.{first_of}
+use Rattle.gates.specs.Test.{most_gates}
 use Rattle.dispatch_rounds.specs.declared.header.JuryHeader.{JuryHeader}
 use Rattle.dispatch_rounds.specs.declared.header.Places.{Places}
-use Rattle.dispatch_rounds.specs.declared.round.Turned.{Turned}
-use Rattle.dispatch_rounds.specs.declared.round.RoundDone.{RoundDone}
-use Rattle.dispatch_rounds.specs.Tables.{Tables, header_shape}
-use Rattle.dispatch_rounds.specs.Reasons.{jury_reasons}
-use Rattle.dispatch_rounds.specs.Rounds.{jury_wires, jury_board, jury_shown, jury_done, turn_wires, turn_board}
-use Rattle.dispatch_rounds.specs.Rounds.{round_wires, round_boards, eight_of, most_juries}
+use Rattle.dispatch_rounds.specs.Tables.{Tables, tables_of, header_shape}
+use Rattle.dispatch_rounds.specs.Rounds.{jury_wires, jury_board, jury_shown, RoundState, most_juries, most_gates_per_round}
 
 -- Where the next jury's pieces begin, after those of a jury with c conditional gates.
 abbrev pub places_after : Places → JuryHeader → ℕ → Places
@@ -44,35 +38,26 @@ pub record JuryState (given : ℕ) (s : JuryHeader) (p : Tables) (wires board : 
   pub board_is : board ≡ jury_board given s p
   pub count : shown ≡ jury_shown given s p
 
--- What a jury's turn requires: pieces that passed their tests, and the number of bits shown so far.
-pub record TurnReady (given : ℕ) (s : JuryHeader) (p : Tables) (shown : ℕ) : Type 0 where
-  pub run : RunReady p.ballots p.lists s.candidates p.tapes p.wires p.boards
-  pub gates : length (gates_of p.lists) ≡ s.gates
-  pub count : shown ≡ jury_shown given s p
-
--- What a turn leaves and answers.
-pub record TurnTaken (given gates_per_round : ℕ) (s : JuryHeader) (p : Tables) (wires board : List ℕ) (r : Turned)
+-- What a jury's turn requires: the jury between two rounds, for some old contents of its wire table and board.
+pub record TurnReady (given gates_per_round : ℕ) (s : JuryHeader) (list ballots tape wires board : List ℕ) (shown : ℕ)
     : Type 0 where
-  pub wires_are : wires ≡ turn_wires given gates_per_round s p
-  pub board_is : board ≡ turn_board given gates_per_round s p
-  pub done : r.done ≡ jury_done (given + gates_per_round) s p
-  pub shown : r.shown ≡ jury_shown (given + gates_per_round) s p
+  pub per_round_least : 1 ≤ gates_per_round
+  pub per_round_most : gates_per_round ≤ most_gates_per_round
+  pub wires_lent : List ℕ
+  pub board_lent : List ℕ
+  pub state : JuryState given s (tables_of list ballots tape wires_lent board_lent) wires board shown
 
--- What a round requires: no jury is refused, each one's number of conditional gates is known, and so is the number of
--- bits that it has shown.
-pub record RoundReady (count : ℕ) (headers : List JuryHeader) (given : ℕ) (t : Tables) (conditional shown : List ℕ)
-    : Type 0 where
+-- What a round requires: a call between two rounds. A jury has at most 1,048,576 gates, so at most that many rounds
+-- come before this one.
+pub record RoundReady (count : ℕ) (headers : List JuryHeader) (done gates_per_round : ℕ) (lists ballots tapes : List ℕ)
+    (conditional wires boards shown : List ℕ) : Type 0 where
   pub few : count ≤ most_juries
-  pub small : given < 18446744073709551616
-  pub accepted : first_of (jury_reasons 0 (take count headers) t) ≡ none
-  pub conditional_are : conditional ≡ eight_of (λ (s : JuryHeader) (p : Tables). conditional_count (gates_of p.lists))
-      (take count headers) t
-  pub shown_are : shown ≡ eight_of (jury_shown given) (take count headers) t
-
--- What a round leaves and answers.
-pub record RoundTaken (given gates_per_round : ℕ) (ss : List JuryHeader) (t : Tables) (wires boards : List ℕ)
-    (r : RoundDone) : Type 0 where
-  pub wires_are : wires ≡ round_wires given gates_per_round ss t
-  pub boards_are : boards ≡ round_boards given gates_per_round ss t
-  pub done : r.done ≡ eight_of (jury_done (given + gates_per_round)) ss t
-  pub shown : r.shown ≡ eight_of (jury_shown (given + gates_per_round)) ss t
+  pub per_round_least : 1 ≤ gates_per_round
+  pub per_round_most : gates_per_round ≤ most_gates_per_round
+  pub done_most : done ≤ most_gates
+  pub wires_lent : List ℕ
+  pub boards_lent : List ℕ
+  pub state : RoundState (done * gates_per_round) (take count headers)
+      (tables_of lists ballots tapes wires_lent boards_lent)
+      conditional
+      wires boards shown

@@ -1,28 +1,14 @@
--- `rehearsal::main` is safe: what was read lies within the input, and the text within its buffer.
+-- `rehearsal::main` is safe: the buffers are as long as the rehearsal requires, and the closing bytes lie on the
+-- board.
 -- Assumes nothing.
 use mathlib.Core.Path.{ap}
-use Prim.Native.Nat.{◌≤◌}
+use Prim.Native.Nat.{◌+◌, ◌≤◌}
 use native.Mathlib.Omega.{arith}
-use lib.ListN.{length, length-append, length-take}
+use lib.ListN.{length}
 use borrow.Author.Rules.{rules}
-use Rattle.reading.specs.Input.{length_of}
+use Rattle.rehearsal.specs.inner.Rehearses.{end_on}
 use Rattle.rehearsal.proofs.main.Statement.{statement}
 use Rattle.rehearsal.proofs.main.Tie as tie
-
-slice_aggregate_read_all : tie.Need-slice-aggregate-read-all
-slice_aggregate_read_all c = search rules
-
-read_all_requires : tie.Need-read-all-requires
-read_all_requires c κs = search rules
-
-enum_known_got : tie.Need-enum-known-got
-enum_known_got c = search rules
-
-enum_told : tie.Need-enum-told
-enum_told c = search rules
-
-returns : tie.Need-returns
-returns c = search rules
 
 table_requires : tie.Need-table-requires
 table_requires c κs = search rules
@@ -37,73 +23,85 @@ board_requires : tie.Need-board-requires
 board_requires c κs = search rules
 
 -- The stages of the function, seen from later ones.
-abbrev got_from_board : tie.After-board → tie.After-got
-got_from_board c = c.before.before.before.before.before
+abbrev rehearse_from_shape : tie.After-shape → tie.After-rehearse
+rehearse_from_shape c = c.before.before.before.before.before
 
-abbrev board_from_text : tie.After-text → tie.After-board
-board_from_text c = c.before.before.before.before.before.before
+-- the closing bytes end on the board
+ends : (c : tie.After-known-told2) → c.before.shape.given.0.1.0 + c.before.shape.given.0.0.candidates
+    ≤ length (rehearse_from_shape c.before).rehearse.last.1.1.1.1.0
+unfolding end_on
+ends c =
+    let r = (rehearse_from_shape c.before) in
+    omega (arith, r.rehearse.ensures.on_board, ap end_on c.before.shape.given.1)
 
--- the input lies within its buffer
-read_within : (c : tie.After-got) → c.got.given.0.0 ≤ length c.before.before.before.read_all.new.1.0
-unfolding length_of
-read_within c = omega (arith, c.before.before.before.read_all.ensures.short, ap length_of c.got.given.1)
+slice_aggregate_read_full : tie.Need-slice-aggregate-read-full
+slice_aggregate_read_full c = search rules
 
--- the text lies within its buffer
-text_within : (c : tie.After-text2) → c.text2.result ≤ length c.text2.new.1.1.1.1.1.0
-text_within c = omega (arith, c.text2.ensures.long, simp length-append at (ap length c.text2.ensures.is))
+read_full_requires : tie.Need-read-full-requires
+read_full_requires c κs = search rules
 
 array_share_prefix_input : tie.Need-array-share-prefix-input
-array_share_prefix_input c = read_within (got_from_board c)
+array_share_prefix_input c = search rules
 
-slice_aggregate_text : tie.Need-slice-aggregate-text
-slice_aggregate_text c =
-    let g = got_from_board c.before in
-    omega (arith, read_within g, length-take g.got.given.0.0 g.before.before.before.read_all.last.1.0)
+slice_aggregate_rehearse : tie.Need-slice-aggregate-rehearse
+slice_aggregate_rehearse c = search rules
 
-slice_aggregate_text_2 : tie.Need-slice-aggregate-text-2
-slice_aggregate_text_2 c = search rules
+slice_aggregate_rehearse_2 : tie.Need-slice-aggregate-rehearse-2
+slice_aggregate_rehearse_2 c = search rules
 
-slice_aggregate_text_3 : tie.Need-slice-aggregate-text-3
-slice_aggregate_text_3 c = search rules
+slice_aggregate_rehearse_3 : tie.Need-slice-aggregate-rehearse-3
+slice_aggregate_rehearse_3 c = search rules
 
-slice_aggregate_text_4 : tie.Need-slice-aggregate-text-4
-slice_aggregate_text_4 c = search rules
+slice_aggregate_rehearse_4 : tie.Need-slice-aggregate-rehearse-4
+slice_aggregate_rehearse_4 c = search rules
 
-slice_aggregate_text_5 : tie.Need-slice-aggregate-text-5
-slice_aggregate_text_5 c = search rules
+slice_aggregate_rehearse_5 : tie.Need-slice-aggregate-rehearse-5
+slice_aggregate_rehearse_5 c = search rules
 
-slice_aggregate_text_6 : tie.Need-slice-aggregate-text-6
-slice_aggregate_text_6 c = search rules
+rehearse_requires : tie.Need-rehearse-requires
+rehearse_requires c κs = search rules
 
-text_requires : tie.Need-text-requires
-text_requires c κs =
-    let b = board_from_text c in
-    let t = b.before.before.before in
-    let g = got_from_board b in
-    let r = g.before.before.before in
-    record {
-      table_is = t.table.ensures.zeros;
-      buffers = record {
-        table_length = omega (arith, t.table.ensures.long);
-        tape_length = omega (arith, b.before.before.tape.ensures.long);
-        tape_bits = b.before.before.tape.ensures.bits;
-        wires_length = omega (arith, b.before.wires.ensures.long);
-        board_length = omega (arith, b.board.ensures.long);
-      };
-      kept = omega (arith, length-take g.got.given.0.0 r.read_all.last.1.0, r.read_all.kept.1.0);
-      room = search rules;
-    }
+enum_known_reason : tie.Need-enum-known-reason
+enum_known_reason c = search rules
 
-array_share_prefix_text : tie.Need-array-share-prefix-text
-array_share_prefix_text c = text_within c.before.before.before.before
+number_requires : tie.Need-number-requires
+number_requires c κs = search rules
 
-slice_aggregate_write_all : tie.Need-slice-aggregate-write-all
-slice_aggregate_write_all c =
-    let t = c.before.before.before.before.before in
-    omega (arith, text_within t, length-take t.text2.result t.text2.new.1.1.1.1.1.0)
+place_requires : tie.Need-place-requires
+place_requires c κs = search rules
 
-write_all_requires : tie.Need-write-all-requires
-write_all_requires c κs = search rules
+print_refused_requires : tie.Need-print-refused-requires
+print_refused_requires c κs = search rules
+
+enum_known_shape : tie.Need-enum-known-shape
+enum_known_shape c = search rules
+
+print_jury_requires : tie.Need-print-jury-requires
+print_jury_requires c κs = search rules
+
+slice_aggregate_print_bytes : tie.Need-slice-aggregate-print-bytes
+slice_aggregate_print_bytes c = search rules
+
+add_print_bytes : tie.Need-overflow-add-print-bytes
+add_print_bytes c =
+    let told = c.before.before.before in
+    let r = (rehearse_from_shape told.before) in
+    record { fits = omega (arith, ends told, r.rehearse.kept.1.1.1.1.0) }
+
+sub_print_bytes : tie.Need-overflow-sub-print-bytes
+sub_print_bytes c = search rules
+
+part_print_bytes_start : tie.Need-slice-bounds-print-bytes-start
+part_print_bytes_start c = search rules
+
+part_print_bytes_end : tie.Need-slice-bounds-print-bytes-end
+part_print_bytes_end c = ends c.before.before.before.before
+
+print_bytes_requires : tie.Need-print-bytes-requires
+print_bytes_requires c κs = search rules
+
+returns : tie.Need-returns
+returns c = search rules
 
 returns_2 : tie.Need-returns-2
 returns_2 c = search rules
@@ -112,24 +110,30 @@ pub main_spec : {M : Type 1} → statement M
 main_spec =
     tie.close
     (tie.spec
-    slice_aggregate_read_all
-    read_all_requires
-    enum_known_got
-    enum_told
-    returns
     table_requires
     tape_requires
     wires_requires
     board_requires
+    slice_aggregate_read_full
+    read_full_requires
     array_share_prefix_input
-    slice_aggregate_text
-    slice_aggregate_text_2
-    slice_aggregate_text_3
-    slice_aggregate_text_4
-    slice_aggregate_text_5
-    slice_aggregate_text_6
-    text_requires
-    array_share_prefix_text
-    slice_aggregate_write_all
-    write_all_requires
+    slice_aggregate_rehearse
+    slice_aggregate_rehearse_2
+    slice_aggregate_rehearse_3
+    slice_aggregate_rehearse_4
+    slice_aggregate_rehearse_5
+    rehearse_requires
+    enum_known_reason
+    number_requires
+    place_requires
+    print_refused_requires
+    enum_known_shape
+    print_jury_requires
+    slice_aggregate_print_bytes
+    add_print_bytes
+    sub_print_bytes
+    part_print_bytes_start
+    part_print_bytes_end
+    print_bytes_requires
+    returns
     returns_2)

@@ -61,14 +61,6 @@ pub record PublishPass (inputs round : ℕ) (table levels triples ws published :
   pub early : round < 1073741824
   pub published_length : 2 * conditional_count (gates_of table) ≤ length published
 
--- The gates are good, and the published places are those of the list and of k closing bits.
-pub record TurnPass (inputs k : ℕ) (table levels published : List ℕ) : Type 0 where
-  pub some_input : 1 ≤ inputs
-  pub few : inputs + length (gates_of table) < 1073741824
-  pub good : first_bad inputs 0 (gates_of table) ≡ Nowhere
-  pub levels_length : length levels ≡ length (gates_of table)
-  pub published_length : length published ≡ 2 * conditional_count (gates_of table) + k
-
 pub record RoundReady (seat : Seat) (conditional k : ℕ) (table levels triples heard ws published : List ℕ) : Type 0
   where
     pub pass : Pass seat.inputs table levels triples ws

@@ -1,8 +1,12 @@
 -- `basics::table::copy_words` meets its contract: after i turns the first i words are copied, the others unchanged.
 -- Assumes nothing.
-use Rattle.basics.proofs.Common.{◌≡◌, ◌∙◌, refl, sym, ap, List, ◌++◌, ℕ, suc, ◌-◌, ◌≤◌, ◌<◌, add-one, arith}
-use Rattle.basics.proofs.Common.{length, get_or, take, drop, set, length-set, drop-cons, set_at, length-take-le}
-use Rattle.basics.proofs.Common.{append_snoc, take-suc, take_all}
+use mathlib.Core.Path.{◌≡◌, ◌∙◌, refl, sym, ap}
+use mathlib.Core.List.{List, ◌++◌}
+use Prim.Native.Nat.{ℕ, suc, ◌-◌, ◌≤◌, ◌<◌}
+use native.Mathlib.Numerals.{add-one}
+use native.Mathlib.Omega.{arith}
+use lib.ListN.{length, get_or, take, drop, set, length-set}
+use lib.Seq.{drop-cons, set_at, length-take-le, append_snoc, take-suc, take_all}
 use Rattle.basics.proofs.table.copy_words.Statement.{statement}
 use Rattle.basics.proofs.table.copy_words.Tie as tie
 
@@ -25,6 +29,27 @@ invariant_loop from to₀ i₀ to i = (i ≤ length from) × (length to ≡ leng
 abbrev decreases_loop : tie.decreases-loop
 decreases_loop from to₀ i₀ to i = length from - i
 
+loop_holds : tie.Need-loop-init invariant_loop decreases_loop
+loop_holds c = (omega arith, refl, refl)
+
+mul_to : tie.Need-overflow-mul-to invariant_loop decreases_loop
+mul_to c = omega arith
+
+shared_slice_read_to : tie.Need-shared-slice-read-to invariant_loop decreases_loop
+shared_slice_read_to c = omega arith
+
+mul_to_2 : tie.Need-overflow-mul-to-2 invariant_loop decreases_loop
+mul_to_2 c = omega arith
+
+slice_write_to : tie.Need-slice-write-to invariant_loop decreases_loop
+slice_write_to c = omega arith
+
+add_i : tie.Need-overflow-add-i invariant_loop decreases_loop
+add_i c = omega arith
+
+loop_less : tie.Need-loop-smaller invariant_loop decreases_loop
+loop_less c = omega arith
+
 loop_again : tie.Need-loop-preserved invariant_loop decreases_loop
 loop_again c =
     let at = c.before.before in
@@ -37,11 +62,25 @@ loop_again c =
           ∙ ap (λ (n : ℕ). take n from ++ drop n to) (sym (add-one l.i)),
     )
 
+same_length : tie.Need-same-length invariant_loop decreases_loop
+same_length c = c.before.loop.invariant.1
+
 returns : tie.Need-returns invariant_loop decreases_loop
 returns c = let l = c.before.loop in l.invariant.2 ∙ all _ _ l.i (omega arith)
 
 pub copy_words_spec : {M : Type 1} → statement M
 copy_words_spec =
     tie.close
-    (tie.spec invariant_loop decreases_loop (λ c. (omega arith, refl, refl)) (λ c. omega arith) (λ c. omega arith) (λ c. omega arith)
-    (λ c. omega arith) (λ c. omega arith) (λ c. omega arith) loop_again (λ c. c.before.loop.invariant.1) returns)
+    (tie.spec
+    invariant_loop
+    decreases_loop
+    loop_holds
+    mul_to
+    shared_slice_read_to
+    mul_to_2
+    slice_write_to
+    add_i
+    loop_less
+    loop_again
+    same_length
+    returns)

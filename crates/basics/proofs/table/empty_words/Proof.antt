@@ -1,7 +1,11 @@
 -- `basics::table::empty_words` meets its contract: after i turns the first i words are 0, the others unchanged.
 -- Assumes nothing.
-use Rattle.basics.proofs.Common.{◌≡◌, ◌∙◌, refl, ap, List, ◌++◌, ℕ, ◌-◌, ◌≤◌, arith, length, set, drop}
-use Rattle.basics.proofs.Common.{replicate, length-set, fill_more}
+use mathlib.Core.Path.{◌≡◌, ◌∙◌, refl, ap}
+use mathlib.Core.List.{List, ◌++◌}
+use Prim.Native.Nat.{ℕ, ◌-◌, ◌≤◌}
+use native.Mathlib.Omega.{arith}
+use lib.ListN.{length, set, drop, replicate, length-set}
+use borrow.Author.Fill.{fill_more}
 use Rattle.basics.proofs.table.empty_words.Statement.{statement}
 use Rattle.basics.proofs.table.empty_words.Tie as tie
 use Rattle.basics.proofs.Tables.{all_emptied}
@@ -12,6 +16,21 @@ invariant_loop words₀ i₀ words i = (i ≤ length words₀) × (length words 
 abbrev decreases_loop : tie.decreases-loop
 decreases_loop words₀ i₀ words i = length words₀ - i
 
+loop_holds : tie.Need-loop-init invariant_loop decreases_loop
+loop_holds c = (omega arith, refl, refl)
+
+mul_words : tie.Need-overflow-mul-words invariant_loop decreases_loop
+mul_words c = omega arith
+
+slice_write_words : tie.Need-slice-write-words invariant_loop decreases_loop
+slice_write_words c = omega arith
+
+add_i : tie.Need-overflow-add-i invariant_loop decreases_loop
+add_i c = omega arith
+
+loop_less : tie.Need-loop-smaller invariant_loop decreases_loop
+loop_less c = omega arith
+
 loop_again : tie.Need-loop-preserved invariant_loop decreases_loop
 loop_again c =
     let xs = c.before.before.args.words.now in
@@ -21,9 +40,12 @@ loop_again c =
       ap (λ (r : List ℕ). set r l.i 0) l.invariant.2 ∙ fill_more l.i 0 xs (omega arith),
     )
 
+same_length : tie.Need-same-length invariant_loop decreases_loop
+same_length c = c.before.loop.invariant.1
+
 returns : tie.Need-returns invariant_loop decreases_loop
 returns c = let l = c.before.loop in l.invariant.2 ∙ all_emptied l.i _ (omega arith)
 
 pub empty_words_spec : {M : Type 1} → statement M
-empty_words_spec = tie.close (tie.spec invariant_loop decreases_loop (λ c. (omega arith, refl, refl)) (λ c. omega arith)
-    (λ c. omega arith) (λ c. omega arith) (λ c. omega arith) loop_again (λ c. c.before.loop.invariant.1) returns)
+empty_words_spec = tie.close (tie.spec invariant_loop decreases_loop loop_holds mul_words slice_write_words add_i loop_less
+    loop_again same_length returns)

@@ -40,10 +40,10 @@ inside : (c : tie.After-shared-slice-known invariant_loop decreases_loop) → 2 
 inside c = omega (arith, c.before.loop-test.true, c.before.before.before.requires)
 
 add_answer : tie.Need-overflow-add-answer invariant_loop decreases_loop
-add_answer c = omega (arith, c.before.before.before.well_formed, inside c)
+add_answer c = omega (arith, c.before.before.before.well-formed, inside c)
 
 mul_answer_2 : tie.Need-overflow-mul-answer-2 invariant_loop decreases_loop
-mul_answer_2 c = omega (arith, c.before.before.before.well_formed, inside c)
+mul_answer_2 c = omega (arith, c.before.before.before.well-formed, inside c)
 
 slice_write_answer_3 : tie.Need-slice-write-answer-3 invariant_loop decreases_loop
 slice_write_answer_3 c = omega (arith, inside c, kept c.before.before)

@@ -48,7 +48,7 @@ returns c =
     let start = told.before.before.before in
     let rounds = start.args.t2 in
     let e = ap (λ (v : JuriesVerdict). told_numbers (verdict_reason v) rounds) told.enum_told.given.1 in
-    let long : 2 + length rounds ≡ dispatch_answer = omega (arith, start.well_formed) in
+    let long : 2 + length rounds ≡ dispatch_answer = omega (arith, start.well-formed) in
     puts_same (sym e) (puts_long long put.put-answer.ensures)
 
 same_length_2 : tie.Need-same-length-2
@@ -64,7 +64,7 @@ returns_2 c =
     let rounds = start.args.t2 in
     let known = told.verdict.given in
     let e = ap (λ (v : JuriesVerdict). told_numbers (verdict_reason v) rounds) known.1 in
-    let long : 2 + length rounds ≡ dispatch_answer = omega (arith, start.well_formed) in
+    let long : 2 + length rounds ≡ dispatch_answer = omega (arith, start.well-formed) in
     puts_same (ap (λ (m : ℕ). m ∷ known.0.1.0 ∷ rounds) number.number.ensures ∙ sym e)
     (puts_long long put.put-answer2.ensures)
 

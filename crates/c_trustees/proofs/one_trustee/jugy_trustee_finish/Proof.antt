@@ -8,9 +8,8 @@ use Rattle.jury.specs.declared.shape.Shape.{Shape}
 use Rattle.jury.specs.Shape.{within_limits}
 use Rattle.jury.specs.Reason.{reason_of}
 use Rattle.jury.proofs.Constructed.{shape_is, outside_is}
-use Rattle.tally.specs.Answer.{outcome_of, Size}
-use Rattle.trustee_alone.specs.Own.{OwnResult}
-use Rattle.trustee_alone.specs.Finish.{finish_result}
+use Rattle.tally.specs.Answer.{outcome_of}
+use Rattle.trustee_alone.specs.Finish.{FinishResult, finish_result}
 use Rattle.trustee_alone.proofs.Outside.{outside_finish}
 use Rattle.c_answers.specs.Numbers.{size_answer, size_numbers, shape_of}
 use Rattle.c_answers.proofs.Answering.{short_call, put_call}
@@ -18,27 +17,27 @@ use Rattle.c_trustees.proofs.one_trustee.jugy_trustee_finish.Statement.{statemen
 use Rattle.c_trustees.proofs.one_trustee.jugy_trustee_finish.Tie as tie
 
 -- What the entry point leaves for a shape, by its other arguments at the start; and what this call leaves.
-abbrev left_for : Shape → tie.Start → OwnResult Size
+abbrev left_for : Shape → tie.Start → FinishResult
 left_for s start =
     let a = start.args in
-    finish_result s a.table.now a.wires.now a.published.now
+    finish_result s a.table.now a.wires.now
 
-abbrev left_by : tie.Start → OwnResult Size
+abbrev left_by : tie.Start → FinishResult
 left_by start = left_for (shape_of start.args.candidates start.args.grades start.args.ballots) start
 
 -- The stages: the answer array is too short; it is long enough.
 abbrev started_short : tie.Then1 → tie.Start
-started_short c = c.before.before.before.before.before
+started_short c = c.before.before.before.before
 
 abbrev started : tie.Else1 → tie.Start
-started c = c.before.before.before.before.before
+started c = c.before.before.before.before
 
 returns : tie.Need-returns
 unfolding shape_of
 returns c =
     let a = (started_short c).args in
     let r = left_by (started_short c) in
-    short_call size_answer a.answer.now c.if1.true (size_numbers r.answer) (a.wires.now ∷ a.published.now ∷ []) (r.wires ∷ r.published ∷ [])
+    short_call size_answer a.answer.now c.if1.true (size_numbers r.answer) (a.wires.now ∷ []) (r.wires ∷ [])
 
 new_requires : tie.Need-new-requires
 new_requires c κs = search rules
@@ -65,10 +64,10 @@ returns_2 c =
     let s = shape_of a.candidates a.grades a.ballots in
     let outside = outside_is (within_limits s) s (sym made.new.ensures.result ∙ told.enum_told.given.1) in
     let r = left_by (started long) in
-    let left = outside_finish s outside a.table.now a.wires.now a.published.now in
+    let left = outside_finish s outside a.table.now a.wires.now in
     put_call size_answer a.answer.now long.if1.false (size_numbers r.answer) _ _ _ c.before.before.put-size.ensures
-    (ap (λ (z : (OwnResult Size)). size_numbers z.answer) (sym left)) (a.wires.now ∷ a.published.now ∷ []) (r.wires ∷ r.published ∷ []) _
-    (ap (λ (z : (OwnResult Size)). z.wires ∷ z.published ∷ []) (sym left))
+    (ap (λ (z : FinishResult). size_numbers z.answer) (sym left)) (a.wires.now ∷ []) (r.wires ∷ []) _
+    (ap (λ (z : FinishResult). z.wires ∷ []) (sym left))
 
 finish_requires : tie.Need-finish-requires
 finish_requires c κs = search rules
@@ -82,14 +81,11 @@ same_length_2 c = search rules
 same_length_3 : tie.Need-same-length-3
 same_length_3 c = search rules
 
-same_length_4 : tie.Need-same-length-4
-same_length_4 c = search rules
-
 returns_3 : tie.Need-returns-3
 unfolding shape_of
 returns_3 c =
-    let outcome = c.before.before.before.before.before.before.before.before in
-    let known = outcome.before.before.before.before in
+    let outcome = c.before.before.before.before.before.before in
+    let known = outcome.before.before.before in
     let made = known.before.before in
     let long = made.before in
     let a = (started long).args in
@@ -98,8 +94,8 @@ returns_3 c =
     let r = left_by (started long) in
     let left = outcome.finish.ensures ∙ ap (λ (z : Shape). left_for z (started long)) same in
     put_call size_answer a.answer.now long.if1.false (size_numbers r.answer) _ _ _ c.before.before.put-size2.ensures
-    (ap (λ (z : (OwnResult Size)). size_numbers z.answer) left) (a.wires.now ∷ a.published.now ∷ []) (r.wires ∷ r.published ∷ []) _
-    (ap (λ (z : (OwnResult Size)). z.wires ∷ z.published ∷ []) left)
+    (ap (λ (z : FinishResult). size_numbers z.answer) left) (a.wires.now ∷ []) (r.wires ∷ []) _
+    (ap (λ (z : FinishResult). z.wires ∷ []) left)
 
 pub jugy_trustee_finish_spec : {M : Type 1} → statement M
 jugy_trustee_finish_spec =
@@ -116,5 +112,4 @@ jugy_trustee_finish_spec =
     put_size_requires_2
     same_length_2
     same_length_3
-    same_length_4
     returns_3)

@@ -18,7 +18,7 @@ use Rattle.dispatch_rounds.specs.Reasons.{jury_reasons}
 use Rattle.dispatch.specs.Call.{Call, juries_in}
 use Rattle.dispatch.specs.Reasons.{verdict_reason}
 use Rattle.dispatch.specs.Result.{DispatchResult, dispatch_result_after, dispatch_result}
-use Rattle.dispatch.proofs.Whole.{bad_count, bad_per_round, by_juries, result_by, same_result, wires_room, all_rounds, boards_end, emptied}
+use Rattle.dispatch.proofs.Whole.{bad_count, bad_per_round, by_juries, result_by, same_result, few_gates, wires_room, boards_end, emptied}
 use Rattle.dispatch.proofs.dispatch.dispatch.Statement.{statement}
 use Rattle.dispatch.proofs.dispatch.dispatch.Tie as tie
 
@@ -164,6 +164,18 @@ slice_aggregate_empty c = sym (length-take-le _ _ (room c.before.before.before.b
 empty_requires : tie.Need-empty-requires
 empty_requires c κs = search rules
 
+rounds_of_requires : tie.Need-rounds-of-requires
+rounds_of_requires c κs =
+    let t = passed c.before.before.before.before.before.before.before.before in
+    let of = call (begun (tested t)) in
+    let two = limited (tested t) in
+    record {
+      few = few (counted two);
+      per_round_least = least two;
+      per_round_most = most two;
+      gates_most = few_gates 0 (juries_in of) of.tables (no_reason t);
+    }
+
 same_length_3 : tie.Need-same-length-3
 same_length_3 c = search rules
 
@@ -173,7 +185,7 @@ same_length_4 c = search rules
 returns_4 : tie.Need-returns-4
 unfolding dispatch_result_after
 returns_4 c =
-    let zeroed = c.before.before in
+    let zeroed = c.before.before.before in
     let run = zeroed.before.before.before.before.before.before in
     let t = passed run in
     let of = call (begun (tested t)) in
@@ -181,8 +193,7 @@ returns_4 c =
     let given = fin.done * of.gates_per_round in
     let e = by_tests (tested t) none (passes t) in
     same_result _ _ (passes t ∙ sym (ap (λ (d : DispatchResult). d.reason) e))
-    (fin.counted ∙ all_rounds fin.done of.gates_per_round (least (limited (tested t))) (juries_in of) of.tables fin.all
-    ∙ sym (ap (λ (d : DispatchResult). d.rounds) e))
+    (c.rounds-of.ensures of.tables ∙ sym (ap (λ (d : DispatchResult). d.rounds) e))
     (emptied given (juries_in of) of.tables (no_reason t) (tested t).test-juries.result.wires
     run.run-rounds.new.1.1.1.1.1.1.1.0 zeroed.empty.new.0 ((tested t).test-juries.ensures.wires (passes t))
     fin.state.wires_are zeroed.empty.ensures ∙ sym (ap (λ (d : DispatchResult). d.wires) e))
@@ -207,6 +218,7 @@ dispatch_spec =
     slice_relend_prefix_empty
     slice_aggregate_empty
     empty_requires
+    rounds_of_requires
     same_length_3
     same_length_4
     returns_4)

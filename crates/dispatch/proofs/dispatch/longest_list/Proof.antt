@@ -27,7 +27,7 @@ abbrev blank : JuryHeader
 blank = record { candidates = 0; grades = 0; ballots = 0; gates = 0 }
 
 enough : (s : tie.Start invariant_loop decreases_loop) → s.args.count ≤ length s.args.t2
-enough s = omega (arith, s.requires, s.well_formed.1.0.1.0.1)
+enough s = omega (arith, s.requires, s.well-formed.1.0.1.0.1)
 
 loop_holds : tie.Need-loop-init invariant_loop decreases_loop
 loop_holds c = (omega arith, omega arith)

@@ -39,7 +39,7 @@ abbrev all : tie.Start invariant_loop decreases_loop → Tables
 all s = tables_of s.args.lists.now s.args.ballots.now s.args.tapes.now s.args.wires.now s.args.boards.now
 
 enough : (s : tie.Start invariant_loop decreases_loop) → s.args.count ≤ length s.args.t2
-enough s = omega (arith, s.requires, s.well_formed.1.0.1.0.1)
+enough s = omega (arith, s.requires, s.well-formed.1.0.1.0.1)
 
 abbrev jury : (c : tie.In-loop invariant_loop decreases_loop) → JuryHeader
 jury c = get_or c.before.before.before.before.before.before.before.args.t2 c.before.loop.j blank

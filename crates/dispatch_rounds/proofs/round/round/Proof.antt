@@ -1,9 +1,10 @@
 -- `dispatch_rounds::round::round` meets its contract: the juries before j have had their turn, and the others are
--- as they were lent.
+-- as they were before the round.
 -- Assumes nothing.
 use mathlib.Core.Path.{◌≡◌, ◌∙◌, refl, sym, ap, subst}
 use mathlib.Core.List.{List, [], ◌∷◌, ◌++◌}
 use Prim.Native.Nat.{ℕ, suc, ◌+◌, ◌-◌, ◌*◌, ◌≤◌}
+use native.Mathlib.Nat.{suc-mul, mul-le-mul}
 use native.Mathlib.Numerals.{add-one}
 use native.Mathlib.Omega.{arith}
 use lib.ListN.{length, get_or, set, take, drop, drop_of_length-le}
@@ -12,24 +13,24 @@ use Rattle.jury.specs.Shape.{ballot_bytes}
 use Rattle.dispatch_rounds.specs.declared.header.JuryHeader.{JuryHeader}
 use Rattle.dispatch_rounds.specs.declared.header.Places.{Places}
 use Rattle.dispatch_rounds.specs.Tables.{Tables, tables_of, header_shape, conditional_in, pieces_of}
-use Rattle.dispatch_rounds.specs.Rounds.{jury_shown}
-use Rattle.dispatch_rounds.specs.inner.State.{places_after, TurnReady}
+use Rattle.dispatch_rounds.specs.Rounds.{jury_wires, jury_board, jury_shown, RoundState}
+use Rattle.dispatch_rounds.specs.inner.State.{places_after, JuryState}
 use Rattle.dispatch_rounds.proofs.Passed.{Passed}
-use Rattle.dispatch_rounds.proofs.MidRound.{from, Inside, inside_next, Mid, left_cons, mid_start, mid_end, mid_passed, mid_mark, mid_wires, mid_wires_room, mid_boards, mid_boards_room, mid_shown, mid_next, slice_is, part_long, spliced_long, turn_as, turn_back, mid_as}
+use Rattle.dispatch_rounds.proofs.MidRound.{from, Inside, inside_next, Mid, left_cons, mid_start, mid_end, mid_passed, mid_mark, mid_wires, mid_wires_room, mid_boards, mid_boards_room, mid_shown, mid_stands, mid_next, slice_is, part_long, spliced_long, jury_as, jury_back, mid_as}
 use Rattle.dispatch_rounds.proofs.round.round.Statement.{statement}
 use Rattle.dispatch_rounds.proofs.round.round.Tie as tie
 
 abbrev invariant_loop : tie.invariant-loop
-invariant_loop count done gates_per_round lists ballots tapes wires₀ boards₀ headers conditional given shown₀ ended₀ at₀ j₀ wires boards shown ended at j =
+invariant_loop count done gates_per_round lists ballots tapes wires₀ boards₀ headers conditional given shown₀ at₀ j₀ wires boards shown at j =
     (j ≤ count)
-    × Mid (take count headers) (tables_of lists ballots tapes wires₀ boards₀) given gates_per_round conditional j
-    (drop j (take count headers)) at wires boards shown ended
+    × ((ws bs : List ℕ) → RoundState given (take count headers) (tables_of lists ballots tapes ws bs) conditional wires₀ boards₀ shown₀
+    → Mid (take count headers) (tables_of lists ballots tapes ws bs) given (given + gates_per_round) conditional j
+    (drop j (take count headers)) at wires boards shown)
     × (length wires ≡ length wires₀)
     × (length boards ≡ length boards₀)
 
 abbrev decreases_loop : tie.decreases-loop
-decreases_loop count done gates_per_round lists ballots tapes wires₀ boards₀ headers conditional given shown₀ ended₀ at₀ j₀ wires boards shown ended at j =
-    count - j
+decreases_loop count done gates_per_round lists ballots tapes wires₀ boards₀ headers conditional given shown₀ at₀ j₀ wires boards shown at j = count - j
 
 -- The stages of a turn: it begins; the places after the jury are known; the jury has had its turn.
 abbrev begun : tie.In-loop invariant_loop decreases_loop → tie.Start invariant_loop decreases_loop
@@ -45,92 +46,133 @@ placed c = c.before.before.before.before.before.before
 abbrev blank : JuryHeader
 blank = record { candidates = 0; grades = 0; ballots = 0; gates = 0 }
 
--- the tables as they were lent
-abbrev lent : tie.Start invariant_loop decreases_loop → Tables
-lent s = tables_of s.args.lists.now s.args.ballots.now s.args.tapes.now s.args.wires.now s.args.boards.now
+-- the tables as they were lent, for some old contents of wires and boards
+abbrev lent_to : tie.Start invariant_loop decreases_loop → List ℕ → List ℕ → Tables
+lent_to s ws bs = tables_of s.args.lists.now s.args.ballots.now s.args.tapes.now ws bs
 
 -- the gates that each jury was given before
 abbrev given : tie.Start invariant_loop decreases_loop → ℕ
 given s = s.args.done * s.args.gates-per-round
 
--- the headers of the juries
-abbrev juries : tie.Start invariant_loop decreases_loop → List JuryHeader
-juries s = take s.args.count s.args.t2
+abbrev Entry : tie.Start invariant_loop decreases_loop → List ℕ → List ℕ → Type 0
+Entry s ws bs =
+    RoundState (given s) (take s.args.count s.args.t2) (lent_to s ws bs) s.args.t3 s.args.wires.now
+    s.args.boards.now s.args.before
 
 enough : (s : tie.Start invariant_loop decreases_loop) → s.args.count ≤ length s.args.t2
-enough s = omega (arith, s.requires.few, s.well_formed.1.0.1.0.1)
+enough s = omega (arith, s.requires.few, s.well-formed.1.0.1.0.1)
 
 abbrev jury : (c : tie.In-loop invariant_loop decreases_loop) → JuryHeader
-jury c = get_or (begun c).args.t2 c.before.loop.j blank
+jury c = get_or c.before.before.before.before.before.before.before.args.t2 c.before.loop.j blank
 
-abbrev here : (c : tie.In-loop invariant_loop decreases_loop) → Tables
-here c = from c.before.loop.at (lent (begun c))
+abbrev here : (c : tie.In-loop invariant_loop decreases_loop) → List ℕ → List ℕ → Tables
+here c ws bs = from c.before.loop.at (lent_to c.before.before.before.before.before.before.before ws bs)
 
 -- in a turn, a jury is left
-mid : (c : tie.In-loop invariant_loop decreases_loop) → let s = begun c in let l = c.before.loop in
-    Mid (juries s) (lent s) (given s) s.args.gates-per-round s.args.t3 l.j
-    (jury c ∷ drop (suc l.j) (juries s)) l.at l.wires l.boards l.shown l.ended
-mid c =
-    let s = begun c in
+mid : (c : tie.In-loop invariant_loop decreases_loop) (ws bs : List ℕ)
+    → Entry c.before.before.before.before.before.before.before ws bs → let s =
+    c.before.before.before.before.before.before.before in let l = c.before.loop in
+    Mid (take s.args.count s.args.t2) (lent_to s ws bs) (given s) (given s + s.args.gates-per-round) s.args.t3 l.j
+    (jury c ∷ drop (suc l.j) (take s.args.count s.args.t2)) l.at l.wires l.boards l.shown
+mid c ws bs st =
+    let s = c.before.before.before.before.before.before.before in
     let l = c.before.loop in
-    subst (λ (left : List JuryHeader). Mid (juries s) (lent s) (given s) s.args.gates-per-round s.args.t3 l.j left l.at
-    l.wires l.boards l.shown l.ended)
-    (left_cons s.args.count l.j s.args.t2 blank c.loop-test.true (enough s)) l.invariant.1
+    subst (λ (left : List JuryHeader). Mid (take s.args.count s.args.t2) (lent_to s ws bs) (given s)
+    (given s + s.args.gates-per-round) s.args.t3 l.j left l.at l.wires l.boards l.shown)
+    (left_cons s.args.count l.j s.args.t2 blank c.loop-test.true (enough s)) (l.invariant.1 ws bs st)
 
--- facts about this jury
-record Turn (c : tie.In-loop invariant_loop decreases_loop) : Type 0 where
-  pub passed : Passed (jury c) (here c)
-  pub mark : get_or (begun c).args.t3 c.before.loop.j 0 ≡ conditional_in (jury c) (here c)
-  pub inside : Inside c.before.loop.at (lent (begun c))
-  pub inside_after : Inside (places_after c.before.loop.at (jury c) (conditional_in (jury c) (here c))) (lent (begun c))
-  pub wires : take (ballot_bytes (header_shape (jury c)) + (jury c).gates) (drop c.before.loop.at.wires c.before.loop.wires)
-      ≡ (pieces_of (jury c) (here c)).wires
+-- facts about this jury, whatever the wire table and the boards held
+record Turn (c : tie.In-loop invariant_loop decreases_loop) (ws bs : List ℕ) : Type 0 where
+  pub passed : Passed (jury c) (here c ws bs)
+  pub mark : get_or c.before.before.before.before.before.before.before.args.t3 c.before.loop.j 0
+      ≡ conditional_in (jury c) (here c ws bs)
+  pub inside : Inside c.before.loop.at (lent_to c.before.before.before.before.before.before.before ws bs)
+  pub inside_after : Inside (places_after c.before.loop.at (jury c) (conditional_in (jury c) (here c ws bs)))
+      (lent_to c.before.before.before.before.before.before.before ws bs)
+  pub wires : take (ballot_bytes (header_shape (jury c)) + (jury c).gates)
+      (drop c.before.loop.at.wires c.before.loop.wires)
+      ≡ jury_wires (given c.before.before.before.before.before.before.before) (jury c)
+      (pieces_of (jury c) (here c ws bs))
   pub wires_room : c.before.loop.at.wires + (ballot_bytes (header_shape (jury c)) + (jury c).gates) ≤ length c.before.loop.wires
-  pub boards : take (conditional_in (jury c) (here c) + (jury c).candidates) (drop c.before.loop.at.boards c.before.loop.boards)
-      ≡ (pieces_of (jury c) (here c)).boards
-  pub boards_room : c.before.loop.at.boards + (conditional_in (jury c) (here c) + (jury c).candidates) ≤ length c.before.loop.boards
-  pub shown : get_or c.before.loop.shown c.before.loop.j 0 ≡ jury_shown (given (begun c)) (jury c) (pieces_of (jury c) (here c))
-  pub ready : TurnReady (given (begun c)) (jury c) (pieces_of (jury c) (here c)) (jury_shown (given (begun c)) (jury c) (pieces_of (jury c) (here c)))
+  pub boards : take (conditional_in (jury c) (here c ws bs) + (jury c).candidates)
+      (drop c.before.loop.at.boards c.before.loop.boards)
+      ≡ jury_board (given c.before.before.before.before.before.before.before) (jury c)
+      (pieces_of (jury c) (here c ws bs))
+  pub boards_room : c.before.loop.at.boards + (conditional_in (jury c) (here c ws bs) + (jury c).candidates)
+      ≤ length c.before.loop.boards
+  pub shown : get_or c.before.loop.shown c.before.loop.j 0
+      ≡ jury_shown (given c.before.before.before.before.before.before.before) (jury c)
+      (pieces_of (jury c) (here c ws bs))
+  pub stands : JuryState (given c.before.before.before.before.before.before.before) (jury c)
+      (pieces_of (jury c) (here c ws bs))
+      (jury_wires (given c.before.before.before.before.before.before.before) (jury c)
+      (pieces_of (jury c) (here c ws bs)))
+      (jury_board (given c.before.before.before.before.before.before.before) (jury c)
+      (pieces_of (jury c) (here c ws bs)))
+      (jury_shown (given c.before.before.before.before.before.before.before) (jury c)
+      (pieces_of (jury c) (here c ws bs)))
 
-known : (c : tie.In-loop invariant_loop decreases_loop) → Turn c
-known c =
-    let s = begun c in
+in_turn : (c : tie.In-loop invariant_loop decreases_loop) (ws bs : List ℕ)
+    → Entry c.before.before.before.before.before.before.before ws bs → Turn c ws bs
+in_turn c ws bs st =
+    let s = c.before.before.before.before.before.before.before in
     let l = c.before.loop in
-    let ss = juries s in
-    let t = lent s in
+    let ss = take s.args.count s.args.t2 in
+    let t = lent_to s ws bs in
     let g = given s in
-    let n = s.args.gates-per-round in
+    let n = given s + s.args.gates-per-round in
     let left = drop (suc l.j) ss in
-    let m = mid c in
-    let p = mid_passed ss t g n s.args.t3 l.j (jury c) left l.at l.wires l.boards l.shown l.ended m in
+    let m = mid c ws bs st in
+    let p = mid_passed ss t g n s.args.t3 l.j (jury c) left l.at l.wires l.boards l.shown m in
     record {
       passed = p;
-      mark = mid_mark ss t g n s.args.t3 l.j (jury c) left l.at l.wires l.boards l.shown l.ended m 0;
+      mark = mid_mark ss t g n s.args.t3 l.j (jury c) left l.at l.wires l.boards l.shown m 0;
       inside = m.inside;
       inside_after = inside_next l.at (jury c) t m.inside p;
-      wires = mid_wires ss t g n s.args.t3 l.j (jury c) left l.at l.wires l.boards l.shown l.ended m;
-      wires_room = mid_wires_room ss t g n s.args.t3 l.j (jury c) left l.at l.wires l.boards l.shown l.ended m;
-      boards = mid_boards ss t g n s.args.t3 l.j (jury c) left l.at l.wires l.boards l.shown l.ended m;
-      boards_room = mid_boards_room ss t g n s.args.t3 l.j (jury c) left l.at l.wires l.boards l.shown l.ended m;
-      shown = mid_shown ss t g n s.args.t3 l.j (jury c) left l.at l.wires l.boards l.shown l.ended m 0;
-      ready = record { run = p.run; gates = p.gates; count = refl };
+      wires = mid_wires ss t g n s.args.t3 l.j (jury c) left l.at l.wires l.boards l.shown m;
+      wires_room = mid_wires_room ss t g n s.args.t3 l.j (jury c) left l.at l.wires l.boards l.shown m;
+      boards = mid_boards ss t g n s.args.t3 l.j (jury c) left l.at l.wires l.boards l.shown m;
+      boards_room = mid_boards_room ss t g n s.args.t3 l.j (jury c) left l.at l.wires l.boards l.shown m;
+      shown = mid_shown ss t g n s.args.t3 l.j (jury c) left l.at l.wires l.boards l.shown m 0;
+      stands = mid_stands ss t g n s.args.t3 l.j (jury c) left l.at l.wires l.boards l.shown m;
     }
 
+-- the same for the contents that the contract names
+abbrev known : (c : tie.In-loop invariant_loop decreases_loop)
+    → Turn c c.before.before.before.before.before.before.before.requires.wires_lent
+    c.before.before.before.before.before.before.before.requires.boards_lent
+known c = let s = c.before.before.before.before.before.before.before in in_turn c s.requires.wires_lent
+    s.requires.boards_lent s.requires.state
+
 -- the places after the jury
-places : (c : tie.After-after invariant_loop decreases_loop)
-    → c.after.result ≡ places_after (in_loop c).before.loop.at (jury (in_loop c)) (conditional_in (jury (in_loop c)) (here (in_loop c)))
-places c = c.after.ensures ∙ ap (places_after (in_loop c).before.loop.at (jury (in_loop c))) (known (in_loop c)).mark
+places_are : (c : tie.After-after invariant_loop decreases_loop) (ws bs : List ℕ) → Turn c.before.before ws bs
+    → c.after.result ≡ places_after c.before.before.before.loop.at (jury c.before.before)
+    (conditional_in (jury c.before.before) (here c.before.before ws bs))
+places_are c ws bs k = c.after.ensures ∙ ap (places_after c.before.before.before.loop.at (jury c.before.before)) k.mark
+
+abbrev places : (c : tie.After-after invariant_loop decreases_loop) → let s = begun (in_loop c) in
+    c.after.result ≡ places_after c.before.before.before.loop.at (jury c.before.before)
+    (conditional_in (jury c.before.before) (here c.before.before s.pre.wires_lent s.pre.boards_lent))
+places c = let s = begun (in_loop c) in places_are c s.pre.wires_lent s.pre.boards_lent (known c.before.before)
 
 mul_given : tie.Need-overflow-mul-given invariant_loop decreases_loop
-mul_given c = omega (arith, c.before.before.before.before.before.requires.small)
+mul_given c =
+    let s = c.before.before.before.before.before in
+    omega (
+      arith,
+      mul-le-mul {n₁ = s.args.done} {m₁ = s.args.gates-per-round} {n₂ = 1048576} {m₂ = 65536}
+          s.requires.done_most s.requires.per_round_most,
+      s.requires.done_most,
+    )
 
 loop_holds : tie.Need-loop-init invariant_loop decreases_loop
 loop_holds c =
     let s = c.before.before.before.before.before in
     let a = s.args in (
       omega arith,
-      mid_start (given s) a.gates-per-round a.count a.t2 a.lists.now a.ballots.now a.tapes.now a.wires.now
-          a.boards.now a.t3 a.before s.requires,
+      λ (ws bs : List ℕ) st.
+          mid_start (given s) (given s + a.gates-per-round) (take a.count a.t2) a.lists.now a.ballots.now
+          a.tapes.now ws bs a.t3 a.wires.now a.boards.now a.before st,
       refl,
       refl,
     )
@@ -220,29 +262,32 @@ part_turn_end_5 c = let k = known c.before.before.before.before.before.before in
     omega (arith, ap (λ (x : Places). x.boards) (places c.before.before.before.before), k.boards_room)
 
 -- the pieces that the turn is given
-record Handed (c : tie.After-after invariant_loop decreases_loop) : Type 0 where
-  pub list : take (c.after.result.lists - (in_loop c).before.loop.at.lists)
-      (drop (in_loop c).before.loop.at.lists (begun (in_loop c)).args.lists.now)
-      ≡ (pieces_of (jury (in_loop c)) (here (in_loop c))).lists
-  pub ballots : take (c.after.result.ballots - (in_loop c).before.loop.at.ballots)
-      (drop (in_loop c).before.loop.at.ballots (begun (in_loop c)).args.ballots.now)
-      ≡ (pieces_of (jury (in_loop c)) (here (in_loop c))).ballots
-  pub tape : take (c.after.result.tapes - (in_loop c).before.loop.at.tapes)
-      (drop (in_loop c).before.loop.at.tapes (begun (in_loop c)).args.tapes.now)
-      ≡ (pieces_of (jury (in_loop c)) (here (in_loop c))).tapes
-  pub wires : take (c.after.result.wires - (in_loop c).before.loop.at.wires)
-      (drop (in_loop c).before.loop.at.wires (in_loop c).before.loop.wires)
-      ≡ (pieces_of (jury (in_loop c)) (here (in_loop c))).wires
-  pub board : take (c.after.result.boards - (in_loop c).before.loop.at.boards)
-      (drop (in_loop c).before.loop.at.boards (in_loop c).before.loop.boards)
-      ≡ (pieces_of (jury (in_loop c)) (here (in_loop c))).boards
+record Handed (c : tie.After-after invariant_loop decreases_loop) (ws bs : List ℕ) : Type 0 where
+  pub list : take (c.after.result.lists - c.before.before.before.loop.at.lists)
+      (drop c.before.before.before.loop.at.lists (begun (in_loop c)).args.lists.now)
+      ≡ (pieces_of (jury c.before.before) (here c.before.before ws bs)).lists
+  pub ballots : take (c.after.result.ballots - c.before.before.before.loop.at.ballots)
+      (drop c.before.before.before.loop.at.ballots (begun (in_loop c)).args.ballots.now)
+      ≡ (pieces_of (jury c.before.before) (here c.before.before ws bs)).ballots
+  pub tape : take (c.after.result.tapes - c.before.before.before.loop.at.tapes)
+      (drop c.before.before.before.loop.at.tapes (begun (in_loop c)).args.tapes.now)
+      ≡ (pieces_of (jury c.before.before) (here c.before.before ws bs)).tapes
+  pub wires : take (c.after.result.wires - c.before.before.before.loop.at.wires)
+      (drop c.before.before.before.loop.at.wires c.before.before.before.loop.wires)
+      ≡ jury_wires (given (begun (in_loop c))) (jury c.before.before)
+      (pieces_of (jury c.before.before) (here c.before.before ws bs))
+  pub board : take (c.after.result.boards - c.before.before.before.loop.at.boards)
+      (drop c.before.before.before.loop.at.boards c.before.before.before.loop.boards)
+      ≡ jury_board (given (begun (in_loop c))) (jury c.before.before)
+      (pieces_of (jury c.before.before) (here c.before.before ws bs))
 
-handed : (c : tie.After-after invariant_loop decreases_loop) → Handed c
-handed c =
+handed : (c : tie.After-after invariant_loop decreases_loop) (ws bs : List ℕ) → Turn c.before.before ws bs → Handed c ws bs
+handed c ws bs k =
     let s = begun (in_loop c) in
-    let l = (in_loop c).before.loop in
-    let k = known (in_loop c) in
-    let q = places c in
+    let l = c.before.before.before.loop in
+    let j = jury c.before.before in
+    let q = places_are c ws bs k in
+    let h = here c.before.before ws bs in
     record {
       list = slice_is _ l.at.lists c.after.result.lists s.args.lists.now
           (ap (λ (x : Places). x.lists) q) ∙ sym k.passed.list_is;
@@ -254,26 +299,41 @@ handed c =
       board = slice_is _ l.at.boards c.after.result.boards l.boards (ap (λ (x : Places). x.boards) q) ∙ k.boards;
     }
 
+-- the jury has what its turn requires
+ready : (c : tie.After-after invariant_loop decreases_loop) (ws bs : List ℕ) → Turn c.before.before ws bs → let s =
+    begun (in_loop c) in let l = c.before.before.before.loop in let j = jury c.before.before in let p =
+    pieces_of j (here c.before.before ws bs) in
+    JuryState (given s) j
+    (tables_of (take (c.after.result.lists - l.at.lists) (drop l.at.lists s.args.lists.now))
+    (take (c.after.result.ballots - l.at.ballots) (drop l.at.ballots s.args.ballots.now))
+    (take (c.after.result.tapes - l.at.tapes) (drop l.at.tapes s.args.tapes.now)) p.wires p.boards)
+    (take (c.after.result.wires - l.at.wires) (drop l.at.wires l.wires))
+    (take (c.after.result.boards - l.at.boards) (drop l.at.boards l.boards)) (get_or l.shown l.j 0)
+ready c ws bs k =
+    let s = begun (in_loop c) in
+    let j = jury c.before.before in
+    let h = handed c ws bs k in
+    jury_as (given s) j (pieces_of j (here c.before.before ws bs)) _ _ _ _ _ _ _ _ _ h.list h.ballots
+    h.tape h.wires h.board k.shown k.stands
+
 turn_requires : tie.Need-turn-requires invariant_loop decreases_loop
 turn_requires c κs =
     let a = c.before.before.before.before.before in
-    let i = in_loop a in
-    let k = known i in
-    let h = handed a in
-    turn_as (given (begun i)) (jury i) (pieces_of (jury i) (here i)) _ _ _ _ _ _ h.list h.ballots h.tape h.wires h.board
-    k.shown k.ready
+    let s = begun (in_loop a) in
+    let p = pieces_of (jury a.before.before) (here a.before.before s.pre.wires_lent s.pre.boards_lent) in
+    record {
+      per_round_least = s.pre.per_round_least;
+      per_round_most = s.pre.per_round_most;
+      wires_lent = p.wires;
+      board_lent = p.boards;
+      state = ready a s.pre.wires_lent s.pre.boards_lent (known a.before.before);
+    }
 
 mul_shown : tie.Need-overflow-mul-shown invariant_loop decreases_loop
 mul_shown c = omega arith
 
 array_write_shown : tie.Need-array-write-shown invariant_loop decreases_loop
 array_write_shown c = omega arith
-
-mul_ended : tie.Need-overflow-mul-ended invariant_loop decreases_loop
-mul_ended c = omega arith
-
-array_write_ended : tie.Need-array-write-ended invariant_loop decreases_loop
-array_write_ended c = omega arith
 
 add_j : tie.Need-overflow-add-j invariant_loop decreases_loop
 add_j c = omega arith
@@ -282,51 +342,54 @@ loop_less : tie.Need-loop-smaller invariant_loop decreases_loop
 loop_less c = omega arith
 
 -- the juries after the turn
-next : (c : tie.After-turn invariant_loop decreases_loop) → let a = placed c in let s = begun (in_loop a) in let l = (in_loop a).before.loop in
-    Mid (juries s) (lent s) (given s) s.args.gates-per-round s.args.t3 (l.j + 1) (drop (l.j + 1) (juries s)) a.after.result
+next : (c : tie.After-turn invariant_loop decreases_loop) (ws bs : List ℕ) → Entry (begun (in_loop (placed c))) ws bs → let a =
+    c.before.before.before.before.before.before in let s = begun (in_loop (placed c)) in let l =
+    a.before.before.before.loop in
+    Mid (take s.args.count s.args.t2) (lent_to s ws bs) (given s) (given s + s.args.gates-per-round) s.args.t3
+    (l.j + 1) (drop (l.j + 1) (take s.args.count s.args.t2)) a.after.result
     (take l.at.wires l.wires
     ++ (c.turn.new.1.1.1.1.1.1.1.0
     ++ drop (a.after.result.wires - l.at.wires) (drop l.at.wires l.wires)))
     (take l.at.boards l.boards
     ++ (c.turn.new.1.1.1.1.1.1.1.1.0
     ++ drop (a.after.result.boards - l.at.boards) (drop l.at.boards l.boards)))
-    (set l.shown l.j c.turn.result.shown) (set l.ended l.j c.turn.result.done)
-next c =
-    let a = placed c in
-    let i = in_loop a in
-    let s = begun i in
-    let l = i.before.loop in
-    let ss = juries s in
-    let t = lent s in
+    (set l.shown l.j c.turn.result)
+next c ws bs st =
+    let a = c.before.before.before.before.before.before in
+    let s = begun (in_loop (placed c)) in
+    let l = a.before.before.before.loop in
+    let i = a.before.before in
+    let ss = take s.args.count s.args.t2 in
+    let t = lent_to s ws bs in
     let g = given s in
-    let per = s.args.gates-per-round in
     let j = jury i in
-    let k = known i in
-    let h = handed a in
-    let ps = places a in
-    let p = pieces_of j (here i) in
+    let k = in_turn i ws bs st in
+    let h = handed a ws bs k in
+    let places = places_are a ws bs k in
+    let p = pieces_of j (here i ws bs) in
     let n = ballot_bytes (header_shape j) + j.gates in
-    let m = conditional_in j (here i) + j.candidates in
+    let m = conditional_in j (here i ws bs) + j.candidates in
     let q = c.turn.new.1.1.1.1.1.1.1.0 in
     let r = c.turn.new.1.1.1.1.1.1.1.1.0 in
-    let after = turn_back g per j p _ _ _ _ _ q r c.turn.result h.list h.ballots h.tape h.wires h.board c.turn.ensures in
+    let after = jury_back (g + s.args.gates-per-round) j p _ _ _ q r c.turn.result h.list h.ballots h.tape
+    (c.turn.ensures p.wires p.boards (ready a ws bs k)) in
     let long : length q ≡ n = c.turn.auto.1.1.1.1.1.1.1.0
     ∙ ap length (slice_is n l.at.wires a.after.result.wires l.wires
-    (ap (λ (x : Places). x.wires) ps)) ∙ part_long n l.at.wires l.wires k.wires_room in
+    (ap (λ (x : Places). x.wires) places)) ∙ part_long n l.at.wires l.wires k.wires_room in
     let high : length r ≡ m = c.turn.auto.1.1.1.1.1.1.1.1.0
     ∙ ap length (slice_is m l.at.boards a.after.result.boards l.boards
-    (ap (λ (x : Places). x.boards) ps)) ∙ part_long m l.at.boards l.boards k.boards_room in
-    mid_as ss t g per s.args.t3 (suc l.j) (l.j + 1) (drop (suc l.j) ss)
-    (drop (l.j + 1) ss) _ a.after.result _ _ _ _ _ _
+    (ap (λ (x : Places). x.boards) places)) ∙ part_long m l.at.boards l.boards k.boards_room in
+    mid_as ss t g (g + s.args.gates-per-round) s.args.t3 (suc l.j) (l.j + 1) (drop (suc l.j) ss)
+    (drop (l.j + 1) ss) _ a.after.result _ _ _ _ _
     (add-one l.j)
     (ap (λ (x : ℕ). drop x ss) (add-one l.j))
-    ps
+    places
     (ap (λ (x : ℕ). take l.at.wires l.wires ++ (q ++ drop x (drop l.at.wires l.wires)))
-    {x = a.after.result.wires - l.at.wires} {y = n} (omega (arith, ap (λ (x : Places). x.wires) ps)))
+    {x = a.after.result.wires - l.at.wires} {y = n} (omega (arith, ap (λ (x : Places). x.wires) places)))
     (ap (λ (x : ℕ). take l.at.boards l.boards ++ (r ++ drop x (drop l.at.boards l.boards)))
-    {x = a.after.result.boards - l.at.boards} {y = m} (omega (arith, ap (λ (x : Places). x.boards) ps)))
-    (mid_next ss t g per s.args.t3 l.j j (drop (suc l.j) ss) l.at l.wires
-    l.boards l.shown l.ended (mid i) q r c.turn.result after long high)
+    {x = a.after.result.boards - l.at.boards} {y = m} (omega (arith, ap (λ (x : Places). x.boards) places)))
+    (mid_next ss t g (g + s.args.gates-per-round) s.args.t3 l.j j (drop (suc l.j) ss) l.at l.wires
+    l.boards l.shown (mid i ws bs st) q r c.turn.result after long high)
 
 -- no length changes
 same_wires : (c : tie.After-turn invariant_loop decreases_loop) → let a = c.before.before.before.before.before.before in
@@ -362,8 +425,8 @@ same_boards c =
 loop_again : tie.Need-loop-preserved invariant_loop decreases_loop
 loop_again c =
     let e = c.before.before.before.before in
-    let test = (in_loop (placed e)).loop-test.taken in
-    (omega arith, next e, same_wires e, same_boards e)
+    let test = e.before.before.before.before.before.before.before.before.loop-test.true in
+    (omega arith, λ (ws bs : List ℕ) st. next e ws bs st, same_wires e, same_boards e)
 
 same_length : tie.Need-same-length invariant_loop decreases_loop
 same_length c = c.before.loop.invariant.2
@@ -375,13 +438,17 @@ returns : tie.Need-returns invariant_loop decreases_loop
 returns c =
     let s = c.before.before.before.before.before.before.before in
     let l = c.before.loop in
-    let ss = juries s in
+    let ss = take s.args.count s.args.t2 in
     let none_left : drop l.j ss ≡ [] =
     drop_of_length-le ss {i = l.j}
     (omega (arith, length-take-le s.args.count s.args.t2 (enough s), c.loop-test.false)) in
-    mid_end ss (lent s) (given s) s.args.gates-per-round s.args.t3 l.j l.at l.wires l.boards l.shown l.ended
-    (subst (λ (left : List JuryHeader). Mid ss (lent s) (given s) s.args.gates-per-round s.args.t3
-    l.j left l.at l.wires l.boards l.shown l.ended) none_left l.invariant.1)
+    λ (ws bs : List ℕ) st.
+    subst (λ (n : ℕ). RoundState n ss (lent_to s ws bs) s.args.t3 l.wires l.boards l.shown)
+    (sym (suc-mul s.args.done s.args.gates-per-round))
+    (mid_end ss (lent_to s ws bs) (given s) (given s + s.args.gates-per-round) s.args.t3 l.j l.at l.wires
+    l.boards l.shown st.accepted st.conditional_are
+    (subst (λ (left : List JuryHeader). Mid ss (lent_to s ws bs) (given s) (given s + s.args.gates-per-round) s.args.t3
+    l.j left l.at l.wires l.boards l.shown) none_left (l.invariant.1 ws bs st)))
 
 pub round_spec : {M : Type 1} → statement M
 round_spec =
@@ -417,8 +484,6 @@ round_spec =
     turn_requires
     mul_shown
     array_write_shown
-    mul_ended
-    array_write_ended
     add_j
     loop_less
     loop_again

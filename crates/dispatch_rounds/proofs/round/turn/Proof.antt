@@ -1,22 +1,17 @@
 -- `dispatch_rounds::round::turn` meets its contract: a finished jury stays as it is; for any other the step does
 -- the next gates, and after the last gate the closing bytes are put on the board.
 -- Assumes nothing.
-use mathlib.Core.Path.{◌≡◌, ◌∙◌, sym, ap}
-use mathlib.Core.List.{List, ◌++◌}
-use Prim.Native.Nat.{ℕ, ◌+◌, ◌<◌, min}
+use mathlib.Core.Path.{sym, ap, subst}
+use mathlib.Core.List.{List}
+use Prim.Native.Nat.{ℕ, ◌+◌, ◌<◌}
 use native.Mathlib.Omega.{arith}
-use mathlib.Core.Bool.{cond}
-use lib.Dec.{eqb}
-use lib.ListN.{length, take, drop}
-use lib.Seq.{take-length}
+use lib.ListN.{length}
 use borrow.Author.Rules.{rules}
 use Rattle.gates.specs.Gate.{gates_of}
-use Rattle.gates.specs.Wires.{outputs_of}
-use Rattle.gates.specs.Board.{conditional_count}
-use Rattle.gates.specs.Step.{step_wires, step_board}
-use Rattle.dispatch_rounds.specs.Tables.{Tables, tables_of}
-use Rattle.dispatch_rounds.specs.Rounds.{jury_shown, jury_done, turn_start, turn_wires, turn_shown}
-use Rattle.dispatch_rounds.proofs.Turns.{step_ready, idle_wires, idle_board, idle_shown, turn_wires_lem, turn_shown_lem, shown_more, goes_on_board, last_board}
+use Rattle.gates.proofs.Prefix.{Stands, can_step, step_stands, can_close}
+use Rattle.dispatch_rounds.specs.Tables.{tables_of}
+use Rattle.dispatch_rounds.specs.inner.State.{JuryState}
+use Rattle.dispatch_rounds.proofs.JuryStates.{turn_begins, turn_goes_on, turn_ends, turn_idle, jury_wires_long}
 use Rattle.dispatch_rounds.proofs.round.turn.Statement.{statement}
 use Rattle.dispatch_rounds.proofs.round.turn.Tie as tie
 
@@ -27,114 +22,77 @@ started c = c.before.before.before.before.before.before.before.before
 abbrev loaded : tie.After-step → tie.After-load
 loaded c = c.before.before.before.before.before.before
 
--- the pieces at entry
-abbrev pieces : tie.Start → Tables
-pieces c = tables_of c.args.list.now c.args.ballots.now c.args.tape.now c.args.wires.now c.args.board.now
+-- the jury at entry
+abbrev Entry : tie.Start → List ℕ → List ℕ → Type 0
+Entry c ws bs =
+    JuryState c.args.given c.args.header (tables_of c.args.list.now c.args.ballots.now c.args.tape.now ws bs)
+    c.args.wires.now c.args.board.now c.args.shown
 
 returns : tie.Need-returns
 returns c =
-    let s = c.before.before.before.before.before.before in
-    let a = s.args in
-    let h = c.if1.true in
-    record {
-      wires_are = sym (idle_wires a.given a.gates-per-round a.header (pieces s) h);
-      board_is = sym (idle_board a.given a.gates-per-round a.header (pieces s) h);
-      done = unfold jury_done in (omega arith);
-      shown = s.requires.count ∙ idle_shown a.given a.gates-per-round a.header (pieces s) h;
-    }
+    let a = c.before.before.before.before.before.before.args in
+    λ (ws bs : List ℕ) j.
+    turn_idle a.header (tables_of a.list.now a.ballots.now a.tape.now ws bs) a.given a.gates-per-round
+    a.wires.now a.board.now a.shown c.if1.true j
 
 load_requires : tie.Need-load-requires
 load_requires c κs =
     let s = c.before.before.before.before.before.before.before in
-    omega (arith, s.requires.run.wires_length)
+    let a = s.args in
+    let ws = s.requires.wires_lent in
+    let bs = s.requires.board_lent in
+    let j = s.requires.state in
+    let p = tables_of a.list.now a.ballots.now a.tape.now ws bs in
+    let long = jury_wires_long a.header p a.given j.gates (omega (arith, j.run.wires_length, j.gates)) in
+    omega (arith, ap length j.wires_are, long, j.run.wires_length)
 
 sub_if2 : tie.Need-overflow-sub-if2
 sub_if2 c = search rules
 
--- the wire table with the ballots
-begun : (c : tie.After-load) → c.load.new.1.1.0 ≡ turn_start (started c).args.given (pieces (started c))
-unfolding turn_start
-begun c =
-    let a = (started c).args in
-    c.load.ensures
-    ∙ ap (λ (b : List ℕ). cond (eqb a.given 0) (b ++ drop (length a.ballots.now) a.wires.now) a.wires.now)
-    (take-length a.ballots.now)
-
--- the bits shown before the turn
-shown_before : (c : tie.After-load) → (started c).args.shown ≡ conditional_count (take (started c).args.given (gates_of (started c).args.list.now))
-unfolding jury_shown
-shown_before c =
-    let s = started c in
-    let a = s.args in
-    s.pre.count
-    ∙ ap (λ (n : ℕ). conditional_count (take n (gates_of a.list.now))) {x = min a.given a.header.gates} {y = a.given}
-    (omega (arith, c.before.before.if1.false))
+-- the jury after the ballots were put into its wire table
+begun : (c : tie.After-load) (ws bs : List ℕ)
+    → Entry c.before.before.before.before.before.before.before.before ws bs → let a =
+    c.before.before.before.before.before.before.before.before.args in
+    Stands a.ballots.now a.list.now a.tape.now ws bs a.given c.load.new.1.1.0 a.board.now a.shown
+begun c ws bs j =
+    let a = c.before.before.before.before.before.before.before.before.args in
+    turn_begins a.header (tables_of a.list.now a.ballots.now a.tape.now ws bs) a.given a.wires.now
+    _ a.board.now a.shown j c.before.before.if1.false c.load.ensures
 
 step_requires : tie.Need-step-requires
 step_requires c κs =
     let l = c.before.before.before.before.before in
     let s = started l in
     let a = s.args in
-    step_ready a.ballots.now a.list.now a.header.candidates a.tape.now a.wires.now a.board.now s.pre.run
-    a.given a.header.gates (omega (arith, l.before.before.if1.false)) (omega (arith, s.pre.gates))
-    _ l.load.auto.1.1.0 a.shown (shown_before l)
+    let j = s.pre.state in
+    let before : a.given < a.header.gates = l.before.before.if1.false in
+    can_step a.ballots.now a.list.now a.header.candidates a.tape.now s.pre.wires_lent
+    s.pre.board_lent j.run a.given a.header.gates (omega arith) (omega (arith, j.gates))
+    _ a.board.now a.shown (begun l s.pre.wires_lent s.pre.board_lent j)
 
--- the turn ends with the last gate
-all_gates : (c : tie.After-step) → let a = (started (loaded c)).args in min (a.given + a.gates-per-round) a.header.gates ≡ a.header.gates
-all_gates c = omega (arith, c.before.before.before.if2.true, (loaded c).before.before.if1.false)
-
--- wires and shown bits after the last gate
-last_wires : (c : tie.After-step) → let a = (started (loaded c)).args in c.step.new.1.1.1.1.1.1.0
-    ≡ turn_wires a.given a.gates-per-round a.header (pieces (started (loaded c)))
-last_wires c =
-    let l = loaded c in
-    let a = (started l).args in
-    c.step.ensures.wires
-    ∙ ap (step_wires (length a.ballots.now) a.list.now a.given a.header.gates) (begun l)
-    ∙ sym (turn_wires_lem a.given a.gates-per-round a.header (pieces (started l)) l.before.before.if1.left a.header.gates (all_gates c))
-
-last_shown : (c : tie.After-step) → let a = (started (loaded c)).args in c.step.new.1.1.1.1.1.1.1.0
-    ≡ turn_shown a.given a.gates-per-round a.header (pieces (started (loaded c)))
-last_shown c =
-    let l = loaded c in
-    let s = started l in
-    let a = s.args in
-    c.step.ensures.board
-    ∙ ap (λ (w : List ℕ). step_board (length a.ballots.now) a.list.now a.given a.header.gates a.tape.now a.shown w
-    a.board.now) (begun l)
-    ∙ ap (λ (n : ℕ). step_board (length a.ballots.now) a.list.now a.given a.header.gates a.tape.now n
-    (turn_start a.given (pieces s)) a.board.now) s.pre.count
-    ∙ sym (turn_shown_lem a.given a.gates-per-round a.header (pieces s) l.before.before.if1.left a.header.gates (all_gates c))
-
-last_count : (c : tie.After-step) → let a = (started (loaded c)).args in c.step.result
-    ≡ jury_shown (a.given + a.gates-per-round) a.header (pieces (started (loaded c)))
-last_count c =
-    let l = loaded c in
-    let s = started l in
-    let a = s.args in
-    omega (
-      arith,
-      c.step.ensures.next,
-      s.pre.count,
-      shown_more a.given a.gates-per-round a.header (pieces s) l.before.before.if1.left a.header.gates (all_gates c),
-    )
-
--- all bits are shown
-all_shown : (c : tie.After-step) → c.step.result ≡ conditional_count (gates_of (started (loaded c)).args.list.now)
-unfolding jury_shown
-all_shown c =
-    let s = started (loaded c) in
-    let gs = gates_of s.args.list.now in
-    last_count c ∙ ap (λ (n : ℕ). conditional_count (take n gs)) (all_gates c ∙ sym s.pre.gates) ∙ ap conditional_count (take-length gs)
+-- the jury after its last gate
+finished : (c : tie.After-step) (ws bs : List ℕ) → Entry (started (loaded c)) ws bs → let a = (started (loaded c)).args in
+    Stands a.ballots.now a.list.now a.tape.now ws bs (length (gates_of a.list.now))
+    c.step.new.1.1.1.1.1.1.0 c.step.new.1.1.1.1.1.1.1.0 c.step.result
+finished c ws bs j =
+    let l = c.before.before.before.before.before.before in
+    let a = (started (loaded c)).args in
+    let before : a.given < a.header.gates = l.before.before.if1.false in
+    let r = c.step in
+    subst (λ (n : ℕ). Stands a.ballots.now a.list.now a.tape.now ws bs n r.new.1.1.1.1.1.1.0
+    r.new.1.1.1.1.1.1.1.0 r.result) (sym j.gates)
+    (step_stands a.ballots.now a.list.now a.header.candidates a.tape.now ws bs j.run a.given
+    a.header.gates (omega arith) (omega (arith, j.gates))
+    _ a.board.now a.shown (begun l ws bs j) _ _ r.result r.ensures.next r.ensures.wires r.ensures.board)
 
 close_requires : tie.Need-close-requires
 close_requires c κs =
     let e = c.before.before.before.before.before.before in
     let s = started (loaded e) in
-    record {
-      enough = omega (arith, e.step.auto.1.1.1.1.1.1.0, (loaded e).load.auto.1.1.0, s.pre.run.wires_length, s.pre.run.enough);
-      board_length = omega (arith, e.step.auto.1.1.1.1.1.1.1.0, s.pre.run.board_length, all_shown e);
-    }
+    let a = s.args in
+    let j = s.pre.state in
+    can_close a.ballots.now a.list.now a.header.candidates a.tape.now s.pre.wires_lent
+    s.pre.board_lent j.run _ _ _ (finished e s.pre.wires_lent s.pre.board_lent j)
 
 same_length : tie.Need-same-length
 same_length c = search rules
@@ -146,38 +104,25 @@ returns_2 : tie.Need-returns-2
 returns_2 c =
     let closed = c.before.before in
     let e = closed.before.before.before.before.before.before.before in
-    let l = loaded e in
-    let s = started l in
-    let a = s.args in
-    let h = l.before.before.if1.left in
-    let m = e.before.before.before.if2.true in
-    let shown = turn_shown a.given a.gates-per-round a.header (pieces s) in
-    record {
-      wires_are = last_wires e;
-      board_is =
-          closed.close.ensures
-          ∙ ap (λ (n : ℕ). take n e.step.new.1.1.1.1.1.1.1.0 ++ outputs_of a.header.candidates e.step.new.1.1.1.1.1.1.0)
-          (all_shown e)
-          ∙ ap (λ (b : List ℕ). take (conditional_count (gates_of a.list.now)) b
-          ++ outputs_of a.header.candidates e.step.new.1.1.1.1.1.1.0) (last_shown e)
-          ∙ ap (λ (w : List ℕ). take (conditional_count (gates_of a.list.now)) shown ++ outputs_of a.header.candidates w) (last_wires e)
-          ∙ sym (last_board a.given a.gates-per-round a.header (pieces s) h (omega arith));
-      done = unfold jury_done in (sym (all_gates e));
-      shown = last_count e;
-    }
+    let a = (started (loaded e)).args in
+    let past = e.before.before.before.if2.true in
+    λ (ws bs : List ℕ) j.
+    turn_ends a.header (tables_of a.list.now a.ballots.now a.tape.now ws bs) j.run j.some_gate
+    j.gates (a.given + a.gates-per-round) _ _ _ _ (omega arith) (finished e ws bs j) c.before.before.close.ensures
 
-add_end : tie.Need-overflow-add-end
-add_end c = search rules
+add_step : tie.Need-overflow-add-step
+add_step c = search rules
 
 step_requires_2 : tie.Need-step-requires-2
 step_requires_2 c κs =
     let l = c.before.before.before.before.before in
     let s = started l in
     let a = s.args in
+    let j = s.pre.state in
     let ahead = c.before.before.if2.false in
-    step_ready a.ballots.now a.list.now a.header.candidates a.tape.now a.wires.now a.board.now s.pre.run
-    a.given (a.given + a.gates-per-round) (omega arith) (omega (arith, s.pre.gates))
-    _ l.load.auto.1.1.0 a.shown (shown_before l)
+    can_step a.ballots.now a.list.now a.header.candidates a.tape.now s.pre.wires_lent
+    s.pre.board_lent j.run a.given (a.given + a.gates-per-round) (omega arith) (omega (arith, j.gates))
+    _ a.board.now a.shown (begun l s.pre.wires_lent s.pre.board_lent j)
 
 same_length_3 : tie.Need-same-length-3
 same_length_3 c = search rules
@@ -186,39 +131,20 @@ same_length_4 : tie.Need-same-length-4
 same_length_4 c = search rules
 
 returns_3 : tie.Need-returns-3
-unfolding jury_done
 returns_3 c =
     let e = c.before.before.before.before in
     let l = e.before.before.before.before.before.before in
     let s = started l in
     let a = s.args in
-    let h = l.before.before.if1.false in
     let ahead = e.before.before.before.if2.false in
-    let m : a.given + a.gates-per-round < a.header.gates = omega arith in
-    let to : min (a.given + a.gates-per-round) a.header.gates ≡ a.given + a.gates-per-round = omega arith in
     let r = e.step2 in
-    record {
-      wires_are =
-          r.ensures.wires
-          ∙ ap (step_wires (length a.ballots.now) a.list.now a.given (a.given + a.gates-per-round)) (begun l)
-          ∙ sym (turn_wires_lem a.given a.gates-per-round a.header (pieces s) h (a.given + a.gates-per-round) to);
-      board_is =
-          r.ensures.board
-          ∙ ap (λ (w : List ℕ). step_board (length a.ballots.now) a.list.now a.given (a.given + a.gates-per-round) a.tape.now
-          a.shown w a.board.now) (begun l)
-          ∙ ap (λ (n : ℕ). step_board (length a.ballots.now) a.list.now a.given (a.given + a.gates-per-round) a.tape.now n
-          (turn_start a.given (pieces s)) a.board.now) s.pre.count
-          ∙ sym (turn_shown_lem a.given a.gates-per-round a.header (pieces s) h (a.given + a.gates-per-round) to)
-          ∙ sym (goes_on_board a.given a.gates-per-round a.header (pieces s) h m);
-      done = sym to;
-      shown =
-          omega (
-            arith,
-            r.ensures.next,
-            s.pre.count,
-            shown_more a.given a.gates-per-round a.header (pieces s) h (a.given + a.gates-per-round) to,
-          );
-    }
+    let per_round_least = s.pre.per_round_least in
+    λ (ws bs : List ℕ) j.
+    turn_goes_on a.header (tables_of a.list.now a.ballots.now a.tape.now ws bs) j.run j.some_gate
+    j.gates (a.given + a.gates-per-round) _ _ _ (omega arith) (omega arith)
+    (step_stands a.ballots.now a.list.now a.header.candidates a.tape.now ws bs j.run a.given
+    (a.given + a.gates-per-round) (omega arith) (omega (arith, j.gates))
+    _ a.board.now a.shown (begun l ws bs j) _ _ r.result r.ensures.next r.ensures.wires r.ensures.board)
 
 pub turn_spec : {M : Type 1} → statement M
 turn_spec =
@@ -232,7 +158,7 @@ turn_spec =
     same_length
     same_length_2
     returns_2
-    add_end
+    add_step
     step_requires_2
     same_length_3
     same_length_4

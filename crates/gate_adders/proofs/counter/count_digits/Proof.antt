@@ -1,7 +1,10 @@
 -- `gate_adders::counter::count_digits` meets its contract: after each digit, writing the digits left completes the
 -- block.
 -- Assumes nothing.
-use Rattle.basics.proofs.Common.{◌≡◌, ◌∙◌, refl, sym, ap, subst, ℕ, ◌+◌, ◌-◌, ◌*◌, ◌/◌, ◌%◌, ◌<◌, ◌≤◌, arith}
+use mathlib.Core.Path.{◌≡◌, ◌∙◌, refl, sym, ap, subst}
+use mathlib.Core.List.{[]}
+use Prim.Native.Nat.{ℕ, ◌+◌, ◌-◌, ◌*◌, ◌/◌, ◌%◌, ◌<◌, ◌≤◌}
+use native.Mathlib.Omega.{arith}
 use Rattle.gate_words.specs.Limits.{writer_limit}
 use Rattle.gate_words.specs.Counter.{adders, level_sum, count_digits_as, count_size, Countable}
 use Rattle.gate_words.proofs.Writing.{wrote_long}
@@ -27,7 +30,8 @@ loop_holds c =
       p.levels_below,
       p.few,
       p.countable,
-      goes_start p.room,
+      goes_start a.start a.table.now
+          (count_digits_as a.low a.top a.base a.first a.count a.extra a.levels) (a.levels + 1) p.room,
     )
 
 -- in a turn there is a bit to start from, and the level's wires exist already
@@ -38,6 +42,9 @@ level_fits : (c : tie.In-loop invariant_loop decreases_loop) → let l = c.befor
     * adders (l.m - 1) (l.rest % 2) + count_size (adders (l.m - 1) (l.rest % 2)) (l.rest / 2) (l.left - 1)
     ≤ c.before.before.before.args.start.wire
 level_fits c = let l = c.before.loop in omega (arith, l.invariant.0, count_size_step l.m l.rest l.left c.loop-test.true)
+
+sub_level_sum : tie.Need-overflow-sub-level-sum invariant_loop decreases_loop
+sub_level_sum c = some_bit c.before
 
 level_sum_requires : tie.Need-level-sum-requires invariant_loop decreases_loop
 level_sum_requires c κs = let s = c.before.before.before.before in let l = c.before.before.loop in
@@ -76,12 +83,18 @@ emit_requires c κs =
     let s = (start_from_level_sum c) in
     let a = s.args in
     let l = c.before.before.before.loop in
-    goes_room l.invariant.3 (omega (arith, length_digits a.low a.top l.n l.at l.m l.rest l.left))
+    goes_room a.start a.table.now
+    (count_digits_as a.low a.top a.base a.first a.count a.extra a.levels) l.w l.table
+    (count_digits_as a.low a.top l.n l.at l.m l.rest l.left) 1 (a.levels + 1) l.invariant.3
+    (omega (arith, length_digits a.low a.top l.n l.at l.m l.rest l.left))
     (omega (arith, length_digits a.low a.top a.base a.first a.count a.extra a.levels))
     s.pre.room
 
 add_at : tie.Need-overflow-add-at invariant_loop decreases_loop
 add_at c = omega (arith, (start_from_emit c.before.before).pre.room.small, (loop_reached_from_slice_known2 c).loop.inv.0)
+
+sub_adders_of : tie.Need-overflow-sub-adders-of invariant_loop decreases_loop
+sub_adders_of c = some_bit (round_from_slice_known2 c)
 
 adders_of_requires : tie.Need-adders-of-requires invariant_loop decreases_loop
 adders_of_requires c κs = omega (arith, (loop_reached_from_slice_known2 c).loop.inv.1)
@@ -91,6 +104,12 @@ mul_n c = omega (arith, (start_from_adders_of c).pre.room.small, c.adders-of.ens
 
 add_n : tie.Need-overflow-add-n invariant_loop decreases_loop
 add_n c = omega (arith, (start_from_adders_of c).pre.room.small, c.adders-of.ensures, level_fits (round_from_adders_of c))
+
+sub_left : tie.Need-overflow-sub-left invariant_loop decreases_loop
+sub_left c = omega arith
+
+loop_less : tie.Need-loop-smaller invariant_loop decreases_loop
+loop_less c = omega arith
 
 loop_again : tie.Need-loop-preserved invariant_loop decreases_loop
 loop_again c =
@@ -107,10 +126,19 @@ loop_again c =
           (level_fits (round_from_adders_of c)),
       omega (arith, few_adders (l.m - 1) (l.rest % 2) (omega arith), l.inv.1, some_bit (round_from_adders_of c)),
       subst (λ (x : ℕ). Countable x (l.rest / 2) (l.left - 1)) (sym q) (countable_step l.m l.rest l.left t l.inv.2).1,
-      goes_as (ap (λ (x : ℕ). count_digits_as a.low a.top (l.n + 3 * x) (l.n + 2) x (l.rest / 2) (l.left - 1))
+      goes_as a.start a.table.now
+          (count_digits_as a.low a.top a.base a.first a.count a.extra a.levels) e.result
+          e.new.1.0 _ _
+          (ap (λ (x : ℕ). count_digits_as a.low a.top (l.n + 3 * x) (l.n + 2) x (l.rest / 2) (l.left - 1))
           (sym q))
-          (goes_on (goes_as (digits_step a.low a.top l.n l.at l.m l.rest l.left t) l.inv.3)
-          (one_wrote 0 0 a.low s.pre.low_one (rw v at e.ensures))),
+          (goes_on a.start a.table.now
+          (count_digits_as a.low a.top a.base a.first a.count a.extra a.levels) l.w l.table
+          _ _ e.new.1.0 e.result
+          (goes_as a.start a.table.now
+          (count_digits_as a.low a.top a.base a.first a.count a.extra a.levels) l.w l.table
+          _ _ (digits_step a.low a.top l.n l.at l.m l.rest l.left t) l.inv.3)
+          (one_wrote l.w l.table e.new.1.0 e.result
+          (level_sum l.n l.at (l.m - 1) (l.rest % 2)) 0 0 a.low s.pre.low_one (rw v at e.ensures))),
     )
 
 emit_requires_2 : tie.Need-emit-requires-2 invariant_loop decreases_loop
@@ -118,12 +146,15 @@ emit_requires_2 c κs =
     let s = c.before.before.before.before in
     let a = s.args in
     let l = c.before.before.loop in
-    goes_room l.invariant.3 (omega (arith, length_digits a.low a.top l.n l.at l.m l.rest l.left))
+    goes_room a.start a.table.now
+    (count_digits_as a.low a.top a.base a.first a.count a.extra a.levels) l.w l.table
+    (count_digits_as a.low a.top l.n l.at l.m l.rest l.left) 1 (a.levels + 1) l.invariant.3
+    (omega (arith, length_digits a.low a.top l.n l.at l.m l.rest l.left))
     (omega (arith, length_digits a.low a.top a.base a.first a.count a.extra a.levels))
     s.requires.room
 
 same_length : tie.Need-same-length invariant_loop decreases_loop
-same_length c = wrote_long c.before.before.emit2.ensures ∙ (loop_reached_from_slice_known3 c).loop.inv.3.long
+same_length c = wrote_long _ _ _ _ _ c.before.before.emit2.ensures ∙ (loop_reached_from_slice_known3 c).loop.inv.3.long
 
 returns : tie.Need-returns invariant_loop decreases_loop
 returns c =
@@ -131,12 +162,20 @@ returns c =
     let a = s.args in
     let l = (loop_reached_from_slice_known3 c).loop in
     let e = c.before.before.emit2 in
-    goes_end refl (goes_on (goes_as (digits_last a.low a.top l.n l.at l.m l.rest l.left
+    goes_end a.start a.table.now
+    (count_digits_as a.low a.top a.base a.first a.count a.extra a.levels) e.result
+    e.new.1.0 _ refl
+    (goes_on a.start a.table.now
+    (count_digits_as a.low a.top a.base a.first a.count a.extra a.levels) l.w l.table _ []
+    e.new.1.0 e.result
+    (goes_as a.start a.table.now
+    (count_digits_as a.low a.top a.base a.first a.count a.extra a.levels) l.w l.table _ _
+    (digits_last a.low a.top l.n l.at l.m l.rest l.left
     c.before.before.before.before.loop-test.false) l.inv.3)
-    (one_wrote 0 0 a.top s.pre.top_one e.ensures))
+    (one_wrote l.w l.table e.new.1.0 e.result l.at 0 0 a.top s.pre.top_one e.ensures))
 
 pub count_digits_spec : {M : Type 1} → statement M
 count_digits_spec =
-    tie.close (tie.spec invariant_loop decreases_loop loop_holds (λ c. some_bit c.before) level_sum_requires emit_requires add_at
-    (λ c. some_bit (round_from_slice_known2 c)) adders_of_requires mul_n add_n (λ c. omega arith) (λ c. omega arith)
-    loop_again emit_requires_2 same_length returns)
+    tie.close
+    (tie.spec invariant_loop decreases_loop loop_holds sub_level_sum level_sum_requires emit_requires add_at sub_adders_of
+    adders_of_requires mul_n add_n sub_left loop_less loop_again emit_requires_2 same_length returns)

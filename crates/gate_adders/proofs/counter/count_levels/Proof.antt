@@ -1,11 +1,13 @@
 -- `gate_adders::counter::count_levels` meets its contract: after each level, writing the levels left completes the
 -- block.
 -- Assumes nothing.
-use Rattle.basics.proofs.Common.{◌≡◌, ◌∙◌, sym, ap, subst, subst₂, ℕ, ◌+◌, ◌-◌, ◌*◌, ◌/◌, ◌%◌, ◌<◌, ◌≤◌, arith, length}
-use Rattle.basics.proofs.Common.{length-append}
+use mathlib.Core.Path.{◌≡◌, ◌∙◌, sym, ap, subst, subst₂}
+use Prim.Native.Nat.{ℕ, ◌+◌, ◌-◌, ◌*◌, ◌/◌, ◌%◌, ◌<◌, ◌≤◌}
+use native.Mathlib.Omega.{arith}
+use lib.ListN.{length, length-append}
 use Rattle.gate_words.specs.Limits.{writer_limit}
 use Rattle.gate_words.specs.Word.{Below}
-use Rattle.gate_words.specs.Counter.{level, adders, count_levels, Countable}
+use Rattle.gate_words.specs.Counter.{level, adders, count_levels, count_size, Countable}
 use Rattle.gate_words.proofs.Places.{below_first, below_rest}
 use Rattle.gate_words.proofs.CounterSteps.{length_level, count_step, count_none, countable_step, length_count, below_carries, few_adders}
 use Rattle.gate_words.proofs.Going.{Goes, goes_start, goes_as, goes_on, goes_room, goes_end}
@@ -45,7 +47,9 @@ loop_holds c =
       c.before.requires.near,
       c.before.requires.few,
       c.before.requires.countable,
-      goes_start c.before.requires.room,
+      goes_start a.start a.table.now
+          (count_levels a.start.wire a.first a.stride a.count a.extra a.levels)
+          (count_size a.count a.extra a.levels) c.before.requires.room,
     )
 
 add_level : tie.Need-overflow-add-level invariant_loop decreases_loop
@@ -60,20 +64,29 @@ add_level c = let s = c.before.before.before.before in let l = c.before.before.l
       wires_fit_lem c,
     )
 
+sub_level : tie.Need-overflow-sub-level invariant_loop decreases_loop
+sub_level c = some_bit c.before
+
 level_requires : tie.Need-level-requires invariant_loop decreases_loop
 level_requires c κs =
     let s = c.before.before.before.before in
     let a = s.args in
     let l = c.before.before.loop in
     record {
-      room = goes_room l.invariant.4 (omega (
-        arith,
-        ap length (count_step l.w.wire l.at l.d l.m l.rest l.left
-            c.before.loop-test.true),
-        length-append (level l.w.wire l.at (l.at + l.d) l.d (l.rest % 2) (l.m - 1))
-            (count_levels (l.w.wire + 3 * adders (l.m - 1) (l.rest % 2)) (l.w.wire + 2) 3
-            (adders (l.m - 1) (l.rest % 2)) (l.rest / 2) (l.left - 1)),
-      )) (omega (arith, length_count a.start.wire a.first a.stride a.count a.extra a.levels))
+      room = goes_room a.start a.table.now
+          (count_levels a.start.wire a.first a.stride a.count a.extra a.levels) l.w l.table
+          (count_levels l.w.wire l.at l.d l.m l.rest l.left)
+          (length (level l.w.wire l.at (l.at + l.d) l.d (l.rest % 2) (l.m - 1)))
+          (count_size a.count a.extra a.levels) l.invariant.4
+          (omega (
+            arith,
+            ap length (count_step l.w.wire l.at l.d l.m l.rest l.left
+                c.before.loop-test.true),
+            length-append (level l.w.wire l.at (l.at + l.d) l.d (l.rest % 2) (l.m - 1))
+                (count_levels (l.w.wire + 3 * adders (l.m - 1) (l.rest % 2)) (l.w.wire + 2) 3
+                (adders (l.m - 1) (l.rest % 2)) (l.rest / 2) (l.left - 1)),
+          ))
+          (omega (arith, length_count a.start.wire a.first a.stride a.count a.extra a.levels))
           s.requires.room;
       below = below_rest l.w.wire l.at l.d l.m (some_bit c.before) l.invariant.0;
     }
@@ -94,8 +107,17 @@ round_from_adders_of c = c.before.before.before.before.before
 add_at : tie.Need-overflow-add-at invariant_loop decreases_loop
 add_at c = let l = (loop_reached_from_slice_known2 c).loop in omega (arith, wires_fit_lem c.before.before.before)
 
+sub_adders_of : tie.Need-overflow-sub-adders-of invariant_loop decreases_loop
+sub_adders_of c = some_bit c.before.before.before.before
+
 adders_of_requires : tie.Need-adders-of-requires invariant_loop decreases_loop
 adders_of_requires c κs = omega (arith, (loop_reached_from_slice_known2 c).loop.inv.2)
+
+sub_left : tie.Need-overflow-sub-left invariant_loop decreases_loop
+sub_left c = omega arith
+
+loop_less : tie.Need-loop-smaller invariant_loop decreases_loop
+loop_less c = omega arith
 
 loop_again : tie.Need-loop-preserved invariant_loop decreases_loop
 loop_again c =
@@ -113,20 +135,33 @@ loop_again c =
       omega arith,
       omega (arith, few_adders (l.m - 1) (l.rest % 2) (omega arith), l.inv.2, some_bit (round_from_adders_of c)),
       subst (λ (x : ℕ). Countable x (l.rest / 2) (l.left - 1)) (sym q) (countable_step l.m l.rest l.left t l.inv.3).1,
-      goes_as (ap (λ (x : ℕ). count_levels x (l.w.wire + 2) 3 k (l.rest / 2) (l.left - 1)) (sym n)
+      goes_as a.start a.table.now
+          (count_levels a.start.wire a.first a.stride a.count a.extra a.levels) e.result
+          e.new.1.0 _ _
+          (ap (λ (x : ℕ). count_levels x (l.w.wire + 2) 3 k (l.rest / 2) (l.left - 1)) (sym n)
           ∙ ap (λ (x : ℕ). count_levels e.result.wire (l.w.wire + 2) 3 x (l.rest / 2) (l.left - 1)) (sym q))
-          (goes_on (goes_as (count_step l.w.wire l.at l.d l.m l.rest l.left t) l.inv.4)
+          (goes_on a.start a.table.now
+          (count_levels a.start.wire a.first a.stride a.count a.extra a.levels) l.w l.table
+          _ _ e.new.1.0 e.result
+          (goes_as a.start a.table.now
+          (count_levels a.start.wire a.first a.stride a.count a.extra a.levels) l.w l.table
+          _ _ (count_step l.w.wire l.at l.d l.m l.rest l.left t) l.inv.4)
           e.ensures),
     )
+
+same_length : tie.Need-same-length invariant_loop decreases_loop
+same_length c = c.before.loop.invariant.4.long
 
 returns : tie.Need-returns invariant_loop decreases_loop
 returns c =
     let a = c.before.before.before.args in
     let l = c.before.loop in
-    goes_end (count_none l.w.wire l.at l.d l.m l.rest l.left c.loop-test.false) l.invariant.4
+    goes_end a.start a.table.now
+    (count_levels a.start.wire a.first a.stride a.count a.extra a.levels) l.w l.table _
+    (count_none l.w.wire l.at l.d l.m l.rest l.left c.loop-test.false) l.invariant.4
 
 pub count_levels_spec : {M : Type 1} → statement M
 count_levels_spec =
-    tie.close (tie.spec invariant_loop decreases_loop loop_holds add_level (λ c. some_bit c.before) level_requires add_at
-    (λ c. some_bit c.before.before.before.before) adders_of_requires (λ c. omega arith) (λ c. omega arith)
-    loop_again (λ c. c.before.loop.invariant.4.long) returns)
+    tie.close
+    (tie.spec invariant_loop decreases_loop loop_holds add_level sub_level level_requires add_at sub_adders_of adders_of_requires
+    sub_left loop_less loop_again same_length returns)

@@ -1,7 +1,9 @@
 -- `gate_adders::counter::count_size` meets its contract: the gates counted so far and those of the levels left add
 -- up to all.
 -- Assumes nothing.
-use Rattle.basics.proofs.Common.{◌≡◌, ◌∙◌, sym, ap, subst, ℕ, ◌+◌, ◌-◌, ◌*◌, ◌/◌, ◌%◌, ◌≤◌, ◌<◌, arith}
+use mathlib.Core.Path.{◌≡◌, ◌∙◌, sym, ap, subst}
+use Prim.Native.Nat.{ℕ, ◌+◌, ◌-◌, ◌*◌, ◌/◌, ◌%◌, ◌≤◌, ◌<◌}
+use native.Mathlib.Omega.{arith}
 use Rattle.gate_words.specs.Limits.{writer_limit}
 use Rattle.gate_words.specs.Counter.{adders, count_size, Countable}
 use Rattle.gate_words.proofs.CounterSteps.{count_size_step, countable_step}
@@ -38,6 +40,9 @@ invariant_loop count extra levels gates₀ carries₀ rest₀ left₀ gates carr
 abbrev decreases_loop : tie.decreases-loop
 decreases_loop count extra levels gates₀ carries₀ rest₀ left₀ gates carries rest left = left
 
+loop_holds : tie.Need-loop-init invariant_loop decreases_loop
+loop_holds c = (c.requires.few, c.requires.countable, omega arith)
+
 -- in a turn: the gates of one level, and those of the levels left
 in_turn : (c : tie.In-loop invariant_loop decreases_loop) → let l = c.before.loop in
     let half = (l.carries + l.rest % 2) / 2 in
@@ -49,12 +54,38 @@ in_turn c =
     let s = size_turn l.carries l.rest l.left c.loop-test.true l.invariant.1 in
     (omega (arith, s.2, l.invariant.0), s.0, omega (arith, s.1, l.invariant.2))
 
+add_carries : tie.Need-overflow-add-carries invariant_loop decreases_loop
+add_carries c = omega (arith, c.before.loop.invariant.0)
+
+mul_gates : tie.Need-overflow-mul-gates invariant_loop decreases_loop
+mul_gates c = omega (arith, (in_turn c).2, c.before.before.requires.small)
+
+add_gates : tie.Need-overflow-add-gates invariant_loop decreases_loop
+add_gates c = omega (arith, (in_turn c).2, c.before.before.requires.small)
+
+sub_left : tie.Need-overflow-sub-left invariant_loop decreases_loop
+sub_left c = omega arith
+
+loop_less : tie.Need-loop-smaller invariant_loop decreases_loop
+loop_less c = omega arith
+
+loop_again : tie.Need-loop-preserved invariant_loop decreases_loop
+loop_again c = in_turn c
+
 returns : tie.Need-returns invariant_loop decreases_loop
 returns c = let l = c.before.loop in omega (arith, l.invariant.2, size_none l.carries l.rest l.left c.loop-test.false)
 
 pub count_size_spec : {M : Type 1} → statement M
 count_size_spec =
-    tie.close (tie.spec invariant_loop decreases_loop (λ c. (c.requires.few, c.requires.countable, omega arith))
-    (λ c. omega (arith, c.before.loop.invariant.0)) (λ c. omega (arith, (in_turn c).2, c.before.before.requires.small))
-    (λ c. omega (arith, (in_turn c).2, c.before.before.requires.small)) (λ c. omega arith) (λ c. omega arith)
-    (λ c. in_turn c) returns)
+    tie.close
+    (tie.spec
+    invariant_loop
+    decreases_loop
+    loop_holds
+    add_carries
+    mul_gates
+    add_gates
+    sub_left
+    loop_less
+    loop_again
+    returns)

@@ -1,7 +1,11 @@
 -- `gate_adders::counter::level` meets its contract: after each adder, writing the level from its sum on completes
 -- the block.
 -- Assumes nothing.
-use Rattle.basics.proofs.Common.{◌∙◌, refl, sym, ap, [], ℕ, ◌+◌, ◌-◌, ◌<◌, ◌≤◌, arith, length, length-append}
+use mathlib.Core.Path.{◌∙◌, refl, sym, ap}
+use mathlib.Core.List.{[]}
+use Prim.Native.Nat.{ℕ, ◌+◌, ◌-◌, ◌<◌, ◌≤◌}
+use native.Mathlib.Omega.{arith}
+use lib.ListN.{length, length-append}
 use Rattle.gate_words.specs.Word.{Below}
 use Rattle.gate_words.specs.Adder.{full_adder, half_adder, increment}
 use Rattle.gate_words.specs.Counter.{level}
@@ -35,7 +39,9 @@ loop_holds : tie.Need-loop-init invariant_loop decreases_loop
 loop_holds c =
     let a = c.before.args in (
       c.before.requires.below,
-      goes_start c.before.requires.room,
+      goes_start a.start a.table.now
+          (level a.start.wire a.sum a.first a.stride a.e a.count)
+          (length (level a.start.wire a.sum a.first a.stride a.e a.count)) c.before.requires.room,
     )
 
 -- at least two bits are left in the loop
@@ -55,7 +61,9 @@ full_adder_requires c κs =
     let s = c.before.before.before.before in
     let a = s.args in
     let l = c.before.before.loop in
-    goes_room l.invariant.1
+    goes_room a.start a.table.now (level a.start.wire a.sum a.first a.stride a.e a.count)
+    l.w l.table (level l.w.wire l.s l.at a.stride a.e l.left) 3
+    (length (level a.start.wire a.sum a.first a.stride a.e a.count)) l.invariant.1
     (omega (arith, long l.w.wire l.s l.at a.stride a.e l.left (two_left c.before)))
     (omega (arith, s.requires.room.small)) s.requires.room
 
@@ -123,6 +131,12 @@ add_at_2 c = let s = (start_from_full_adder c.before.before) in let l =
           (two_left c.before.before.before.before) l.inv.0).0,
     )
 
+sub_left : tie.Need-overflow-sub-left invariant_loop decreases_loop
+sub_left c = omega arith
+
+loop_less : tie.Need-loop-smaller invariant_loop decreases_loop
+loop_less c = omega arith
+
 loop_again : tie.Need-loop-preserved invariant_loop decreases_loop
 loop_again c =
     let s = (start_from_full_adder c.before.before) in
@@ -132,11 +146,17 @@ loop_again c =
     let t = two_left c.before.before.before.before in
     let wrote = e.ensures in (
       (below_two a.start.wire l.at a.stride l.left t l.inv.0).1,
-      goes_as
+      goes_as a.start a.table.now (level a.start.wire a.sum a.first a.stride a.e a.count)
+          e.result e.new.1.0 _ _
           (ap (λ (n : ℕ). level n (l.w.wire + 1) (l.at + a.stride + a.stride) a.stride a.e (l.left - 2))
           (sym (wrote.wires ∙ ap (λ (n : ℕ). l.w.wire + n)
           (length_full l.w.wire l.s l.at (l.at + a.stride)))))
-          (goes_on (goes_as (level_two l.w.wire l.s l.at a.stride a.e l.left t) l.inv.1)
+          (goes_on a.start a.table.now
+          (level a.start.wire a.sum a.first a.stride a.e a.count) l.w l.table _ _
+          e.new.1.0 e.result
+          (goes_as a.start a.table.now
+          (level a.start.wire a.sum a.first a.stride a.e a.count) l.w l.table _ _
+          (level_two l.w.wire l.s l.at a.stride a.e l.left t) l.inv.1)
           wrote),
     )
 
@@ -145,29 +165,42 @@ half_adder_requires c κs =
     let s = (start_from_half_adder_arg c) in
     let a = s.args in
     let l = c.before.before.before.loop in
-    goes_room l.invariant.1 (omega (
+    goes_room a.start a.table.now (level a.start.wire a.sum a.first a.stride a.e a.count)
+    l.w l.table (level l.w.wire l.s l.at a.stride a.e l.left) 3
+    (length (level a.start.wire a.sum a.first a.stride a.e a.count)) l.invariant.1
+    (omega (
       arith,
-      ap length (level_one l.w.wire l.s l.at a.stride a.e l.left c.before.if1.true),
+      ap length (level_one l.w.wire l.s l.at a.stride a.e l.left
+          c.before.if1.true),
       length-append (half_adder l.w.wire l.s l.at a.e) [],
       length_half l.w.wire l.s l.at a.e,
     )) (omega arith) s.pre.room
 
 same_length : tie.Need-same-length invariant_loop decreases_loop
-same_length c = wrote_long c.before.before.half-adder.ensures ∙ (loop_reached_from_slice_known3 c).loop.inv.1.long
+same_length c = wrote_long _ _ _ _ _ c.before.before.half-adder.ensures ∙ (loop_reached_from_slice_known3 c).loop.inv.1.long
 
 returns : tie.Need-returns invariant_loop decreases_loop
 returns c =
     let a = (start_from_half_adder c.before.before).args in
     let l = (loop_reached_from_slice_known3 c).loop in
     let h = c.before.before.half-adder in
-    goes_end refl (goes_on (goes_as (level_one l.w.wire l.s l.at a.stride a.e l.left
+    goes_end a.start a.table.now (level a.start.wire a.sum a.first a.stride a.e a.count)
+    h.result h.new.1.0 _ refl
+    (goes_on a.start a.table.now (level a.start.wire a.sum a.first a.stride a.e a.count)
+    l.w l.table _ [] h.new.1.0 h.result
+    (goes_as a.start a.table.now (level a.start.wire a.sum a.first a.stride a.e a.count)
+    l.w l.table _ _ (level_one l.w.wire l.s l.at a.stride a.e l.left
     c.before.before.before.before.if1.true) l.inv.1) h.ensures)
+
+same_length_2 : tie.Need-same-length-2 invariant_loop decreases_loop
+same_length_2 c = c.before.before.before.loop.invariant.1.long
 
 returns_2 : tie.Need-returns-2 invariant_loop decreases_loop
 returns_2 c =
     let a = (start_from_then2 c).args in
     let l = c.before.before.before.loop in
-    goes_end (level_none l.w.wire l.s l.at a.stride a.e l.left
+    goes_end a.start a.table.now (level a.start.wire a.sum a.first a.stride a.e a.count)
+    l.w l.table _ (level_none l.w.wire l.s l.at a.stride a.e l.left
     c.before.before.loop-test.false c.before.if1.false c.if2.true) l.invariant.1
 
 increment_requires : tie.Need-increment-requires invariant_loop decreases_loop
@@ -175,16 +208,20 @@ increment_requires c κs =
     let s = (start_from_else2 c.before) in
     let a = s.args in
     let l = c.before.before.before.before.loop in
-    goes_room l.invariant.1 (omega (
+    goes_room a.start a.table.now (level a.start.wire a.sum a.first a.stride a.e a.count)
+    l.w l.table (level l.w.wire l.s l.at a.stride a.e l.left) 3
+    (length (level a.start.wire a.sum a.first a.stride a.e a.count)) l.invariant.1
+    (omega (
       arith,
       ap length (level_bit l.w.wire l.s l.at a.stride a.e l.left
           c.before.before.before.loop-test.false c.before.before.if1.false c.before.if2.false),
       length-append (increment l.w.wire l.s) [],
       length_increment l.w.wire l.s,
-    )) (omega arith) s.pre.room
+    )) (omega arith)
+    s.pre.room
 
 same_length_3 : tie.Need-same-length-3 invariant_loop decreases_loop
-same_length_3 c = wrote_long c.before.before.increment.ensures
+same_length_3 c = wrote_long _ _ _ _ _ c.before.before.increment.ensures
     ∙ (loop_reached_from_increment c.before.before).loop.inv.1.long
 
 returns_3 : tie.Need-returns-3 invariant_loop decreases_loop
@@ -192,13 +229,18 @@ returns_3 c =
     let a = (start_from_increment c.before.before).args in
     let l = (loop_reached_from_increment c.before.before).loop in
     let h = c.before.before.increment in
-    goes_end refl (goes_on (goes_as (level_bit l.w.wire l.s l.at a.stride a.e l.left
+    goes_end a.start a.table.now (level a.start.wire a.sum a.first a.stride a.e a.count)
+    h.result h.new.1.0 _ refl
+    (goes_on a.start a.table.now (level a.start.wire a.sum a.first a.stride a.e a.count)
+    l.w l.table _ [] h.new.1.0 h.result
+    (goes_as a.start a.table.now (level a.start.wire a.sum a.first a.stride a.e a.count)
+    l.w l.table _ _ (level_bit l.w.wire l.s l.at a.stride a.e l.left
     (loop_done_from_slice_known4 c).loop-test.left (else1_from_slice_known4 c).if1.left
     c.before.before.before.before.if2.false) l.inv.1) h.ensures)
 
 pub level_spec : {M : Type 1} → statement M
 level_spec =
     tie.close
-    (tie.spec invariant_loop decreases_loop loop_holds add_full_adder full_adder_requires add_s add_at add_at_2 (λ c. omega arith)
-    (λ c. omega arith) loop_again half_adder_requires same_length returns
-    (λ c. c.before.before.before.loop.invariant.1.long) returns_2 increment_requires same_length_3 returns_3)
+    (tie.spec invariant_loop decreases_loop loop_holds add_full_adder full_adder_requires add_s add_at add_at_2 sub_left loop_less
+    loop_again half_adder_requires same_length returns same_length_2 returns_2 increment_requires same_length_3
+    returns_3)

@@ -1,9 +1,25 @@
 -- `gate_adders::counter::level_sum` meets its contract: it computes the definition.
 -- Assumes nothing.
-use Rattle.basics.proofs.Common.{◌≡◌, ◌∙◌, sym, ap, ℕ, ◌+◌, ◌-◌, ◌*◌, eq-eqb, ne_eqb, arith, needs}
+use mathlib.Core.Path.{◌≡◌, ◌∙◌, sym, ap}
+use Prim.Native.Nat.{ℕ, ◌+◌, ◌-◌, ◌*◌}
+use borrow.Author.Tests.{eq-eqb, ne_eqb}
 use Rattle.gate_words.specs.Counter.{adders, level_sum}
+use native.Mathlib.Omega.{arith}
+use borrow.Author.Rules.{rules}
 use Rattle.gate_adders.proofs.counter.level_sum.Statement.{statement}
 use Rattle.gate_adders.proofs.counter.level_sum.Tie as tie
+
+adders_of_requires : tie.Need-adders-of-requires
+adders_of_requires c κs = search rules
+
+mul_result : tie.Need-overflow-mul-result
+mul_result c = omega arith
+
+add_result : tie.Need-overflow-add-result
+add_result c = omega arith
+
+sub_result : tie.Need-overflow-sub-result
+sub_result c = omega arith
 
 no_adder : (n s m e t : ℕ) → t ≡ adders m e → t ≡ 0 → s ≡ level_sum n s m e
 unfolding level_sum
@@ -25,5 +41,4 @@ returns_2 c = let a = c.before.before.args in
 
 pub level_sum_spec : {M : Type 1} → statement M
 level_sum_spec =
-    tie.close (tie.spec (λ c κs. search needs) (λ c. omega arith) (λ c. omega arith) (λ c. omega arith) returns
-    returns_2)
+    tie.close (tie.spec adders_of_requires mul_result add_result sub_result returns returns_2)

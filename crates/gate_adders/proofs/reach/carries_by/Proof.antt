@@ -1,6 +1,9 @@
 -- `gate_adders::reach::carries_by` meets its contract: after i digits, writing the rest of the chain completes it.
 -- Assumes nothing.
-use Rattle.basics.proofs.Common.{◌∙◌, sym, ap, ℕ, ◌+◌, ◌-◌, ◌≤◌, add-zero, sub-zero, arith}
+use mathlib.Core.Path.{◌∙◌, sym, ap}
+use Prim.Native.Nat.{ℕ, ◌+◌, ◌-◌, ◌≤◌}
+use native.Mathlib.Nat.{add-zero, sub-zero}
+use native.Mathlib.Omega.{arith}
 use Rattle.gate_words.specs.Reach.{carries_by}
 use Rattle.gate_words.proofs.Emitting.{mux_wrote}
 use Rattle.gate_words.proofs.ReachLaws.{carries_by_step, carries_by_none, length_carries_by}
@@ -19,20 +22,37 @@ loop_holds : tie.Need-loop-init invariant_loop decreases_loop
 loop_holds c =
     let a = c.before.args in (
       omega arith,
-      goes_as (sym (ap (λ (n : ℕ). carries_by a.w.wire n (a.x + 0) a.carry (a.digits - 0)) (add-zero a.f)
+      goes_as a.w a.table.now (carries_by a.w.wire a.f a.x a.carry a.digits) a.w
+          a.table.now _ _
+          (sym (ap (λ (n : ℕ). carries_by a.w.wire n (a.x + 0) a.carry (a.digits - 0)) (add-zero a.f)
           ∙ ap (λ (n : ℕ). carries_by a.w.wire a.f n a.carry (a.digits - 0)) (add-zero a.x)
           ∙ ap (carries_by a.w.wire a.f a.x a.carry) (sub-zero a.digits)))
-          (goes_start c.before.requires.room),
+          (goes_start a.w a.table.now (carries_by a.w.wire a.f a.x a.carry a.digits)
+          a.digits c.before.requires.room),
     )
+
+add_emit : tie.Need-overflow-add-emit invariant_loop decreases_loop
+add_emit c = omega arith
+
+add_emit_2 : tie.Need-overflow-add-emit-2 invariant_loop decreases_loop
+add_emit_2 c = omega arith
 
 emit_requires : tie.Need-emit-requires invariant_loop decreases_loop
 emit_requires c κs =
     let s = c.before.before.before.before in
     let a = s.args in
     let l = c.before.before.loop in
-    goes_room l.invariant.1
+    goes_room a.w a.table.now (carries_by a.w.wire a.f a.x a.carry a.digits) l.next
+    l.table (carries_by l.next.wire (a.f + l.i) (a.x + l.i) l.last (a.digits - l.i)) 1 a.digits
+    l.invariant.1
     (omega (arith, length_carries_by l.next.wire (a.f + l.i) (a.x + l.i) l.last (a.digits - l.i)))
     (omega (arith, length_carries_by a.w.wire a.f a.x a.carry a.digits)) s.requires.room
+
+add_i : tie.Need-overflow-add-i invariant_loop decreases_loop
+add_i c = omega arith
+
+loop_less : tie.Need-loop-smaller invariant_loop decreases_loop
+loop_less c = omega arith
 
 -- The stages of the function, seen from later ones.
 abbrev start_from_emit : tie.After-emit invariant_loop decreases_loop → tie.Start invariant_loop decreases_loop
@@ -48,21 +68,30 @@ loop_again c =
     let l = (loop_reached_from_slice_known2 c).loop in
     let e = c.before.before.emit in
     let t = c.before.before.before.before.loop-test.true in
-    let wrote = mux_wrote e.ensures in (
+    let wrote = mux_wrote l.next l.table e.new.1.0 e.result (a.f + l.i) l.last (a.x + l.i) e.ensures in (
       omega arith,
-      goes_as (ap (λ (n : ℕ). carries_by n (a.f + (l.i + 1)) (a.x + (l.i + 1)) l.next.wire
-          (a.digits - (l.i + 1))) (sym wrote.wires)) (goes_on
-          (goes_as (carries_by_step l.next.wire a.f a.x l.last l.i a.digits t) l.inv.1)
+      goes_as a.w a.table.now (carries_by a.w.wire a.f a.x a.carry a.digits) e.result
+          e.new.1.0 _ _
+          (ap (λ (n : ℕ). carries_by n (a.f + (l.i + 1)) (a.x + (l.i + 1)) l.next.wire
+          (a.digits - (l.i + 1))) (sym wrote.wires))
+          (goes_on a.w a.table.now (carries_by a.w.wire a.f a.x a.carry a.digits) l.next
+          l.table _ _ e.new.1.0 e.result
+          (goes_as a.w a.table.now (carries_by a.w.wire a.f a.x a.carry a.digits) l.next
+          l.table _ _ (carries_by_step l.next.wire a.f a.x l.last l.i a.digits t) l.inv.1)
           wrote),
     )
+
+same_length : tie.Need-same-length invariant_loop decreases_loop
+same_length c = c.before.loop.invariant.1.long
 
 returns : tie.Need-returns invariant_loop decreases_loop
 returns c =
     let a = c.before.before.before.args in
     let l = c.before.loop in
-    goes_end (carries_by_none l.next.wire (a.f + l.i) (a.x + l.i) l.last l.i a.digits
+    goes_end a.w a.table.now (carries_by a.w.wire a.f a.x a.carry a.digits) l.next
+    l.table _ (carries_by_none l.next.wire (a.f + l.i) (a.x + l.i) l.last l.i a.digits
     c.loop-test.false) l.invariant.1
 
 pub carries_by_spec : {M : Type 1} → statement M
-carries_by_spec = tie.close (tie.spec invariant_loop decreases_loop loop_holds (λ c. omega arith) (λ c. omega arith) emit_requires
-    (λ c. omega arith) (λ c. omega arith) loop_again (λ c. c.before.loop.invariant.1.long) returns)
+carries_by_spec = tie.close (tie.spec invariant_loop decreases_loop loop_holds add_emit add_emit_2 emit_requires add_i loop_less
+    loop_again same_length returns)

@@ -1,6 +1,10 @@
 -- `gate_adders::reach::carry_bit` meets its contract: one gate, chosen by the public bit.
 -- Assumes nothing.
-use Rattle.basics.proofs.Common.{◌≡◌, List, [], ◌∷◌, ℕ, ◌-◌, needs, eq-eqb, ne_eqb}
+use mathlib.Core.Path.{◌≡◌}
+use mathlib.Core.List.{List, [], ◌∷◌}
+use Prim.Native.Nat.{ℕ, ◌-◌}
+use borrow.Author.Rules.{rules}
+use borrow.Author.Tests.{eq-eqb, ne_eqb}
 use Rattle.gates.specs.Gate.{Gate}
 use Rattle.gate_words.specs.Gates.{and_of, or_of}
 use Rattle.gate_words.specs.Reach.{carry_bit}
@@ -23,7 +27,7 @@ emit_requires c κs =
 
 same_length : tie.Need-same-length
 same_length c =
-    search needs
+    search rules
 
 -- The stages of the function, seen from later ones.
 abbrev start_from_slice_known2 : tie.After-slice-known2 → tie.Start
@@ -35,8 +39,10 @@ start_from_slice_known3 c = c.before.before.before.before.before.before
 returns : tie.Need-returns
 returns c =
     let a = (start_from_slice_known2 c).args in
-    wrote_as (without_bit a.x a.y a.bit c.before.before.before.before.if1.true)
-    (and_wrote 0 c.before.before.emit.ensures)
+    wrote_as a.w a.table.now _ _ _ _
+    (without_bit a.x a.y a.bit c.before.before.before.before.if1.true)
+    (and_wrote a.w a.table.now c.before.before.emit.new.1.0 c.before.before.emit.result
+    a.x a.y 0 c.before.before.emit.ensures)
 
 emit_requires_2 : tie.Need-emit-requires-2
 emit_requires_2 c κs =
@@ -44,13 +50,15 @@ emit_requires_2 c κs =
 
 same_length_2 : tie.Need-same-length-2
 same_length_2 c =
-    search needs
+    search rules
 
 returns_2 : tie.Need-returns-2
 returns_2 c =
     let a = (start_from_slice_known3 c).args in
-    wrote_as (with_bit a.x a.y a.bit c.before.before.before.before.if1.false)
-    (or_wrote 0 c.before.before.emit2.ensures)
+    wrote_as a.w a.table.now _ _ _ _
+    (with_bit a.x a.y a.bit c.before.before.before.before.if1.false)
+    (or_wrote a.w a.table.now c.before.before.emit2.new.1.0 c.before.before.emit2.result
+    a.x a.y 0 c.before.before.emit2.ensures)
 
 pub carry_bit_spec : {M : Type 1} → statement M
 carry_bit_spec = tie.close (tie.spec emit_requires same_length returns emit_requires_2 same_length_2 returns_2)

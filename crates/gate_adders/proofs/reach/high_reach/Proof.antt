@@ -1,6 +1,10 @@
 -- `gate_adders::reach::high_reach` meets its contract: its parts, one after the other.
 -- Assumes nothing.
-use Rattle.basics.proofs.Common.{◌≡◌, ◌∙◌, refl, ap, ℕ, suc, ◌+◌, ◌-◌, ◌*◌, arith, needs, add-one}
+use mathlib.Core.Path.{◌≡◌, ◌∙◌, refl, ap}
+use Prim.Native.Nat.{ℕ, suc, ◌+◌, ◌-◌, ◌*◌}
+use native.Mathlib.Omega.{arith}
+use borrow.Author.Rules.{rules}
+use native.Mathlib.Numerals.{add-one}
 use Rattle.gate_words.specs.Choice.{all_of, chain_end}
 use Rattle.gate_words.specs.Comparison.{differences}
 use Rattle.gate_words.specs.Reach.{carries_by, high_reach}
@@ -22,7 +26,7 @@ differences_requires : tie.Need-differences-requires
 differences_requires c κs =
     let s = c.before.before in
     record {
-      room = room_less (omega arith) s.requires.room;
+      room = room_less s.args.w _ _ (omega arith) s.requires.room;
       first_below = omega (arith, s.requires);
       second_below = omega (arith, s.requires);
     }
@@ -36,8 +40,9 @@ differ : (c : tie.After-differences)
 differ c =
     let s = c.before.before.before in
     let a = s.args in
-    stands_after c.differences.ensures (length_differences a.x a.y (a.high + 1))
-    (stands refl (omega arith) s.requires.room)
+    stands_after a.w a.table.now _ c.differences.new.1.0 c.differences.result _ _ _
+    c.differences.ensures (length_differences a.x a.y (a.high + 1))
+    (stands a.w a.w.wire _ _ refl (omega arith) s.requires.room)
 
 -- The stages of the function, seen from later ones.
 abbrev start_from_carries_by_arg : tie.After-carries-by-arg → tie.Start
@@ -91,7 +96,7 @@ carries_by_requires : tie.Need-carries-by-requires
 carries_by_requires c κs =
     let d = differ c.before.before.before in
     record {
-      room = room_of d (omega arith);
+      room = room_of c.before.before.before.differences.result _ _ _ d (omega arith);
       first_below = omega (arith, d.place);
       second_below = omega (arith, d.place, (start_from_carries_by_arg c).pre);
     }
@@ -103,9 +108,12 @@ free : (c : tie.After-carries-by)
 free c =
     let a = (start_from_carries_by c).args in
     let d = differ c.before.before.before.before in
-    stands_after c.carries-by.ensures
+    stands_after c.before.before.before.before.differences.result
+    c.before.before.before.before.differences.new.1.0 _ c.carries-by.new.1.0
+    c.carries-by.result _ _ _ c.carries-by.ensures
     (length_carries_by c.before.before.before.before.differences.result.wire (a.w.wire + 1) (a.x + 1)
-    a.x a.high) (stands d.place (omega arith) d.left)
+    a.x a.high)
+    (stands c.before.before.before.before.differences.result _ _ _ d.place (omega arith) d.left)
 
 add_all_of : tie.Need-overflow-add-all-of
 add_all_of c =
@@ -116,7 +124,7 @@ all_of_requires c κs =
     let a = (start_from_carries_by c.before.before.before).args in
     let f = free c.before.before.before in
     record {
-      room = room_of f (omega arith);
+      room = room_of c.before.before.before.carries-by.result _ _ _ f (omega arith);
       below = beside c.before.before.before.carries-by.result.wire (a.w.wire + 1) a.high (omega (arith, f.place));
       near = omega arith;
     }
@@ -127,8 +135,11 @@ every : (c : tie.After-all-of)
 every c =
     let a = (start_from_all_of c).args in
     let f = free c.before.before.before.before in
-    stands_after c.all_of.ensures (length_chain 4 c.before.before.before.before.carries-by.result.wire
-    a.w.wire (a.w.wire + 1) 1 a.high) (stands f.place (omega arith) f.left)
+    stands_after c.before.before.before.before.carries-by.result
+    c.before.before.before.before.carries-by.new.1.0 _ c.all_of.new.1.0 c.all_of.result _ _
+    _ c.all_of.ensures (length_chain 4 c.before.before.before.before.carries-by.result.wire
+    a.w.wire (a.w.wire + 1) 1 a.high)
+    (stands c.before.before.before.before.carries-by.result _ _ _ f.place (omega arith) f.left)
 
 chain_end_requires : tie.Need-chain-end-requires
 chain_end_requires c κs =
@@ -144,7 +155,7 @@ emit_requires c κs =
 
 same_length : tie.Need-same-length
 same_length c =
-    search needs
+    search rules
 
 returns : tie.Need-returns
 unfolding high_reach
@@ -158,12 +169,17 @@ returns c =
     let t₃ = (all_of_from_emit c.before.before).all_of.last.1.0 in
     let p₁ : w₁.wire ≡ a.w.wire + suc a.high = omega (arith, (differ (differences_from_emit c.before.before)).place) in
     let p₂ : w₂.wire ≡ a.w.wire + suc a.high + a.high = omega (arith, (free (carries_by_from_emit c.before.before)).place) in
-    wrote_then (wrote_then (wrote_then (wrote_as (ap (differences a.x a.y) (add-one a.high))
+    wrote_then a.w a.table.now _ t₃ w₃ _ _ _ _
+    (wrote_then a.w a.table.now _ t₂ w₂ _ _ t₃ w₃
+    (wrote_then a.w a.table.now _ t₁ w₁ _ _ t₂ w₂
+    (wrote_as a.w a.table.now _ _ _ _ (ap (differences a.x a.y) (add-one a.high))
     (differences_from_emit c.before.before).differences.ensures)
     (carries_by_from_emit c.before.before).carries-by.ensures
     (ap (λ (k : ℕ). carries_by k (a.w.wire + 1) (a.x + 1) a.x a.high) p₁))
     (all_of_from_emit c.before.before).all_of.ensures (ap (λ (k : ℕ). all_of k a.w.wire (a.w.wire + 1) 1 a.high) p₂))
-    (mux_wrote c.before.before.emit.ensures)
+    (mux_wrote w₃ t₃ c.before.before.emit.new.1.0 c.before.before.emit.result
+    (chain_end_from_slice_known5 c).chain-end.result a.carry
+    c.before.before.before.before.chain-end2.result c.before.before.emit.ensures)
     (one_gate 7 ((chain_end_from_slice_known5 c).chain-end.ensures
     ∙ ap (λ (k : ℕ). chain_end k a.w.wire a.high) p₂) refl
     (c.before.before.before.before.chain-end2.ensures ∙ ap (λ (k : ℕ). chain_end k a.x a.high) p₁))

@@ -1,6 +1,9 @@
 -- `gate_adders::reach::reach_halves` meets its contract: first the low half, then the high one.
 -- Assumes nothing.
-use Rattle.basics.proofs.Common.{refl, ap, ℕ, ◌+◌, ◌-◌, ◌*◌, arith, needs}
+use mathlib.Core.Path.{refl, ap}
+use Prim.Native.Nat.{ℕ, ◌+◌, ◌-◌, ◌*◌}
+use native.Mathlib.Omega.{arith}
+use borrow.Author.Rules.{rules}
 use Rattle.gate_words.specs.Reach.{carries, high_reach, reach_halves}
 use Rattle.gate_words.proofs.Writing.{room_less}
 use Rattle.gate_words.proofs.ReachLaws.{length_carry_bit, length_carries}
@@ -10,7 +13,7 @@ use Rattle.gate_adders.proofs.reach.reach_halves.Tie as tie
 
 carry_bit_requires : tie.Need-carry-bit-requires
 carry_bit_requires c κs =
-    room_less (omega arith) c.before.before.requires.room
+    room_less c.before.before.args.w _ _ (omega arith) c.before.before.requires.room
 
 -- after the lowest digit, and after the low half
 
@@ -20,8 +23,9 @@ first : (c : tie.After-carry-bit)
 first c =
     let s = c.before.before.before in
     let a = s.args in
-    stands_after c.carry-bit.ensures (length_carry_bit a.x a.y a.bit)
-    (stands refl (omega arith) s.requires.room)
+    stands_after a.w a.table.now _ c.carry-bit.new.1.0 c.carry-bit.result _ 1 _
+    c.carry-bit.ensures (length_carry_bit a.x a.y a.bit)
+    (stands a.w a.w.wire _ _ refl (omega arith) s.requires.room)
 
 -- The stages of the function, seen from later ones.
 abbrev start_from_carries_arg : tie.After-carries-arg → tie.Start
@@ -51,7 +55,7 @@ carries_requires : tie.Need-carries-requires
 carries_requires c κs =
     let f = first c.before.before.before in
     record {
-      room = room_of f (omega arith);
+      room = room_of c.before.before.before.carry-bit.result _ _ _ f (omega arith);
       first_below = omega (arith, f.place, (start_from_carries_arg c).pre);
       second_below = omega (arith, f.place, (start_from_carries_arg c).pre);
     }
@@ -62,8 +66,11 @@ lower : (c : tie.After-carries)
 lower c =
     let a = (start_from_carries c).args in
     let f = first c.before.before.before.before in
-    stands_after c.carries.ensures (length_carries c.before.before.before.before.carry-bit.result.wire
-    (a.x + 1) (a.y + 1) a.w.wire a.low) (stands f.place (omega arith) f.left)
+    stands_after c.before.before.before.before.carry-bit.result
+    c.before.before.before.before.carry-bit.new.1.0 _ c.carries.new.1.0 c.carries.result _ _
+    _ c.carries.ensures (length_carries c.before.before.before.before.carry-bit.result.wire
+    (a.x + 1) (a.y + 1) a.w.wire a.low)
+    (stands c.before.before.before.before.carry-bit.result _ _ _ f.place (omega arith) f.left)
 
 add_high_reach : tie.Need-overflow-add-high-reach
 add_high_reach c =
@@ -100,7 +107,7 @@ high_reach_requires c κs =
 
 same_length : tie.Need-same-length
 same_length c =
-    search needs
+    search rules
 
 returns : tie.Need-returns
 unfolding reach_halves
@@ -110,10 +117,12 @@ returns c =
     let t₁ = (carry_bit_from_high_reach c.before.before).carry-bit.last.1.0 in
     let w₂ = (carries_from_slice_known4 c).carries.result in
     let t₂ = (carries_from_slice_known4 c).carries.last.1.0 in
-    wrote_then (wrote_then (carry_bit_from_high_reach c.before.before).carry-bit.ensures
+    wrote_then a.w a.table.now _ t₂ w₂ _ _ _ _
+    (wrote_then a.w a.table.now _ t₁ w₁ _ _ t₂ w₂ (carry_bit_from_high_reach c.before.before).carry-bit.ensures
     (carries_from_slice_known4 c).carries.ensures
     (ap (λ (k : ℕ). carries k (a.x + 1) (a.y + 1) a.w.wire a.low)
-    (first (carry_bit_from_high_reach c.before.before)).place)) c.before.before.high-reach.ensures
+    (first (carry_bit_from_high_reach c.before.before)).place))
+    c.before.before.high-reach.ensures
     (ap (λ (k : ℕ). high_reach k (a.x + 1 + a.low) (a.y + 1 + a.low) (a.w.wire + 2 * a.low) a.high)
     (lower (carries_from_slice_known4 c)).place)
 

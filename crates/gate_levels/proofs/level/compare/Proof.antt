@@ -1,8 +1,14 @@
 -- `gate_levels::level::compare` meets its contract: the first gate whose level differs decides; until then,
 -- comparing the rest answers for all.
 -- Assumes nothing.
-use Rattle.basics.proofs.Common.{needs, ◌∙◌, refl, ap, [], ◌∷◌, ◌++◌, ℕ, ◌-◌, ◌<◌, add-one, arith, length, take}
-use Rattle.basics.proofs.Common.{take-suc}
+use borrow.Author.Rules.{rules}
+use mathlib.Core.Path.{◌∙◌, refl, ap}
+use mathlib.Core.List.{[], ◌∷◌, ◌++◌}
+use Prim.Native.Nat.{ℕ, ◌-◌, ◌<◌}
+use native.Mathlib.Numerals.{add-one}
+use native.Mathlib.Omega.{arith}
+use lib.ListN.{length, take}
+use lib.Seq.{take-suc}
 use Rattle.gate_levels.proofs.Filling.{Left, left_start, level_ready, left_turn, other, own_levels}
 use Rattle.gate_levels.proofs.level.compare.Statement.{statement}
 use Rattle.gate_levels.proofs.level.compare.Tie as tie
@@ -29,6 +35,12 @@ gate_level_requires c κs =
           (omega (arith, s.requires.levels_length, c.before.loop-test.true)) s.requires.few;
     }
 
+mul_if1 : tie.Need-overflow-mul-if1 invariant_loop decreases_loop
+mul_if1 c = search rules
+
+shared_slice_read_if1 : tie.Need-shared-slice-read-if1 invariant_loop decreases_loop
+shared_slice_read_if1 c = omega (arith, c.before.before.before.loop-test.true)
+
 -- The stages of the function, seen from later ones.
 abbrev loop_reached_from_then1 : tie.Then1 invariant_loop decreases_loop → tie.At-loop invariant_loop decreases_loop
 loop_reached_from_then1 c = c.before.before.before.before.before
@@ -50,6 +62,15 @@ returns c =
     (omega (arith, s.pre.levels_length, c.before.before.before.before.loop-test.true)) v.result
     v.ensures (λ e. c.if1.true e)
 
+larger_requires : tie.Need-larger-requires invariant_loop decreases_loop
+larger_requires c κs = search rules
+
+add_g : tie.Need-overflow-add-g invariant_loop decreases_loop
+add_g c = omega (arith, (round_from_larger c).loop-test.taken)
+
+loop_less : tie.Need-loop-smaller invariant_loop decreases_loop
+loop_less c = omega (arith, (round_from_larger c).loop-test.taken)
+
 loop_again : tie.Need-loop-preserved invariant_loop decreases_loop
 loop_again c =
     let at = (loop_reached_from_larger c) in
@@ -64,6 +85,9 @@ loop_again c =
     ∙ ap (λ (n : ℕ). take l.g a.levels.now ++ (n ∷ [])) c.before.if1.false) c.larger.ensures
     (add-one l.g)
 
+rounds_requires : tie.Need-rounds-requires invariant_loop decreases_loop
+rounds_requires c κs = search rules
+
 returns_2 : tie.Need-returns-2 invariant_loop decreases_loop
 returns_2 c =
     let at = c.before.before in
@@ -75,7 +99,18 @@ returns_2 c =
 
 pub compare_spec : {M : Type 1} → statement M
 compare_spec =
-    tie.close (tie.spec invariant_loop decreases_loop loop_holds gate_level_requires (λ c. search needs)
-    (λ c. omega (arith, c.before.before.before.loop-test.true)) returns (λ c κs. search needs)
-    (λ c. omega (arith, (round_from_larger c).loop-test.taken))
-    (λ c. omega (arith, (round_from_larger c).loop-test.taken)) loop_again (λ c κs. search needs) returns_2)
+    tie.close
+    (tie.spec
+    invariant_loop
+    decreases_loop
+    loop_holds
+    gate_level_requires
+    mul_if1
+    shared_slice_read_if1
+    returns
+    larger_requires
+    add_g
+    loop_less
+    loop_again
+    rounds_requires
+    returns_2)

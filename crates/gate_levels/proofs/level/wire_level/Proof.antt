@@ -1,9 +1,20 @@
 -- `gate_levels::level::wire_level` meets its contract: an input has level 0, any other wire that of its gate.
 -- Assumes nothing.
-use Rattle.basics.proofs.Common.{needs, sym, ap, Bool, cond, ◌-◌, get_or, lt-ltb, le-ltb}
+use borrow.Author.Rules.{rules}
+use mathlib.Core.Path.{sym, ap}
+use mathlib.Core.Bool.{Bool, cond}
+use Prim.Native.Nat.{◌-◌}
+use lib.ListN.{get_or}
+use borrow.Author.Tests.{lt-ltb, le-ltb}
 use Rattle.gate_levels.specs.Levels.{wire_level}
 use Rattle.gate_levels.proofs.level.wire_level.Statement.{statement}
 use Rattle.gate_levels.proofs.level.wire_level.Tie as tie
+
+mul_result : tie.Need-overflow-mul-result
+mul_result c = search rules
+
+shared_slice_read_result : tie.Need-shared-slice-read-result
+shared_slice_read_result c = search rules
 
 returns : tie.Need-returns
 unfolding wire_level
@@ -18,4 +29,4 @@ returns_2 c = let a = c.before.before.args in
     (le-ltb a.x a.inputs c.before.if1.false))
 
 pub wire_level_spec : {M : Type 1} → statement M
-wire_level_spec = tie.close (tie.spec (λ c. search needs) (λ c. search needs) returns returns_2)
+wire_level_spec = tie.close (tie.spec mul_result shared_slice_read_result returns returns_2)

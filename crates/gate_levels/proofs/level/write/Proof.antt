@@ -1,6 +1,12 @@
 -- `gate_levels::level::write` meets its contract: after each gate, writing the levels left completes the table.
 -- Assumes nothing.
-use Rattle.basics.proofs.Common.{needs, ◌∙◌, refl, sym, ◌-◌, ◌<◌, add-one, arith, length, length-set, take-suc-set}
+use borrow.Author.Rules.{rules}
+use mathlib.Core.Path.{◌∙◌, refl, sym}
+use Prim.Native.Nat.{◌-◌, ◌<◌}
+use native.Mathlib.Numerals.{add-one}
+use native.Mathlib.Omega.{arith}
+use lib.ListN.{length, length-set}
+use lib.Seq.{take-suc-set}
 use Rattle.gate_levels.proofs.Filling.{Left, left_start, level_ready, left_turn, left_end}
 use Rattle.gate_levels.proofs.level.write.Statement.{statement}
 use Rattle.gate_levels.proofs.level.write.Tie as tie
@@ -27,6 +33,9 @@ gate_level_requires c κs =
           (omega (arith, s.requires.levels_length, c.before.before.loop-test.true)) s.requires.few;
     }
 
+mul_levels : tie.Need-overflow-mul-levels invariant_loop decreases_loop
+mul_levels c = search rules
+
 slice_write_levels : tie.Need-slice-write-levels invariant_loop decreases_loop
 slice_write_levels c =
     let at = c.before.before.before.before in
@@ -34,6 +43,9 @@ slice_write_levels c =
     let s = at.before.before.before in
     let a = s.args in
     omega (arith, l.invariant.long, s.requires.levels_length, c.before.before.before.loop-test.true)
+
+larger_requires : tie.Need-larger-requires invariant_loop decreases_loop
+larger_requires c κs = search rules
 
 add_g : tie.Need-overflow-add-g invariant_loop decreases_loop
 add_g c = omega (arith, c.before.before.before.before.loop-test.true)
@@ -59,6 +71,9 @@ loop_again c =
     v.ensures _ _ _ (length-set l.levels l.g v.result)
     (take-suc-set l.levels l.g v.result inside) c.larger.ensures (add-one l.g)
 
+rounds_requires : tie.Need-rounds-requires invariant_loop decreases_loop
+rounds_requires c κs = search rules
+
 same_length : tie.Need-same-length invariant_loop decreases_loop
 same_length c =
     let at = c.before.before in
@@ -79,5 +94,18 @@ returns c =
 
 pub write_spec : {M : Type 1} → statement M
 write_spec =
-    tie.close (tie.spec invariant_loop decreases_loop loop_holds gate_level_requires (λ c. search needs) slice_write_levels
-    (λ c κs. search needs) add_g loop_less loop_again (λ c κs. search needs) same_length returns)
+    tie.close
+    (tie.spec
+    invariant_loop
+    decreases_loop
+    loop_holds
+    gate_level_requires
+    mul_levels
+    slice_write_levels
+    larger_requires
+    add_g
+    loop_less
+    loop_again
+    rounds_requires
+    same_length
+    returns)

@@ -1,9 +1,17 @@
 -- `gate_words::choice::chain_end` meets its contract: it computes the definition.
 -- Assumes nothing.
-use Rattle.basics.proofs.Common.{◌≡◌, refl, ℕ, zero, suc, ◌+◌, ◌-◌, arith}
+use mathlib.Core.Path.{◌≡◌, refl}
+use Prim.Native.Nat.{ℕ, zero, suc, ◌+◌, ◌-◌}
+use native.Mathlib.Omega.{arith}
 use Rattle.gate_words.specs.Choice.{chain_end}
 use Rattle.gate_words.proofs.choice.chain_end.Statement.{statement}
 use Rattle.gate_words.proofs.choice.chain_end.Tie as tie
+
+add_result : tie.Need-overflow-add-result
+add_result c = omega arith
+
+sub_result : tie.Need-overflow-sub-result
+sub_result c = omega arith
 
 no_gate : (n s m : ℕ) → m ≡ 0 → s ≡ chain_end n s m
 unfolding chain_end
@@ -21,4 +29,4 @@ returns_2 : tie.Need-returns-2
 returns_2 c = let a = c.before.args in last_gate a.n a.s a.count c.if1.false
 
 pub chain_end_spec : {M : Type 1} → statement M
-chain_end_spec = tie.close (tie.spec (λ c. omega arith) (λ c. omega arith) returns returns_2)
+chain_end_spec = tie.close (tie.spec add_result sub_result returns returns_2)

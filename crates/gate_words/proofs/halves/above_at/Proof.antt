@@ -1,6 +1,8 @@
 -- `gate_words::halves::above_at` meets its contract: it is the end of a chain.
 -- Assumes nothing.
-use Rattle.basics.proofs.Common.{◌≡◌, ◌∙◌, ap, ℕ, ◌+◌, ◌-◌, arith}
+use mathlib.Core.Path.{◌≡◌, ◌∙◌, ap}
+use Prim.Native.Nat.{ℕ, ◌+◌, ◌-◌}
+use native.Mathlib.Omega.{arith}
 use Rattle.gate_words.specs.Choice.{chain_end}
 use Rattle.gate_words.specs.Halves.{unequal_span}
 use Rattle.gate_words.proofs.halves.above_at.Statement.{statement}

@@ -1,6 +1,9 @@
 -- `gate_words::halves::high_unequal_at` meets its contract: it is the end of the second chain.
 -- Assumes nothing.
-use Rattle.basics.proofs.Common.{◌∙◌, ◌+◌, ◌-◌, arith, needs}
+use mathlib.Core.Path.{◌∙◌}
+use Prim.Native.Nat.{◌+◌, ◌-◌}
+use native.Mathlib.Omega.{arith}
+use borrow.Author.Rules.{rules}
 use Rattle.gate_words.proofs.HalvesLaws.{high_unequal_none, high_unequal_some}
 use Rattle.gate_words.proofs.halves.high_unequal_at.Statement.{statement}
 use Rattle.gate_words.proofs.halves.high_unequal_at.Tie as tie
@@ -35,7 +38,7 @@ add_chain_end_6 c =
 
 sub_chain_end : tie.Need-overflow-sub-chain-end
 sub_chain_end c =
-    search needs
+    search rules
 
 chain_end_requires : tie.Need-chain-end-requires
 chain_end_requires c κs =

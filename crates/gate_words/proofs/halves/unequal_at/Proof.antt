@@ -1,6 +1,8 @@
 -- `gate_words::halves::unequal_at` meets its contract: it is the end of a chain.
 -- Assumes nothing.
-use Rattle.basics.proofs.Common.{◌≡◌, ◌∙◌, ap, ℕ, suc, ◌+◌, ◌-◌, arith}
+use mathlib.Core.Path.{◌≡◌, ◌∙◌, ap}
+use Prim.Native.Nat.{ℕ, suc, ◌+◌, ◌-◌}
+use native.Mathlib.Omega.{arith}
 use Rattle.gate_words.specs.Choice.{chain_end}
 use Rattle.gate_words.proofs.halves.unequal_at.Statement.{statement}
 use Rattle.gate_words.proofs.halves.unequal_at.Tie as tie

@@ -1,10 +1,56 @@
 -- `gate_words::writer::store` meets its contract: four stores if there is room, else none.
 -- Assumes nothing.
-use Rattle.basics.proofs.Common.{◌∙◌, sym, ap, Bool, cond, [], ◌∷◌, ◌+◌, arith, length, length-set, sets, lt-ltb}
-use Rattle.basics.proofs.Common.{le-ltb, needs}
+use mathlib.Core.Path.{◌∙◌, sym, ap}
+use mathlib.Core.Bool.{Bool, cond}
+use mathlib.Core.List.{[], ◌∷◌}
+use Prim.Native.Nat.{◌+◌}
+use native.Mathlib.Omega.{arith}
+use lib.ListN.{length, length-set}
+use lib.Seq.{sets}
+use borrow.Author.Tests.{lt-ltb, le-ltb}
 use Rattle.gate_words.proofs.Writing.{sets_four}
+use borrow.Author.Rules.{rules}
 use Rattle.gate_words.proofs.writer.store.Statement.{statement}
 use Rattle.gate_words.proofs.writer.store.Tie as tie
+
+add_if1 : tie.Need-overflow-add-if1
+add_if1 c = search rules
+
+mul_table : tie.Need-overflow-mul-table
+mul_table c = search rules
+
+slice_write_table : tie.Need-slice-write-table
+slice_write_table c = search rules
+
+add_table : tie.Need-overflow-add-table
+add_table c = search rules
+
+mul_table_2 : tie.Need-overflow-mul-table-2
+mul_table_2 c = search rules
+
+slice_write_table_2 : tie.Need-slice-write-table-2
+slice_write_table_2 c = simp length-set (omega (arith, c.if1.true))
+
+add_table_2 : tie.Need-overflow-add-table-2
+add_table_2 c = search rules
+
+mul_table_3 : tie.Need-overflow-mul-table-3
+mul_table_3 c = search rules
+
+slice_write_table_3 : tie.Need-slice-write-table-3
+slice_write_table_3 c = simp length-set (omega (arith, c.if1.true))
+
+add_table_3 : tie.Need-overflow-add-table-3
+add_table_3 c = search rules
+
+mul_table_4 : tie.Need-overflow-mul-table-4
+mul_table_4 c = search rules
+
+slice_write_table_4 : tie.Need-slice-write-table-4
+slice_write_table_4 c = search rules
+
+same_length : tie.Need-same-length
+same_length c = search rules
 
 returns : tie.Need-returns
 returns c =
@@ -23,7 +69,19 @@ returns_2 c =
 pub store_spec : {M : Type 1} → statement M
 store_spec =
     tie.close
-    (tie.spec (λ c. search needs) (λ c. search needs) (λ c. search needs) (λ c. search needs) (λ c. search needs)
-    (λ c. simp length-set (omega (arith, c.if1.true))) (λ c. search needs) (λ c. search needs)
-    (λ c. simp length-set (omega (arith, c.if1.true))) (λ c. search needs) (λ c. search needs) (λ c. search needs)
-    (λ c. search needs) returns returns_2)
+    (tie.spec
+    add_if1
+    mul_table
+    slice_write_table
+    add_table
+    mul_table_2
+    slice_write_table_2
+    add_table_2
+    mul_table_3
+    slice_write_table_3
+    add_table_3
+    mul_table_4
+    slice_write_table_4
+    same_length
+    returns
+    returns_2)

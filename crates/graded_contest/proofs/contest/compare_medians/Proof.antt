@@ -1,7 +1,12 @@
 -- `graded_contest::contest::compare_medians` meets its contract: it compares the flags that say which grades each
 -- median is worse than.
 -- Assumes nothing.
-use Rattle.basics.proofs.Common.{sym, subst, ◌-◌, ◌*◌, ◌≤◌, mul-le-mul, add-one, arith, needs}
+use mathlib.Core.Path.{sym, subst}
+use Prim.Native.Nat.{◌-◌, ◌*◌, ◌≤◌}
+use native.Mathlib.Nat.{mul-le-mul}
+use native.Mathlib.Numerals.{add-one}
+use native.Mathlib.Omega.{arith}
+use borrow.Author.Rules.{rules}
 use Rattle.graded_circuit.specs.RunningSums.{word_span}
 use Rattle.graded_circuit.specs.Median.{Fits}
 use Rattle.graded_circuit.proofs.BoundLaws.{digits_most}
@@ -52,7 +57,13 @@ compare_ones_requires c κs =
       fits = subst (Fits (p.grades - 1)) (sym (add-one p.places)) (grade_fits p f);
     }
 
+same_length : tie.Need-same-length
+same_length c = search rules
+
+returns : tie.Need-returns
+returns c = c.before.before.compare-ones.ensures
+
 pub compare_medians_spec : {M : Type 1} → statement M
 compare_medians_spec = tie.close
     (tie.spec add_compare_ones add_compare_ones_2 add_compare_ones_3 sub_compare_ones compare_ones_requires
-    (λ c. search needs) (λ c. c.before.before.compare-ones.ensures))
+    same_length returns)

@@ -1,6 +1,9 @@
 -- `graded_contest::contest::contest` meets its contract: first the comparison of the medians, then that of the sums.
 -- Assumes nothing.
-use Rattle.basics.proofs.Common.{◌∙◌, refl, ap, ℕ, ◌+◌, ◌-◌, arith, needs}
+use mathlib.Core.Path.{◌∙◌, refl, ap}
+use Prim.Native.Nat.{ℕ, ◌+◌, ◌-◌}
+use native.Mathlib.Omega.{arith}
+use borrow.Author.Rules.{rules}
 use Rattle.gate_words.proofs.Writing.{room_less}
 use Rattle.gate_words.proofs.Standing.{Stands, stands, stands_after, wrote_then}
 use Rattle.graded_circuit.specs.RunningSums.{word_span}
@@ -26,7 +29,7 @@ compare_medians_requires c κs =
     let s = c.before.before in
     record {
       planned = s.requires.plan;
-      room = room_less (omega arith) s.requires.room;
+      room = room_less s.args.w _ _ (omega arith) s.requires.room;
       first_below =
           s.requires.first_below;
       second_below = s.requires.second_below;
@@ -41,10 +44,11 @@ compared c =
     let a = s.args in
     let p = a.p in
     let f = s.pre.plan in
-    stands_after c.compare-medians.ensures
+    stands_after a.w a.table.now _ c.compare-medians.new.1.0 c.compare-medians.result _ _ _ c.compare-medians.ensures
     (ones_block a.w.wire (a.y + p.digits) (a.x + p.digits) (word_span p) (p.grades - 1) p.places
     (grade_fits p f) (flags_end p f a.y a.w.wire s.pre.second_below)
-    (flags_end p f a.x a.w.wire s.pre.first_below)).long (stands refl (omega arith) s.pre.room)
+    (flags_end p f a.x a.w.wire s.pre.first_below)).long
+    (stands a.w a.w.wire _ _ refl (omega arith) s.pre.room)
 
 sub_ones_differ : tie.Need-overflow-sub-ones-differ
 sub_ones_differ c = omega (arith, (from_compared c.before.before.before).requires.plan.d_least)
@@ -90,6 +94,9 @@ tie_break_below_requires c κs =
       cut = s.pre.cut;
     }
 
+same_length : tie.Need-same-length
+same_length c = search rules
+
 returns : tie.Need-returns
 unfolding contest
 returns c =
@@ -104,7 +111,7 @@ returns c =
     let e = k.ones-differ in
     let s = l.ones-larger in
     let at = tie_break_below_at p n in
-    wrote_then d.ensures v.ensures
+    wrote_then a.w a.table.now _ d.last.1.0 d.result _ _ v.new.1.0 v.result d.ensures v.ensures
     (ap (λ (i : ℕ). tie_break_below p i a.x a.y e.result s.result p.digits a.high (p.grades - 2)) (compared h).place
     ∙ ap (λ (i : ℕ). tie_break_below p at a.x a.y i s.result p.digits a.high (p.grades - 2)) e.ensures
     ∙ ap (λ (i : ℕ). tie_break_below p at a.x a.y (ones_differ n (p.grades - 1) p.places) i p.digits
@@ -112,4 +119,4 @@ returns c =
 
 pub contest_spec : {M : Type 1} → statement M
 contest_spec = tie.close (tie.spec compare_medians_requires sub_ones_differ ones_differ_requires add_ones_larger
-    sub_ones_larger ones_larger_requires tie_break_below_requires (λ c. search needs) returns)
+    sub_ones_larger ones_larger_requires tie_break_below_requires same_length returns)

@@ -1,6 +1,9 @@
 -- `graded_contest::contest::one_sum` meets its contract: a comparison, then two gates.
 -- Assumes nothing.
-use Rattle.basics.proofs.Common.{refl, ◌+◌, ◌-◌, arith, needs}
+use mathlib.Core.Path.{refl}
+use Prim.Native.Nat.{◌+◌, ◌-◌}
+use native.Mathlib.Omega.{arith}
+use borrow.Author.Rules.{rules}
 use Rattle.gate_words.specs.Halves.{compare_span}
 use Rattle.gate_words.proofs.Writing.{wrote_as, room_less}
 use Rattle.gate_words.proofs.Emitting.{or_wrote, mux_wrote}
@@ -14,7 +17,7 @@ compare_halves_requires c κs =
     let s = c.before.before.before.before in
     let q = s.requires in
     record {
-      room = room_less (omega (arith, q.cut)) s.requires.room;
+      room = room_less s.args.w _ _ (omega (arith, q.cut)) s.requires.room;
       first_below = omega (arith, q.first_below, q.cut);
       second_below = omega (arith, q.second_below, q.cut);
     }
@@ -53,17 +56,20 @@ compared : (c : tie.After-compare-halves)
 compared c =
     let s = (start_from_compare_halves c) in
     let a = s.args in
-    stands_after
+    stands_after a.w a.table.now _ c.compare-halves.new.1.0 c.compare-halves.result _ _ _
     c.compare-halves.ensures (length_compare_cut a.w.wire a.x a.y a.above a.high s.pre.cut)
-    (stands refl (omega arith) s.pre.room)
+    (stands a.w a.w.wire _ _ refl (omega arith) s.pre.room)
 
 emit_requires : tie.Need-emit-requires
 emit_requires c κs =
-    room_of (compared c.before.before.before) (omega arith)
+    room_of c.before.before.before.compare-halves.result _ _ _ (compared c.before.before.before) (omega arith)
 
 emit_requires_2 : tie.Need-emit-requires-2
 emit_requires_2 c κs =
-    (stands_after c.before.before.before.emit.ensures refl (compared (compare_halves_from_emit_arg2 c))).left
+    (stands_after (compare_halves_from_emit_arg2 c).compare-halves.result
+    (compare_halves_from_emit_arg2 c).compare-halves.last.1.0 _
+    c.before.before.before.emit.new.1.0 c.before.before.before.emit.result _ 1 1
+    c.before.before.before.emit.ensures refl (compared (compare_halves_from_emit_arg2 c))).left
 
 returns : tie.Need-returns
 returns c =
@@ -72,10 +78,13 @@ returns c =
     let t₁ = (compare_halves_from_emit2 c.before.before).compare-halves.last.1.0 in
     let w₂ = (emit_from_slice_known4 c).emit.result in
     let t₂ = (emit_from_slice_known4 c).emit.last.1.0 in
-    wrote_then (compare_halves_from_emit2 c.before.before).compare-halves.ensures (wrote_then
-    (wrote_as (one_gate 5 refl (unequal_at_from_emit2 c.before.before).unequal_at.ensures
-    refl) (or_wrote 0 (emit_from_slice_known4 c).emit.ensures))
-    (mux_wrote c.before.before.emit2.ensures)
+    wrote_then a.w a.table.now _ t₁ w₁ _ _ _ _ (compare_halves_from_emit2 c.before.before).compare-halves.ensures
+    (wrote_then w₁ t₁ _ t₂ w₂ _ _ _ _
+    (wrote_as w₁ t₁ _ _ t₂ w₂ (one_gate 5 refl (unequal_at_from_emit2 c.before.before).unequal_at.ensures
+    refl) (or_wrote w₁ t₁ t₂ w₂ a.e (unequal_at_from_emit2 c.before.before).unequal_at.result 0
+    (emit_from_slice_known4 c).emit.ensures))
+    (mux_wrote w₂ t₂ c.before.before.emit2.new.1.0 c.before.before.emit2.result a.e a.s
+    (above_at_from_emit2 c.before.before).above_at.result c.before.before.emit2.ensures)
     (one_gate 7 refl refl (above_at_from_emit2 c.before.before).above_at.ensures)) refl
 
 unequal_at_requires : tie.Need-unequal-at-requires
@@ -92,7 +101,7 @@ sub_compare_halves c =
 
 same_length : tie.Need-same-length
 same_length c =
-    search needs
+    search rules
 
 pub one_sum_spec : {M : Type 1} → statement M
 one_sum_spec = tie.close (tie.spec unequal_at_requires above_at_requires sub_compare_halves compare_halves_requires

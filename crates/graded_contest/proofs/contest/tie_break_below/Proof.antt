@@ -1,7 +1,10 @@
 -- `graded_contest::contest::tie_break_below` meets its contract: only the medians, one comparison, or the nearest
 -- differences.
 -- Assumes nothing.
-use Rattle.basics.proofs.Common.{◌≡◌, ◌∙◌, ap, ℕ, suc, ◌+◌, ◌-◌, ◌*◌, ◌%◌, ◌<◌, arith, needs}
+use mathlib.Core.Path.{◌≡◌, ◌∙◌, ap}
+use Prim.Native.Nat.{ℕ, suc, ◌+◌, ◌-◌, ◌*◌, ◌%◌, ◌<◌}
+use native.Mathlib.Omega.{arith}
+use borrow.Author.Rules.{rules}
 use Rattle.gate_words.proofs.Writing.{wrote_as, room_less}
 use Rattle.graded_circuit.specs.declared.plan.Plan.{Plan}
 use Rattle.graded_circuit.specs.RunningSums.{word_span}
@@ -23,7 +26,7 @@ key_strides p h k =
 
 medians_alone_requires : tie.Need-medians-alone-requires
 medians_alone_requires c κs =
-    room_less (omega arith) c.before.before.before.before.requires.room
+    room_less c.before.before.before.before.args.w _ _ (omega arith) c.before.before.before.before.requires.room
 
 -- The stages of the function, seen from later ones.
 abbrev start_from_medians_alone : tie.After-medians-alone → tie.Start
@@ -50,7 +53,8 @@ else1_from_slice_known4 c = c.before.before.before.before.before
 returns : tie.Need-returns
 returns c =
     let a = (start_from_medians_alone c.before.before).args in
-    wrote_as (tie_break_below_zero a.p a.w.wire a.x a.y a.e a.s a.p.digits a.high
+    wrote_as a.w a.table.now _ _ _ _
+    (tie_break_below_zero a.p a.w.wire a.x a.y a.e a.s a.p.digits a.high
     (a.p.grades - 2) c.before.before.before.before.if1.true) c.before.before.medians-alone.ensures
 
 some : (c : tie.Else1) → 0 < c.before.before.before.args.p.digits
@@ -69,10 +73,11 @@ one_sum_requires c κs =
     let k = key_some a.p s.pre.plan in
     let z = some c.before.before in
     record {
-      room = room_less (omega (
+      room = room_less a.w _ _ (omega (
         arith,
         tie_break_below_span_one a.p.digits (a.p.grades - 2) z (omega (arith, c.before.if2.true)),
-      )) s.pre.room;
+      ))
+          s.pre.room;
       first_below = omega (arith, q.first_below);
       second_below = omega (arith, q.second_below);
       cut = q.cut;
@@ -81,7 +86,7 @@ one_sum_requires c κs =
 returns_2 : tie.Need-returns-2
 returns_2 c =
     let a = (start_from_one_sum c.before.before).args in
-    wrote_as
+    wrote_as a.w a.table.now _ _ _ _
     (tie_break_below_one a.p a.w.wire a.x a.y a.e a.s a.p.digits a.high (a.p.grades - 2)
     (some (else1_from_slice_known3 c)) (omega (arith, c.before.before.before.before.if2.true)))
     c.before.before.one-sum.ensures
@@ -106,7 +111,7 @@ tie_break_requires c κs =
     let e : a.p.grades - 2 - 1 ≡ a.p.grades - 3 = omega arith in
     let f = tie_break_below_span_more a.p.digits (a.p.grades - 2) z (omega arith) in
     record {
-      room = room_less (omega (arith, f, ap (λ (i : ℕ). i * side_span d) e, ap (λ (i : ℕ). i * either_span d) e)) s.pre.room;
+      room = room_less a.w _ _ (omega (arith, f, ap (λ (i : ℕ). i * side_span d) e, ap (λ (i : ℕ). i * either_span d) e)) s.pre.room;
       first_below = omega (arith, q.first_below, k);
       second_below = omega (arith, q.second_below, k);
       narrow = omega (arith, digits_most a.p s.pre.plan);
@@ -119,22 +124,22 @@ returns_3 c =
     let a = (start_from_tie_break c.before.before).args in
     let m = more c.before.before.before.before in
     let e : a.p.grades - 3 ≡ a.p.grades - 2 - 1 = omega arith in
-    wrote_as
+    wrote_as a.w a.table.now _ _ _ _
     (ap (tie_break (a.p.ballots % 2) a.w.wire a.x a.y a.e a.s (a.p.digits - 1) a.high) e
     ∙ tie_break_below_more a.p a.w.wire a.x a.y a.e a.s a.p.digits a.high
     (a.p.grades - 2) (some (else1_from_slice_known4 c)) (omega arith)) c.before.before.tie-break.ensures
 
 same_length : tie.Need-same-length
 same_length c =
-    search needs
+    search rules
 
 same_length_2 : tie.Need-same-length-2
 same_length_2 c =
-    search needs
+    search rules
 
 same_length_3 : tie.Need-same-length-3
 same_length_3 c =
-    search needs
+    search rules
 
 pub tie_break_below_spec : {M : Type 1} → statement M
 tie_break_below_spec = tie.close

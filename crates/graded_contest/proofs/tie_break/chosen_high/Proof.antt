@@ -1,6 +1,8 @@
 -- `graded_contest::tie_break::chosen_high` meets its contract: it computes the definition.
 -- Assumes nothing.
-use Rattle.basics.proofs.Common.{◌≡◌, refl, ℕ, zero, suc, ◌+◌, ◌-◌, ◌/◌, arith}
+use mathlib.Core.Path.{◌≡◌, refl}
+use Prim.Native.Nat.{ℕ, zero, suc, ◌+◌, ◌-◌, ◌/◌}
+use native.Mathlib.Omega.{arith}
 use Rattle.graded_circuit.specs.TieBreak.{chosen_high}
 use Rattle.graded_contest.proofs.tie_break.chosen_high.Statement.{statement}
 use Rattle.graded_contest.proofs.tie_break.chosen_high.Tie as tie

@@ -1,6 +1,9 @@
 -- `graded_contest::tie_break::compare_and_reach` meets its contract: two comparisons, then two carries.
 -- Assumes nothing.
-use Rattle.basics.proofs.Common.{◌≡◌, refl, ap, ℕ, ◌+◌, ◌-◌, ◌*◌, arith, needs}
+use mathlib.Core.Path.{◌≡◌, refl, ap}
+use Prim.Native.Nat.{ℕ, ◌+◌, ◌-◌, ◌*◌}
+use native.Mathlib.Omega.{arith}
+use borrow.Author.Rules.{rules}
 use Rattle.gate_words.specs.Halves.{compare_cut, compare_span}
 use Rattle.gate_words.specs.Reach.{reach, reach_span}
 use Rattle.gate_words.proofs.Writing.{room_less}
@@ -20,7 +23,7 @@ compare_halves_requires c κs =
     let s = c.before.before in
     let q = s.requires in
     record {
-      room = room_less (omega (arith, q.cut)) s.requires.room;
+      room = room_less s.args.w _ _ (omega (arith, q.cut)) s.requires.room;
       first_below = omega (arith, q.a_below, q.cut);
       second_below = omega (arith, q.c_below, q.cut);
     }
@@ -35,9 +38,9 @@ down : (c : tie.After-compare-halves)
 down c =
     let s = c.before.before.before in
     let a = s.args in
-    stands_after
+    stands_after a.w a.table.now _ c.compare-halves.new.1.0 c.compare-halves.result _ _ _
     c.compare-halves.ensures (length_compare_cut a.w.wire a.a a.c a.above a.high s.requires.cut)
-    (stands refl (omega arith) s.requires.room)
+    (stands a.w a.w.wire _ _ refl (omega arith) s.requires.room)
 
 -- The stages of the function, seen from later ones.
 abbrev start_from_compare_halves_arg2 : tie.After-compare-halves-arg2 → tie.Start
@@ -69,7 +72,7 @@ compare_halves_requires_2 c κs =
     let q = (start_from_compare_halves_arg2 c).pre in
     let d = down c.before.before.before in
     record {
-      room = room_of d (omega (arith, q.cut));
+      room = room_of c.before.before.before.compare-halves.result _ _ _ d (omega (arith, q.cut));
       first_below = omega (arith, d.place, q.u_below, q.cut);
       second_below = omega (arith, d.place, q.v_below, q.cut);
     }
@@ -82,16 +85,19 @@ up : (c : tie.After-compare-halves2)
 up c =
     let s = (start_from_compare_halves2 c) in
     let a = s.args in
-    stands_after c.compare-halves2.ensures
+    stands_after c.before.before.before.before.compare-halves.result
+    c.before.before.before.before.compare-halves.new.1.0 _ c.compare-halves2.new.1.0
+    c.compare-halves2.result _ _ _ c.compare-halves2.ensures
     (length_compare_cut c.before.before.before.before.compare-halves.result.wire a.u a.v a.above
-    a.high s.pre.cut) (down c.before.before.before.before)
+    a.high s.pre.cut)
+    (down c.before.before.before.before)
 
 reach_requires : tie.Need-reach-requires
 reach_requires c κs =
     let q = (start_from_compare_halves2 c.before.before.before).pre in
     let d = up c.before.before.before in
     record {
-      room = room_of d (omega arith);
+      room = room_of c.before.before.before.compare-halves2.result _ _ _ d (omega arith);
       first_below = omega (arith, d.place, q.a_below);
       second_below = omega (arith, d.place, q.u_below);
     }
@@ -102,8 +108,11 @@ left : (c : tie.After-reach) → Stands c.reach.result
     (reach_span (start_from_reach c).args.above)
 left c =
     let a = (start_from_reach c).args in
-    stands_after c.reach.ensures (length_reach c.before.before.before.before.compare-halves2.result.wire
-    a.a a.u a.bit a.above) (up c.before.before.before.before)
+    stands_after c.before.before.before.before.compare-halves2.result
+    c.before.before.before.before.compare-halves2.new.1.0 _ c.reach.new.1.0 c.reach.result _
+    _ _ c.reach.ensures (length_reach c.before.before.before.before.compare-halves2.result.wire
+    a.a a.u a.bit a.above)
+    (up c.before.before.before.before)
 
 reach_requires_2 : tie.Need-reach-requires-2
 reach_requires_2 c κs =
@@ -125,7 +134,9 @@ returns c =
     let t₃ = (reach_from_slice_known5 c).reach.last.1.0 in
     let e₂ : w₂.wire ≡ n + 2 * compare_span r = omega (arith, (up (compare_halves2_from_reach2 c.before.before)).place) in
     let e₃ : w₃.wire ≡ n + 2 * compare_span r + reach_span r = omega (arith, (left (reach_from_slice_known5 c)).place) in
-    wrote_then (wrote_then (wrote_then (compare_halves_from_reach2 c.before.before).compare-halves.ensures
+    wrote_then a.w a.table.now _ t₃ w₃ _ _ _ _
+    (wrote_then a.w a.table.now _ t₂ w₂ _ _ _ _
+    (wrote_then a.w a.table.now _ t₁ w₁ _ _ _ _ (compare_halves_from_reach2 c.before.before).compare-halves.ensures
     (compare_halves2_from_reach2 c.before.before).compare-halves2.ensures
     (ap (λ (k : ℕ). compare_cut k a.u a.v r a.high)
     (down (compare_halves_from_reach2 c.before.before)).place))
@@ -134,7 +145,7 @@ returns c =
 
 same_length : tie.Need-same-length
 same_length c =
-    search needs
+    search rules
 
 pub compare_and_reach_spec : {M : Type 1} → statement M
 compare_and_reach_spec = tie.close

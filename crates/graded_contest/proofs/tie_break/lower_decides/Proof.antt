@@ -1,6 +1,9 @@
 -- `graded_contest::tie_break::lower_decides` meets its contract: four gates.
 -- Assumes nothing.
-use Rattle.basics.proofs.Common.{refl, ◌+◌, ◌-◌, arith, needs}
+use mathlib.Core.Path.{refl}
+use Prim.Native.Nat.{◌+◌, ◌-◌}
+use native.Mathlib.Omega.{arith}
+use borrow.Author.Rules.{rules}
 use Rattle.gate_words.proofs.Writing.{wrote_both, room_less}
 use Rattle.gate_words.proofs.Emitting.{not_wrote, and_wrote}
 use Rattle.gate_words.proofs.Standing.{Stands, stands, stands_after, room_of}
@@ -9,15 +12,18 @@ use Rattle.graded_contest.proofs.tie_break.lower_decides.Tie as tie
 
 emit_requires : tie.Need-emit-requires
 emit_requires c κs =
-    room_less (omega arith) c.before.before.requires.room
+    room_less c.before.before.args.w _ _ (omega arith) c.before.before.requires.room
 
 after1 : (c : tie.After-emit) → Stands c.emit.result (c.before.before.before.args.w.wire + 1) 3
 after1 c =
-    stands_after c.emit.ensures refl (stands refl (omega arith) c.before.before.before.requires.room)
+    stands_after c.before.before.before.args.w c.before.before.before.args.table.now _
+    c.emit.new.1.0 c.emit.result _ 1 3 c.emit.ensures refl
+    (stands c.before.before.before.args.w c.before.before.before.args.w.wire _ _ refl
+    (omega arith) c.before.before.before.requires.room)
 
 emit_requires_2 : tie.Need-emit-requires-2
 emit_requires_2 c κs =
-    room_of (after1 c.before.before.before) (omega arith)
+    room_of c.before.before.before.emit.result _ _ _ (after1 c.before.before.before) (omega arith)
 
 -- The stages of the function, seen from later ones.
 abbrev start_from_emit_arg2 : tie.After-emit-arg2 → tie.Start
@@ -46,26 +52,51 @@ emit3_from_slice_known5 c = c.before.before.before.before.before.before
 
 after2 : (c : tie.After-emit2) → Stands c.emit2.result ((start_from_emit2 c).args.w.wire + 1 + 1) 2
 after2 c =
-    stands_after c.emit2.ensures refl (after1 c.before.before.before.before)
+    stands_after c.before.before.before.before.emit.result
+    c.before.before.before.before.emit.new.1.0 _ c.emit2.new.1.0 c.emit2.result _ 1 2
+    c.emit2.ensures refl (after1 c.before.before.before.before)
 
 emit_requires_3 : tie.Need-emit-requires-3
 emit_requires_3 c κs =
-    room_of (after2 c.before.before.before) (omega arith)
+    room_of c.before.before.before.emit2.result _ _ _ (after2 c.before.before.before) (omega arith)
 
 after3 : (c : tie.After-emit3) → Stands c.emit3.result ((start_from_emit3 c).args.w.wire + 1 + 1 + 1) 1
 after3 c =
-    stands_after c.emit3.ensures refl (after2 c.before.before.before.before)
+    stands_after c.before.before.before.before.emit2.result
+    c.before.before.before.before.emit2.new.1.0 _ c.emit3.new.1.0 c.emit3.result _ 1 1
+    c.emit3.ensures refl (after2 c.before.before.before.before)
 
 emit_requires_4 : tie.Need-emit-requires-4
 emit_requires_4 c κs =
-    room_of (after3 c.before.before.before) (omega arith)
+    room_of c.before.before.before.emit3.result _ _ _ (after3 c.before.before.before) (omega arith)
 
 returns : tie.Need-returns
 returns c =
     let a = (start_from_emit4 c.before.before).args in
-    (wrote_both (not_wrote 0 0 (emit_from_emit4 c.before.before).emit.ensures) (wrote_both (and_wrote 0
-    (emit2_from_emit4 c.before.before).emit2.ensures) (wrote_both (and_wrote 0
-    (emit3_from_slice_known5 c).emit3.ensures) (and_wrote 0 c.before.before.emit4.ensures))))
+    (wrote_both a.w a.table.now _ (emit_from_emit4 c.before.before).emit.last.1.0
+    (emit_from_emit4 c.before.before).emit.result _ _ _
+    (not_wrote a.w a.table.now (emit_from_emit4 c.before.before).emit.last.1.0
+    (emit_from_emit4 c.before.before).emit.result a.e 0 0
+    (emit_from_emit4 c.before.before).emit.ensures)
+    (wrote_both (emit_from_emit4 c.before.before).emit.result
+    (emit_from_emit4 c.before.before).emit.last.1.0 _
+    (emit2_from_emit4 c.before.before).emit2.last.1.0
+    (emit2_from_emit4 c.before.before).emit2.result _ _ _
+    (and_wrote (emit_from_emit4 c.before.before).emit.result
+    (emit_from_emit4 c.before.before).emit.last.1.0
+    (emit2_from_emit4 c.before.before).emit2.last.1.0
+    (emit2_from_emit4 c.before.before).emit2.result (a.q + 8) (a.q + 9) 0
+    (emit2_from_emit4 c.before.before).emit2.ensures)
+    (wrote_both (emit2_from_emit4 c.before.before).emit2.result
+    (emit2_from_emit4 c.before.before).emit2.last.1.0 _
+    (emit3_from_slice_known5 c).emit3.last.1.0 (emit3_from_slice_known5 c).emit3.result _ _ _
+    (and_wrote (emit2_from_emit4 c.before.before).emit2.result
+    (emit2_from_emit4 c.before.before).emit2.last.1.0 (emit3_from_slice_known5 c).emit3.last.1.0
+    (emit3_from_slice_known5 c).emit3.result (a.q + 4) (a.q + 10) 0
+    (emit3_from_slice_known5 c).emit3.ensures)
+    (and_wrote (emit3_from_slice_known5 c).emit3.result (emit3_from_slice_known5 c).emit3.last.1.0
+    c.before.before.emit4.new.1.0 c.before.before.emit4.result (a.q + 11) (a.q + 3) 0
+    c.before.before.emit4.ensures))))
 
 add_emit : tie.Need-overflow-add-emit
 add_emit c =
@@ -93,7 +124,7 @@ add_emit_6 c =
 
 same_length : tie.Need-same-length
 same_length c =
-    search needs
+    search rules
 
 pub lower_decides_spec : {M : Type 1} → statement M
 lower_decides_spec = tie.close

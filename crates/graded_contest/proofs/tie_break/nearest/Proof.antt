@@ -1,7 +1,12 @@
 -- `graded_contest::tie_break::nearest` meets its contract: the flags, the words chosen below the median, and those
 -- from it on.
 -- Assumes nothing.
-use Rattle.basics.proofs.Common.{◌≡◌, ◌∙◌, refl, ap, ℕ, suc, ◌+◌, ◌-◌, ◌*◌, ◌≤◌, suc-mul, add-one, arith, needs}
+use mathlib.Core.Path.{◌≡◌, ◌∙◌, refl, ap}
+use Prim.Native.Nat.{ℕ, suc, ◌+◌, ◌-◌, ◌*◌, ◌≤◌}
+use native.Mathlib.Nat.{suc-mul}
+use native.Mathlib.Numerals.{add-one}
+use native.Mathlib.Omega.{arith}
+use borrow.Author.Rules.{rules}
 use Rattle.gate_words.proofs.Writing.{room_less}
 use Rattle.graded_circuit.specs.Nearest.{stride, side_span, below_at, from_at, either_span, last_words, first_words}
 use Rattle.graded_circuit.specs.TieBreak.{down_at, up_at, far_at, nearest}
@@ -83,7 +88,7 @@ add_below_3 c =
 sides_requires : tie.Need-sides-requires
 sides_requires c κs =
     record {
-      room = room_less (omega arith) c.before.before.before.requires.room;
+      room = room_less c.before.before.before.args.w _ _ (omega arith) c.before.before.before.requires.room;
       first_below = omega (arith, xs c.before.before);
       second_below = omega (arith, ys c.before.before);
       narrow = c.before.before.before.requires.narrow;
@@ -92,17 +97,18 @@ sides_requires c κs =
 
 sided : (c : tie.After-sides) → Stands c.sides.result
     (c.before.before.before.before.args.w.wire + c.before.before.before.before.args.between
-    * side_span c.before.before.before.before.args.above) (c.before.before.before.before.args.between
+    * side_span c.before.before.before.before.args.above)
+    (c.before.before.before.before.args.between
     * either_span c.before.before.before.before.args.above
     + c.before.before.before.before.args.between
     * either_span c.before.before.before.before.args.above)
 sided c =
     let a = c.before.before.before.before.args in
-    stands_after c.sides.ensures
+    stands_after a.w a.table.now _ c.sides.new.1.0 c.sides.result _ _ _ c.sides.ensures
     (sides_block a.w.wire (a.x + (a.above + 2)) (a.y + (a.above + 2)) a.above a.high a.between
     c.before.before.before.before.requires.cut (omega (arith, xs c.before.before.before))
     (omega (arith, ys c.before.before.before))).long
-    (stands refl (omega arith) c.before.before.before.before.requires.room)
+    (stands a.w a.w.wire _ _ refl (omega arith) c.before.before.before.before.requires.room)
 
 -- The stages of the function, seen from later ones.
 abbrev start_from_last_of_arg : tie.After-last-of-arg → tie.Start
@@ -135,7 +141,7 @@ last_of_requires c κs =
     let y = ys (slice_known_from_last_of_arg c) in
     let p = (sided c.before.before.before).place in
     record {
-      room = room_of (sided c.before.before.before) (omega arith);
+      room = room_of c.before.before.before.sides.result _ _ _ (sided c.before.before.before) (omega arith);
       sides_below = omega (arith, p);
       x_below = omega (arith, x.0, p);
       y_below = omega (arith, y.0, p);
@@ -145,7 +151,8 @@ last_of_requires c κs =
     }
 
 down : (c : tie.After-last-of)
-    → Stands c.last_of.result ((start_from_last_of c).args.w.wire + (start_from_last_of c).args.between
+    → Stands c.last_of.result
+    ((start_from_last_of c).args.w.wire + (start_from_last_of c).args.between
     * side_span (start_from_last_of c).args.above + (start_from_last_of c).args.between
     * either_span (start_from_last_of c).args.above)
     ((start_from_last_of c).args.between * either_span (start_from_last_of c).args.above)
@@ -154,10 +161,14 @@ down c =
     let x = xs (slice_known_from_last_of c) in
     let y = ys (slice_known_from_last_of c) in
     let p = (sided c.before.before.before.before).place in
-    stands_after c.last_of.ensures (last_of_block c.before.before.before.before.sides.result.wire
+    stands_after c.before.before.before.before.sides.result
+    c.before.before.before.before.sides.new.1.0 _ c.last_of.new.1.0 c.last_of.result _ _
+    _ c.last_of.ensures
+    (last_of_block c.before.before.before.before.sides.result.wire
     (a.w.wire + (a.above + 1) + a.above) (a.x + (a.above + 2)) (a.y + (a.above + 2)) a.x a.y
     a.above a.between (omega (arith, p)) (omega (arith, x.0, p)) (omega (arith, y.0, p))
-    (omega (arith, x.0, p)) (omega (arith, y.0, p))).long (sided c.before.before.before.before)
+    (omega (arith, x.0, p)) (omega (arith, y.0, p))).long
+    (sided c.before.before.before.before)
 
 add_first_of : tie.Need-overflow-add-first-of
 add_first_of c =
@@ -213,17 +224,23 @@ returns c =
     ap (λ (k : ℕ). a.x + k) (xs (slice_known_from_first_of c.before.before)).2 in
     let ey : a.y + (t + 1) * (r + 2) ≡ far_at a.y r t =
     ap (λ (k : ℕ). a.y + k) (ys (slice_known_from_first_of c.before.before)).2 in
-    wrote_then (wrote_then
+    wrote_then a.w a.table.now _ (last_of_from_slice_known4 c).last_of.last.1.0
+    (last_of_from_slice_known4 c).last_of.result _ _ _ _
+    (wrote_then a.w a.table.now _ (sides_from_first_of c.before.before).sides.last.1.0
+    (sides_from_first_of c.before.before).sides.result _ _ _ _
     (sides_from_first_of c.before.before).sides.ensures (last_of_from_slice_known4 c).last_of.ensures
     (ap (λ (k : ℕ). last_words k below x y a.x a.y r t) (sided (sides_from_first_of c.before.before)).place
-    ∙ ap (λ (k : ℕ). last_words (down_at n r t) k x y a.x a.y r t) e₁)) c.before.before.first-of.ensures
+    ∙ ap (λ (k : ℕ). last_words (down_at n r t) k x y a.x a.y r t) e₁))
+    c.before.before.first-of.ensures
     (ap (λ (k : ℕ). first_words k (below + 1) x y (a.x + (t + 1) * (r + 2)) (a.y + (t + 1) * (r + 2)) r t)
     (down (last_of_from_slice_known4 c)).place
     ∙ ap (λ (k : ℕ). first_words (up_at n r t) k x y (a.x + (t + 1) * (r + 2)) (a.y + (t + 1) * (r + 2)) r t) e₂
     ∙ ap (λ (k : ℕ). first_words (up_at n r t) (from_at n r) x y k (a.y + (t + 1) * (r + 2)) r t) ex
     ∙ ap (λ (k : ℕ). first_words (up_at n r t) (from_at n r) x y (far_at a.x r t) k r t) ey)
 
+same_length : tie.Need-same-length
+same_length c = search rules
+
 pub nearest_spec : {M : Type 1} → statement M
 nearest_spec = tie.close (tie.spec add_step add_left add_right add_far mul_far add_below add_below_2 add_below_3
-    sides_requires last_of_requires add_first_of add_first_of_2 add_first_of_3 first_of_requires (λ c. search needs)
-    returns)
+    sides_requires last_of_requires add_first_of add_first_of_2 add_first_of_3 first_of_requires same_length returns)

@@ -1,6 +1,9 @@
 -- `graded_contest::tie_break::resolve_at` meets its contract: it passes on the wires of the comparisons and carries.
 -- Assumes nothing.
-use Rattle.basics.proofs.Common.{◌≡◌, ◌∙◌, ap, ℕ, ◌+◌, ◌-◌, arith, needs}
+use mathlib.Core.Path.{◌≡◌, ◌∙◌, ap}
+use Prim.Native.Nat.{ℕ, ◌+◌, ◌-◌}
+use native.Mathlib.Omega.{arith}
+use borrow.Author.Rules.{rules}
 use Rattle.gate_words.specs.Halves.{unequal_at, above_at}
 use Rattle.gate_words.proofs.Writing.{wrote_as}
 use Rattle.graded_circuit.specs.TieBreak.{resolve}
@@ -39,7 +42,8 @@ returns c =
     let a = (start_from_resolve c.before.before).args in
     let q = (start_from_resolve c.before.before).pre in
     let up = ap (λ (k : ℕ). a.m + k) q.span_is in
-    wrote_as (same_wires a.w.wire a.e a.s a.f a.g
+    wrote_as a.w a.table.now _ _ _ _
+    (same_wires a.w.wire a.e a.s a.f a.g
     (unequal_at_from_resolve c.before.before).unequal_at.ensures
     (above_at_from_resolve c.before.before).above_at.ensures
     ((unequal_at2_from_resolve c.before.before).unequal-at2.ensures
@@ -119,7 +123,7 @@ sub_left_2 c =
 
 same_length : tie.Need-same-length
 same_length c =
-    search needs
+    search rules
 
 pub resolve_at_spec : {M : Type 1} → statement M
 resolve_at_spec = tie.close (tie.spec add_up unequal_at_requires above_at_requires unequal_at_requires_2

@@ -1,7 +1,13 @@
 -- `graded_contest::tie_break::tie_break` meets its contract: the nearest words, their comparisons and carries, then
 -- which decides.
 -- Assumes nothing.
-use Rattle.basics.proofs.Common.{◌≡◌, ◌∙◌, refl, ap, List, ℕ, suc, ◌+◌, ◌-◌, ◌*◌, ◌≤◌, arith, needs, suc-mul, add-one}
+use mathlib.Core.Path.{◌≡◌, ◌∙◌, refl, ap}
+use mathlib.Core.List.{List}
+use Prim.Native.Nat.{ℕ, suc, ◌+◌, ◌-◌, ◌*◌, ◌≤◌}
+use native.Mathlib.Omega.{arith}
+use borrow.Author.Rules.{rules}
+use native.Mathlib.Nat.{suc-mul}
+use native.Mathlib.Numerals.{add-one}
 use Rattle.gates.specs.Gate.{Gate}
 use Rattle.gate_words.specs.Halves.{unequal_at, compare_span, above_at}
 use Rattle.gate_words.proofs.Writing.{room_less}
@@ -242,7 +248,8 @@ u_is c =
     ≡ up_at a.w.wire a.above a.between = omega (arith, q.side_is, q.either_is) in
     let g : a.x + (a.between + 1) * (a.above + 2) ≡ far_at a.x a.above a.between = omega (arith, q.far_is) in
     c.left-end2.ensures ∙ ap (λ (k : ℕ). left_end k (a.x + (a.between + 1) * (a.above + 2)) a.above
-    a.between) e ∙ ap (λ (k : ℕ). left_end (up_at a.w.wire a.above a.between) k a.above a.between) g
+    a.between) e ∙ ap (λ (k : ℕ). left_end (up_at a.w.wire a.above a.between) k a.above
+    a.between) g
 
 v_is : (c : tie.After-right-end2) → c.right-end2.result
     ≡ up_right (start_from_right_end2 c).args.w.wire (start_from_right_end2 c).args.y
@@ -254,12 +261,13 @@ v_is c =
     ≡ up_at a.w.wire a.above a.between = omega (arith, q.side_is, q.either_is) in
     let g : a.y + (a.between + 1) * (a.above + 2) ≡ far_at a.y a.above a.between = omega (arith, q.far_is) in
     c.right-end2.ensures ∙ ap (λ (k : ℕ). right_end k (a.y + (a.between + 1) * (a.above + 2)) a.above
-    a.between) e ∙ ap (λ (k : ℕ). right_end (up_at a.w.wire a.above a.between) k a.above a.between) g
+    a.between) e ∙ ap (λ (k : ℕ). right_end (up_at a.w.wire a.above a.between) k a.above
+    a.between) g
 
 nearest_requires : tie.Need-nearest-requires
 nearest_requires c κs =
     record {
-      room = room_less (omega arith) (start_from_chosen_high c.before).pre.room;
+      room = room_less (start_from_chosen_high c.before).args.w _ _ (omega arith) (start_from_chosen_high c.before).pre.room;
       first_below = (start_from_chosen_high c.before).pre.first_below;
       second_below = (start_from_chosen_high c.before).pre.second_below;
       narrow = (start_from_chosen_high c.before).pre.narrow;
@@ -278,9 +286,10 @@ chosen : (c : tie.After-nearest)
 chosen c =
     let s = (start_from_nearest c) in
     let a = s.args in
-    stands_after c.nearest.ensures
+    stands_after a.w a.table.now _ c.nearest.new.1.0 c.nearest.result _ _ _ c.nearest.ensures
     (nearest_block a.w.wire a.x a.y a.above a.high a.between s.pre.cut s.pre.first_below
-    s.pre.second_below).long (stands refl (omega arith) s.pre.room)
+    s.pre.second_below).long
+    (stands a.w a.w.wire _ _ refl (omega arith) s.pre.room)
 
 words : (c : tie.After-nearest)
     → ((left_end_from_nearest c).left_end.result + suc (start_from_nearest c).args.above
@@ -314,7 +323,7 @@ compare_and_reach_requires : tie.Need-compare-and-reach-requires
 compare_and_reach_requires c κs =
     let q = words c.before.before.before in
     record {
-      room = room_of (chosen c.before.before.before) (omega arith);
+      room = room_of c.before.before.before.nearest.result _ _ _ (chosen c.before.before.before) (omega arith);
       a_below = q.0;
       c_below = q.1;
       u_below = q.2;
@@ -323,7 +332,8 @@ compare_and_reach_requires c κs =
     }
 
 summed : (c : tie.After-compare-and-reach)
-    → Stands c.compare-and-reach.result ((start_from_compare_and_reach c).args.w.wire
+    → Stands c.compare-and-reach.result
+    ((start_from_compare_and_reach c).args.w.wire
     + ((start_from_compare_and_reach c).args.between * side_span (start_from_compare_and_reach c).args.above
     + (start_from_compare_and_reach c).args.between * either_span (start_from_compare_and_reach c).args.above
     + (start_from_compare_and_reach c).args.between
@@ -332,7 +342,9 @@ summed : (c : tie.After-compare-and-reach)
 summed c =
     let a = (start_from_compare_and_reach c).args in
     let q = words c.before.before.before.before in
-    stands_after c.compare-and-reach.ensures
+    stands_after c.before.before.before.before.nearest.result
+    c.before.before.before.before.nearest.new.1.0 _ c.compare-and-reach.new.1.0
+    c.compare-and-reach.result _ _ _ c.compare-and-reach.ensures
     (compare_and_reach_block c.before.before.before.before.nearest.result.wire
     (left_end_from_compare_and_reach c).left_end.result
     (right_end_from_compare_and_reach c).right_end.result
@@ -435,7 +447,11 @@ returns c =
     let ef : a.x + r + 1 ≡ a.x + suc r = omega arith in
     let eg : a.x + (t + 1) * (r + 2) + r + 1 ≡ far_at a.x r t + suc r =
     omega (arith, (prods (slice_known_from_resolve_at c.before.before)).far_is) in
-    wrote_then (wrote_then (nearest_from_resolve_at c.before.before).nearest.ensures
+    wrote_then a.w a.table.now _ (compare_and_reach_from_slice_known4 c).compare-and-reach.last.1.0
+    (compare_and_reach_from_slice_known4 c).compare-and-reach.result _ _ _ _
+    (wrote_then a.w a.table.now _ (nearest_from_resolve_at c.before.before).nearest.last.1.0
+    (nearest_from_resolve_at c.before.before).nearest.result _ _ _ _
+    (nearest_from_resolve_at c.before.before).nearest.ensures
     (compare_and_reach_from_slice_known4 c).compare-and-reach.ensures
     (same_compared a.bit r em (a_is (left_end_from_resolve_at c.before.before))
     (c_is (right_end_from_resolve_at c.before.before)) (u_is (left_end2_from_resolve_at c.before.before))
@@ -479,7 +495,7 @@ add_resolve_at_6 c =
 
 same_length : tie.Need-same-length
 same_length c =
-    search needs
+    search rules
 
 pub tie_break_spec : {M : Type 1} → statement M
 tie_break_spec = tie.close (tie.spec mul_down add_down mul_down_2 add_down_2 mul_up add_up mul_up_2 add_up_2 add_far

@@ -1,6 +1,10 @@
 -- `graded_keys::median::compare_ones` meets its contract: the lowest digit, then those above it.
 -- Assumes nothing.
-use Rattle.basics.proofs.Common.{◌≡◌, ◌∙◌, refl, ap, subst, ℕ, suc, ◌+◌, ◌-◌, ◌/◌, ◌≤◌, ◌<◌, add-one, arith, needs}
+use mathlib.Core.Path.{◌≡◌, ◌∙◌, refl, ap, subst}
+use Prim.Native.Nat.{ℕ, suc, ◌+◌, ◌-◌, ◌/◌, ◌≤◌, ◌<◌}
+use native.Mathlib.Numerals.{add-one}
+use native.Mathlib.Omega.{arith}
+use borrow.Author.Rules.{rules}
 use Rattle.gate_words.proofs.Writing.{room_less}
 use Rattle.gate_words.proofs.Standing.{Stands, stands, stands_after, wrote_then}
 use Rattle.graded_circuit.specs.Median.{Fits, differ_at, difference_span, later_digits, later_span, compare_ones, ones_span}
@@ -26,6 +30,9 @@ parts : (s : tie.Start) → ones_span s.args.count s.args.above ≡ difference_s
     + later_span (s.args.count / 2) s.args.above
 parts s = ones_span_lem s.args.count s.args.above
 
+sub_chain_end : tie.Need-overflow-sub-chain-end
+sub_chain_end c = omega (arith, some c.before)
+
 chain_end_requires : tie.Need-chain-end-requires
 chain_end_requires c κs = omega (arith, c.before.requires.ones.room.small, parts c.before)
 
@@ -35,7 +42,8 @@ digit_difference_requires c κs =
     let q = s.requires.ones in
     record {
       ones = record {
-        room = room_less (omega (arith, parts s)) q.room;
+        room = room_less s.args.w _ (ones_span s.args.count s.args.above)
+            (omega (arith, parts s)) q.room;
         first_below = q.first_below;
         second_below = q.second_below;
         short =
@@ -50,8 +58,9 @@ difference : (c : tie.After-digit-difference) → let s = from_difference c in
 difference c =
     let s = from_difference c in
     let a = s.args in
-    stands_after c.digit-difference.ensures (length_difference a.w.wire a.x a.y a.stride a.count)
-    (stands refl (omega (arith, parts s)) s.pre.ones.room)
+    stands_after a.w a.table.now _ c.digit-difference.new.1.0 c.digit-difference.result _ _ _
+    c.digit-difference.ensures (length_difference a.w.wire a.x a.y a.stride a.count)
+    (stands a.w a.w.wire _ _ refl (omega (arith, parts s)) s.pre.ones.room)
 
 add_later_digits : tie.Need-overflow-add-later-digits
 add_later_digits c =
@@ -98,6 +107,9 @@ later_digits_requires c κs =
       fits = fits_half a.count a.above (fits s);
     }
 
+same_length : tie.Need-same-length
+same_length c = search rules
+
 -- The stages of the function, seen from later ones.
 abbrev digit_difference_from_later_digits : tie.After-later-digits → tie.After-digit-difference
 digit_difference_from_later_digits c = c.before.before.before.before.before
@@ -118,12 +130,11 @@ returns c =
     let x = a.x + a.stride in
     let y = a.y + a.stride in
     let z = a.stride + a.stride in
-    wrote_then d.ensures v.ensures
+    wrote_then a.w a.table.now _ d.last.1.0 d.result _ _ v.new.1.0 v.result d.ensures v.ensures
     (ap (λ (k : ℕ). later_digits k x y z (m / 2) (d.result.wire - 1) left.result a.above) e₁
     ∙ ap (λ (k : ℕ). later_digits (q + 1) x y z (m / 2) k left.result a.above) e₂
     ∙ ap (λ (k : ℕ). later_digits (q + 1) x y z (m / 2) q k a.above) left.ensures)
 
 pub compare_ones_spec : {M : Type 1} → statement M
-compare_ones_spec = tie.close (tie.spec (λ c. omega (arith, some c.before)) chain_end_requires
-    digit_difference_requires add_later_digits add_later_digits_2 add_later_digits_3 sub_later_digits
-    later_digits_requires (λ c. search needs) returns)
+compare_ones_spec = tie.close (tie.spec sub_chain_end chain_end_requires digit_difference_requires add_later_digits
+    add_later_digits_2 add_later_digits_3 sub_later_digits later_digits_requires same_length returns)

@@ -1,12 +1,15 @@
 -- `graded_keys::median::digit_difference` meets its contract: two sums modulo 2, and whether they differ.
 -- Assumes nothing.
-use Rattle.basics.proofs.Common.{◌≡◌, ◌∙◌, refl, ap, ℕ, ◌+◌, ◌-◌, ◌*◌, ◌≤◌, ◌<◌, arith, needs}
+use mathlib.Core.Path.{◌≡◌, ◌∙◌, refl, ap}
+use Prim.Native.Nat.{ℕ, ◌+◌, ◌-◌, ◌*◌, ◌≤◌, ◌<◌}
+use native.Mathlib.Omega.{arith}
+use borrow.Author.Rules.{rules}
 use Rattle.gate_words.specs.Choice.{parity, chain_end}
 use Rattle.gate_words.proofs.Writing.{room_less}
 use Rattle.gate_words.proofs.Emitting.{xor_wrote}
 use Rattle.gate_words.proofs.ChoiceSteps.{length_chain}
 use Rattle.gate_words.proofs.Standing.{Stands, stands, stands_after, room_of, wrote_then, one_gate}
-use Rattle.graded_circuit.specs.Median.{digit_difference, differ_at}
+use Rattle.graded_circuit.specs.Median.{digit_difference, differ_at, difference_span}
 use Rattle.gate_words.proofs.CounterSteps.{below_stride}
 use Rattle.graded_circuit.proofs.MedianLaws.{first_of}
 use Rattle.graded_keys.proofs.Steps.{stride_most}
@@ -39,6 +42,12 @@ y_there s = let a = s.args in first_of a.y a.step a.many a.w.wire s.requires.som
 near : (s : tie.Start) → s.args.step ≤ 2000
 near s = stride_most s.args.many s.args.step s.requires.some s.requires.ones.short
 
+sub_rest : tie.Need-overflow-sub-rest
+sub_rest c = omega (arith, c.before.requires.some)
+
+chain_end_requires : tie.Need-chain-end-requires
+chain_end_requires c κs = omega (arith, c.before.requires.ones.room.small)
+
 add_parity : tie.Need-overflow-add-parity
 add_parity c = let s = c.before.before.before in omega (arith, (x_there s).0, near s, s.requires.ones.room.small)
 
@@ -47,7 +56,7 @@ parity_requires c κs =
     let s = c.before.before.before in
     let a = s.args in
     record {
-      room = room_less (omega arith) s.requires.ones.room;
+      room = room_less a.w _ (difference_span a.many) (omega arith) s.requires.ones.room;
       below = below_stride a.w.wire (a.x + a.step) a.step (a.many - 1) (x_there s).1;
       near = omega (arith, near s);
     }
@@ -57,8 +66,9 @@ first : (c : tie.After-parity) → let s = from_first c in
 first c =
     let s = from_first c in
     let a = s.args in
-    stands_after c.parity.ensures (length_chain 6 a.w.wire a.x (a.x + a.step) a.step (a.many - 1))
-    (stands refl (omega arith) s.pre.ones.room)
+    stands_after a.w a.table.now _ c.parity.new.1.0 c.parity.result _ _ _ c.parity.ensures
+    (length_chain 6 a.w.wire a.x (a.x + a.step) a.step (a.many - 1))
+    (stands a.w a.w.wire _ _ refl (omega arith) s.pre.ones.room)
 
 chain_end_requires_2 : tie.Need-chain-end-requires-2
 chain_end_requires_2 c κs = let h = c.before.before in omega (arith, (first h).left.small)
@@ -72,7 +82,7 @@ parity_requires_2 c κs =
     let s = from_first h in
     let a = s.args in
     record {
-      room = room_of (first h) (omega arith);
+      room = room_of h.parity.result _ _ _ (first h) (omega arith);
       below = below_stride h.parity.result.wire (a.y + a.step) a.step (a.many - 1) (omega (arith, (y_there s).1, (first h).place));
       near = omega (arith, near s);
     }
@@ -82,9 +92,15 @@ second : (c : tie.After-parity2) → let s = from_first (from_second c) in
 second c =
     let h = from_second c in
     let a = (from_first h).args in
-    stands_after
+    stands_after h.parity.result h.parity.last.1.0 _ c.parity2.new.1.0 c.parity2.result _ _ _
     c.parity2.ensures (length_chain 6 h.parity.result.wire a.y (a.y + a.step) a.step (a.many - 1))
     (first h)
+
+emit_requires : tie.Need-emit-requires
+emit_requires c κs = (second c.before.before.before).left
+
+same_length : tie.Need-same-length
+same_length c = search rules
 
 returns : tie.Need-returns
 unfolding digit_difference
@@ -99,13 +115,13 @@ returns c =
     let left = h.before.before.chain-end in
     let right = k.before.before.chain-end2 in
     let place : h.parity.result.wire ≡ n + (m - 1) = (first h).place in
-    wrote_then (wrote_then
+    wrote_then a.w a.table.now _ k.parity2.last.1.0 k.parity2.result _ _ e.new.1.0 e.result
+    (wrote_then a.w a.table.now _ h.parity.last.1.0 h.parity.result _ _ k.parity2.last.1.0 k.parity2.result
     h.parity.ensures k.parity2.ensures (ap (λ (i : ℕ). parity i a.y (a.y + a.step) a.step (m - 1)) place))
-    (xor_wrote 0 e.ensures)
+    (xor_wrote k.parity2.result k.parity2.last.1.0 e.new.1.0 e.result left.result right.result 0 e.ensures)
     (one_gate 6 left.ensures (right.ensures ∙ ap (λ (i : ℕ). chain_end i a.y (m - 1)) place) refl)
 
 pub digit_difference_spec : {M : Type 1} → statement M
 digit_difference_spec = tie.close
-    (tie.spec (λ c. omega (arith, c.before.requires.some)) (λ c κs. omega (arith, c.before.requires.ones.room.small))
-    add_parity parity_requires chain_end_requires_2 add_parity_2 parity_requires_2
-    (λ c κs. (second c.before.before.before).left) (λ c. search needs) returns)
+    (tie.spec sub_rest chain_end_requires add_parity parity_requires chain_end_requires_2 add_parity_2
+    parity_requires_2 emit_requires same_length returns)

@@ -1,10 +1,12 @@
 -- `graded_keys::median::later_digits` meets its contract: after each digit, writing the digits left completes the
 -- block.
 -- Assumes nothing.
-use Rattle.basics.proofs.Common.{◌≡◌, ◌∙◌, ap, ℕ, ◌+◌, ◌-◌, ◌*◌, ◌/◌, ◌≤◌, ◌<◌, arith}
+use mathlib.Core.Path.{◌≡◌, ◌∙◌, ap}
+use Prim.Native.Nat.{ℕ, ◌+◌, ◌-◌, ◌*◌, ◌/◌, ◌≤◌, ◌<◌}
+use native.Mathlib.Omega.{arith}
 use Rattle.gate_words.specs.Limits.{writer_limit}
 use Rattle.gate_words.proofs.Going.{Goes, goes_start, goes_as, goes_on, goes_room, goes_end}
-use Rattle.graded_circuit.specs.Median.{Fits, differ_at, difference_span, later_digits}
+use Rattle.graded_circuit.specs.Median.{Fits, differ_at, difference_span, later_digits, later_span}
 use Rattle.graded_circuit.proofs.MedianLaws.{half_apart, first_of, length_next, length_later}
 use Rattle.graded_keys.proofs.Steps.{fits_step, stride_most, later_step, later_none, later_span_step}
 use Rattle.graded_keys.proofs.median.later_digits.Statement.{statement}
@@ -30,7 +32,7 @@ loop_holds c =
       q.ones.first_below,
       q.ones.second_below,
       q.ones.short,
-      goes_start q.ones.room,
+      goes_start a.w a.table.now whole (later_span a.count a.digits) q.ones.room,
     )
 
 -- In a turn there are wires, they are written already, and there is room for the digit.
@@ -74,12 +76,17 @@ next_digit_requires c κs =
     let t = c.before.loop-test.true in
     record {
       ones = record {
-        room = goes_room l.invariant.4 (omega (
-          arith,
-          length_later l.next.wire l.first l.second l.step l.many l.differ
-              l.larger l.left,
-          later_span_step l.many l.left t,
-        ))
+        room = goes_room a.w a.table.now
+            (later_digits a.w.wire a.x a.y a.stride a.count a.e a.s a.digits) l.next
+            l.table
+            (later_digits l.next.wire l.first l.second l.step l.many l.differ l.larger
+            l.left) _ (later_span a.count a.digits) l.invariant.4
+            (omega (
+              arith,
+              length_later l.next.wire l.first l.second l.step l.many l.differ
+                  l.larger l.left,
+              later_span_step l.many l.left t,
+            ))
             (omega (arith, length_later a.w.wire a.x a.y a.stride a.count a.e a.s a.digits)) s.requires.ones.room;
         first_below = l.invariant.1;
         second_below = l.invariant.2;
@@ -98,6 +105,9 @@ add_first c = let q = in_turn (from_digit c) in omega (arith, q.first_there, q.n
 add_second : tie.Need-overflow-add-second invariant_loop decreases_loop
 add_second c = let q = in_turn (from_digit c) in omega (arith, q.second_there, q.near, q.few)
 
+add_step : tie.Need-overflow-add-step invariant_loop decreases_loop
+add_step c = omega (arith, (in_turn (from_digit c)).near)
+
 -- the wire of the next writer
 stands_behind : (c : tie.After-slice-known2 invariant_loop decreases_loop) → let l = (from_digit c).before.loop in
     c.before.before.next-digit.result.wire ≡ differ_at l.next.wire l.many + 3
@@ -108,6 +118,12 @@ stands_behind c =
       c.before.before.next-digit.ensures.wires,
       length_next l.next.wire l.first l.second l.step l.many l.differ l.larger,
     )
+
+sub_differ : tie.Need-overflow-sub-differ invariant_loop decreases_loop
+sub_differ c = omega (arith, stands_behind c.before)
+
+sub_larger : tie.Need-overflow-sub-larger invariant_loop decreases_loop
+sub_larger c = omega (arith, stands_behind c.before.before)
 
 sub_left : tie.Need-overflow-sub-left invariant_loop decreases_loop
 sub_left c = omega (arith, (from_digit c.before.before).loop-test.taken)
@@ -136,23 +152,29 @@ loop_again c =
       omega (arith, l.inv.1, half_apart l.many l.step, e₁),
       omega (arith, l.inv.2, half_apart l.many l.step, e₁),
       omega (arith, l.inv.3, half_apart l.many l.step),
-      goes_as (ap (λ (k : ℕ). later_digits k x y d m (n + 1) (n + 2) (l.left - 1)) e₁
+      goes_as a.w a.table.now whole h.result h.new.1.0 _ _
+          (ap (λ (k : ℕ). later_digits k x y d m (n + 1) (n + 2) (l.left - 1)) e₁
           ∙ ap (λ (k : ℕ). later_digits h.result.wire x y d m k (n + 2) (l.left - 1)) e₂
           ∙ ap (λ (k : ℕ). later_digits h.result.wire x y d m (h.result.wire - 2) k (l.left - 1)) e₃)
-          (goes_on (goes_as
+          (goes_on a.w a.table.now whole l.next l.table _ _ h.new.1.0 h.result
+          (goes_as a.w a.table.now whole l.next l.table _ _
           (later_step l.next.wire l.first l.second l.step l.many l.differ l.larger l.left
-          i.loop-test.taken) l.inv.4) h.ensures),
+          i.loop-test.taken) l.inv.4)
+          h.ensures),
     )
+
+same_length : tie.Need-same-length invariant_loop decreases_loop
+same_length c = c.before.loop.invariant.4.long
 
 returns : tie.Need-returns invariant_loop decreases_loop
 returns c =
     let l = c.before.loop in
     let a = c.before.before.before.args in
-    goes_end (later_none l.next.wire l.first l.second l.step l.many l.differ l.larger l.left
+    goes_end a.w a.table.now
+    (later_digits a.w.wire a.x a.y a.stride a.count a.e a.s a.digits) l.next l.table _
+    (later_none l.next.wire l.first l.second l.step l.many l.differ l.larger l.left
     c.loop-test.false) l.invariant.4
 
 pub later_digits_spec : {M : Type 1} → statement M
-later_digits_spec = tie.close (tie.spec invariant_loop decreases_loop loop_holds next_digit_requires add_first add_second
-    (λ c. omega (arith, (in_turn (from_digit c)).near)) (λ c. omega (arith, stands_behind c.before))
-    (λ c. omega (arith, stands_behind c.before.before)) sub_left loop_less loop_again
-    (λ c. c.before.loop.invariant.4.long) returns)
+later_digits_spec = tie.close (tie.spec invariant_loop decreases_loop loop_holds next_digit_requires add_first add_second add_step
+    sub_differ sub_larger sub_left loop_less loop_again same_length returns)

@@ -1,6 +1,10 @@
 -- `graded_keys::median::next_digit` meets its contract: the digit's difference, then two more gates.
 -- Assumes nothing.
-use Rattle.basics.proofs.Common.{◌≡◌, ◌∙◌, refl, ap, [], ◌∷◌, ℕ, ◌+◌, ◌-◌, arith, needs}
+use mathlib.Core.Path.{◌≡◌, ◌∙◌, refl, ap}
+use mathlib.Core.List.{[], ◌∷◌}
+use Prim.Native.Nat.{ℕ, ◌+◌, ◌-◌}
+use native.Mathlib.Omega.{arith}
+use borrow.Author.Rules.{rules}
 use Rattle.gate_words.specs.Gates.{or_of, mux_of}
 use Rattle.gate_words.proofs.Writing.{wrote_both, room_less}
 use Rattle.gate_words.proofs.Emitting.{or_wrote, mux_wrote}
@@ -24,13 +28,19 @@ emit_from_slice_known4 c = c.before.before.before.before.before.before
 abbrev from_emit : tie.After-emit → tie.After-digit-difference
 from_emit c = (digit_difference_from_emit c)
 
+sub_chain_end : tie.Need-overflow-sub-chain-end
+sub_chain_end c = omega (arith, c.before.requires.some)
+
+chain_end_requires : tie.Need-chain-end-requires
+chain_end_requires c κs = omega (arith, c.before.requires.ones.room.small)
+
 digit_difference_requires : tie.Need-digit-difference-requires
 digit_difference_requires c κs =
     let s = c.before.before.before in
     let q = s.requires.ones in
     record {
       ones = record {
-        room = room_less (omega arith) q.room;
+        room = room_less s.args.w _ (difference_span s.args.many + 2) (omega arith) q.room;
         first_below = q.first_below;
         second_below = q.second_below;
         short = q.short;
@@ -43,16 +53,27 @@ difference : (c : tie.After-digit-difference) → let s = from_difference c in
 difference c =
     let s = from_difference c in
     let a = s.args in
-    stands_after c.digit-difference.ensures (length_difference a.w.wire a.x a.y a.step a.many)
-    (stands refl (omega arith) s.pre.ones.room)
+    stands_after a.w a.table.now _ c.digit-difference.new.1.0 c.digit-difference.result _ _ _
+    c.digit-difference.ensures (length_difference a.w.wire a.x a.y a.step a.many)
+    (stands a.w a.w.wire _ _ refl (omega arith) s.pre.ones.room)
+
+sub_q : tie.Need-overflow-sub-q
+sub_q c = omega (arith, (difference c.before.before.before).place)
 
 emit_requires : tie.Need-emit-requires
-emit_requires c κs = let h = c.before.before.before.before in room_of (difference h) (omega arith)
+emit_requires c κs = let h = c.before.before.before.before in room_of h.digit-difference.result _ _ _ (difference h) (omega arith)
 
 either : (c : tie.After-emit) → let s = from_difference (from_emit c) in
     Stands c.emit.result (s.args.w.wire + difference_span s.args.many + 1) 1
 either c = let h = from_emit c in
-    stands_after c.emit.ensures refl (difference h)
+    stands_after h.digit-difference.result h.digit-difference.last.1.0 _ c.emit.new.1.0
+    c.emit.result _ _ _ c.emit.ensures refl (difference h)
+
+emit_requires_2 : tie.Need-emit-requires-2
+emit_requires_2 c κs = (either c.before.before.before).left
+
+same_length : tie.Need-same-length
+same_length c = search rules
 
 returns : tie.Need-returns
 unfolding next_digit
@@ -68,12 +89,15 @@ returns c =
     let left = h.before.before.chain-end in
     let q = d.result.wire - 1 in
     let at : q ≡ differ_at n m = omega (arith, (difference h).place) in
-    wrote_then d.ensures (wrote_both (or_wrote 0 u.ensures) (mux_wrote v.ensures))
+    wrote_then a.w a.table.now _ d.last.1.0 d.result _ _ v.new.1.0 v.result
+    d.ensures
+    (wrote_both d.result d.last.1.0 (or_of a.e q ∷ []) u.last.1.0 u.result
+    (mux_of q left.result a.s ∷ []) v.new.1.0 v.result
+    (or_wrote d.result d.last.1.0 u.last.1.0 u.result a.e q 0 u.ensures)
+    (mux_wrote u.result u.last.1.0 v.new.1.0 v.result q left.result a.s v.ensures))
     (ap (λ (i : ℕ). or_of a.e i ∷ mux_of i left.result a.s ∷ []) at ∙
     ap (λ (i : ℕ). or_of a.e (differ_at n m) ∷ mux_of (differ_at n m) i a.s ∷ []) left.ensures)
 
 pub next_digit_spec : {M : Type 1} → statement M
-next_digit_spec = tie.close (tie.spec (λ c. omega (arith, c.before.requires.some))
-    (λ c κs. omega (arith, c.before.requires.ones.room.small)) digit_difference_requires
-    (λ c. omega (arith, (difference c.before.before.before).place)) emit_requires
-    (λ c κs. (either c.before.before.before).left) (λ c. search needs) returns)
+next_digit_spec = tie.close (tie.spec sub_chain_end chain_end_requires digit_difference_requires sub_q emit_requires
+    emit_requires_2 same_length returns)

@@ -1,11 +1,16 @@
 -- `graded_keys::median::ones_larger` meets its contract, case by case.
 -- Assumes nothing.
-use Rattle.basics.proofs.Common.{◌∙◌, sym, ap, ℕ, ◌+◌, ◌-◌, arith}
+use mathlib.Core.Path.{◌∙◌, sym, ap}
+use Prim.Native.Nat.{ℕ, ◌+◌, ◌-◌}
+use native.Mathlib.Omega.{arith}
 use Rattle.graded_circuit.specs.Median.{left_digit, ones_span}
 use Rattle.graded_circuit.proofs.MedianLaws.{ones_span_lem}
 use Rattle.graded_keys.proofs.Steps.{larger_single, larger_several, some_later}
 use Rattle.graded_keys.proofs.median.ones_larger.Statement.{statement}
 use Rattle.graded_keys.proofs.median.ones_larger.Tie as tie
+
+sub_chain_end : tie.Need-overflow-sub-chain-end
+sub_chain_end c = omega (arith, c.before.requires.some)
 
 chain_end_requires : tie.Need-chain-end-requires
 chain_end_requires c κs = let a = c.before.args in
@@ -30,5 +35,4 @@ returns_2 c =
     a.above c.if1.false)
 
 pub ones_larger_spec : {M : Type 1} → statement M
-ones_larger_spec = tie.close (tie.spec (λ c. omega (arith, c.before.requires.some)) chain_end_requires returns sub_result
-    returns_2)
+ones_larger_spec = tie.close (tie.spec sub_chain_end chain_end_requires returns sub_result returns_2)

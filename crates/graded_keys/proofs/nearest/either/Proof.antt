@@ -1,6 +1,10 @@
 -- `graded_keys::nearest::either` meets its contract: one choice of words for each key.
 -- Assumes nothing.
-use Rattle.basics.proofs.Common.{refl, ap, ◌+◌, add-one, arith, needs}
+use mathlib.Core.Path.{refl, ap}
+use Prim.Native.Nat.{◌+◌}
+use native.Mathlib.Numerals.{add-one}
+use native.Mathlib.Omega.{arith}
+use borrow.Author.Rules.{rules}
 use Rattle.gate_words.specs.Choice.{choose}
 use Rattle.gate_words.proofs.Laws.{length_choose}
 use Rattle.gate_words.proofs.Writing.{wrote_as, room_less}
@@ -16,7 +20,7 @@ add_choose c =
 choose_requires : tie.Need-choose-requires
 choose_requires c κs =
     record {
-      room = room_less (omega arith) c.before.before.requires.room;
+      room = room_less c.before.before.args.w _ _ (omega arith) c.before.before.requires.room;
       first_below = omega (arith, c.before.before.requires);
       second_below = omega (arith, c.before.before.requires);
     }
@@ -28,9 +32,11 @@ first : (c : tie.After-choose)
     (c.before.before.before.args.w.wire + (c.before.before.before.args.above + 1))
     (c.before.before.before.args.above + 1)
 first c =
-    stands_after c.choose.ensures
+    stands_after c.before.before.before.args.w c.before.before.before.args.table.now _
+    c.choose.new.1.0 c.choose.result _ _ _ c.choose.ensures
     (length_choose c.before.before.before.args.f c.before.before.before.args.x
-    c.before.before.before.args.u (c.before.before.before.args.above + 1)) (stands refl
+    c.before.before.before.args.u (c.before.before.before.args.above + 1))
+    (stands c.before.before.before.args.w c.before.before.before.args.w.wire _ _ refl
     (omega arith) c.before.before.before.requires.room)
 
 -- The stages of the function, seen from later ones.
@@ -59,9 +65,14 @@ returns : tie.Need-returns
 unfolding either
 returns c =
     let a = (start_from_choose2 c.before.before).args in
-    wrote_then (wrote_as (ap (choose a.f a.x a.u) (add-one a.above))
+    wrote_then a.w a.table.now _ (choose_from_slice_known3 c).choose.last.1.0
+    (choose_from_slice_known3 c).choose.result _ _ _ _
+    (wrote_as a.w a.table.now _ _ _ _ (ap (choose a.f a.x a.u) (add-one a.above))
     (choose_from_slice_known3 c).choose.ensures)
     c.before.before.choose2.ensures (ap (choose a.f a.y a.v) (add-one a.above))
 
+same_length : tie.Need-same-length
+same_length c = search rules
+
 pub either_spec : {M : Type 1} → statement M
-either_spec = tie.close (tie.spec add_choose choose_requires add_choose_2 choose_requires_2 (λ c. search needs) returns)
+either_spec = tie.close (tie.spec add_choose choose_requires add_choose_2 choose_requires_2 same_length returns)

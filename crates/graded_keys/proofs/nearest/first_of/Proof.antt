@@ -1,6 +1,10 @@
 -- `graded_keys::nearest::first_of` meets its contract: after each grade, writing the grades left completes the block.
 -- Assumes nothing.
-use Rattle.basics.proofs.Common.{◌≡◌, ◌∙◌, sym, ap, ◌++◌, ℕ, suc, ◌+◌, ◌-◌, ◌*◌, ◌≤◌, ◌<◌, arith, length}
+use mathlib.Core.Path.{◌≡◌, ◌∙◌, sym, ap}
+use mathlib.Core.List.{◌++◌}
+use Prim.Native.Nat.{ℕ, suc, ◌+◌, ◌-◌, ◌*◌, ◌≤◌, ◌<◌}
+use native.Mathlib.Omega.{arith}
+use lib.ListN.{length}
 use Rattle.gate_words.proofs.Going.{Goes, goes_start, goes_as, goes_on, goes_room, goes_end}
 use Rattle.graded_circuit.specs.Nearest.{stride, side_span, either, either_span, first_words}
 use Rattle.graded_circuit.proofs.NearestLaws.{either_block, first_of_block}
@@ -24,7 +28,10 @@ loop_holds c =
       omega arith,
       q.u_below,
       q.v_below,
-      goes_start c.before.requires.room,
+      goes_start c.before.args.w c.before.args.table.now
+          (first_words c.before.args.w.wire c.before.args.f c.before.args.x c.before.args.y
+          c.before.args.u c.before.args.v c.before.args.above c.before.args.count)
+          (c.before.args.count * either_span c.before.args.above) c.before.requires.room,
     )
 
 -- the next words are before the writer's wire
@@ -138,7 +145,10 @@ either_requires c κs =
     let l = c.before.before.loop in
     let q = there c.before in
     record {
-      room = goes_room l.invariant.4
+      room = goes_room a.w a.table.now
+          (first_words a.w.wire a.f a.x a.y a.u a.v a.above a.count) l.next l.table
+          (first_words l.next.wire a.f a.x a.y l.first l.second a.above l.more) _
+          (a.count * either_span a.above) l.invariant.4
           (omega (arith, left_long c.before, one_less l.more (either_span a.above) c.before.loop-test.true))
           (omega (arith, all_long c.before)) c.before.before.before.before.requires.room;
       x_below = omega (arith, q.1);
@@ -203,11 +213,15 @@ loop_again c =
       omega (arith, l.inv.1),
       omega arith,
       omega arith,
-      goes_as (ap (λ (k : ℕ). first_words k a.f a.x a.y n (n + suc r) r i) (sym e₅)
+      goes_as a.w a.table.now whole h.result h.new.1.0 _ _
+          (ap (λ (k : ℕ). first_words k a.f a.x a.y n (n + suc r) r i) (sym e₅)
           ∙ ap (λ (k : ℕ). first_words h.result.wire a.f a.x a.y n k r i) e₂)
-          (goes_on (goes_as (first_step n a.f a.x a.y l.first l.second r l.more t
+          (goes_on a.w a.table.now whole l.next l.table _ _ h.new.1.0 h.result
+          (goes_as a.w a.table.now whole l.next l.table _ _
+          (first_step n a.f a.x a.y l.first l.second r l.more t
           ∙ ap (λ (k : ℕ). either (a.f + i * k) (a.x + i * (r + 2)) (a.y + i * (r + 2)) l.first
-          l.second r ++ rest) e₁) l.inv.4) h.ensures),
+          l.second r ++ rest) e₁) l.inv.4)
+          h.ensures),
     )
 
 same_length : tie.Need-same-length invariant_loop decreases_loop
@@ -218,7 +232,8 @@ returns : tie.Need-returns invariant_loop decreases_loop
 returns c =
     let a = c.before.before.before.args in
     let l = c.before.loop in
-    goes_end (first_none l.next.wire a.f a.x a.y l.first l.second a.above
+    goes_end a.w a.table.now (first_words a.w.wire a.f a.x a.y a.u a.v a.above a.count)
+    l.next l.table _ (first_none l.next.wire a.f a.x a.y l.first l.second a.above
     l.more c.loop-test.false) l.invariant.4
 
 pub first_of_spec : {M : Type 1} → statement M

@@ -1,6 +1,9 @@
 -- `graded_keys::nearest::last_of` meets its contract: after each grade, writing the grades left completes the block.
 -- Assumes nothing.
-use Rattle.basics.proofs.Common.{◌≡◌, ◌∙◌, sym, ap, ℕ, suc, ◌+◌, ◌-◌, ◌*◌, ◌≤◌, ◌<◌, arith, length}
+use mathlib.Core.Path.{◌≡◌, ◌∙◌, sym, ap}
+use Prim.Native.Nat.{ℕ, suc, ◌+◌, ◌-◌, ◌*◌, ◌≤◌, ◌<◌}
+use native.Mathlib.Omega.{arith}
+use lib.ListN.{length}
 use Rattle.gate_words.proofs.Going.{Goes, goes_start, goes_as, goes_on, goes_room, goes_end}
 use Rattle.graded_circuit.specs.Nearest.{stride, side_span, either, either_span, last_words}
 use Rattle.graded_circuit.proofs.NearestLaws.{either_block, last_of_block}
@@ -28,7 +31,10 @@ loop_holds c =
       q.y_below,
       q.u_below,
       q.v_below,
-      goes_start c.before.requires.room,
+      goes_start c.before.args.w c.before.args.table.now
+          (last_words c.before.args.w.wire c.before.args.f c.before.args.x c.before.args.y
+          c.before.args.u c.before.args.v c.before.args.above c.before.args.count)
+          (c.before.args.count * either_span c.before.args.above) c.before.requires.room,
     )
 
 -- the next words are before the writer's wire
@@ -76,7 +82,10 @@ either_requires c κs =
     let l = c.before.before.loop in
     let q = there c.before in
     record {
-      room = goes_room l.invariant.5
+      room = goes_room a.w a.table.now
+          (last_words a.w.wire a.f a.x a.y a.u a.v a.above a.count) l.next l.table
+          (last_words l.next.wire l.flag l.left l.right l.first l.second a.above l.more) _
+          (a.count * either_span a.above) l.invariant.5
           (omega (arith, left_long c.before, one_less l.more (either_span a.above) c.before.loop-test.true))
           (omega (arith, all_long c.before)) c.before.before.before.before.requires.room;
       x_below = omega (arith, q.1);
@@ -185,11 +194,13 @@ loop_again c =
       omega (arith, l.inv.2),
       omega arith,
       omega arith,
-      goes_as
+      goes_as a.w a.table.now whole h.result h.new.1.0 _ _
           (ap (λ (k : ℕ). last_words k (l.flag + side_span r) (l.left + stride r) (l.right + stride r) n (n + suc r) r (l.more - 1)) (sym e₅)
           ∙ ap (λ (k : ℕ). last_words h.result.wire k (l.left + stride r) (l.right + stride r) n (n + suc r) r (l.more - 1)) e₁
           ∙ ap (λ (k : ℕ). last_words h.result.wire (l.flag + (2 * r + 3)) (l.left + stride r)
-          (l.right + stride r) n k r (l.more - 1)) e₂) (goes_on (goes_as
+          (l.right + stride r) n k r (l.more - 1)) e₂)
+          (goes_on a.w a.table.now whole l.next l.table _ _ h.new.1.0 h.result
+          (goes_as a.w a.table.now whole l.next l.table _ _
           (last_step n l.flag l.left l.right l.first l.second r l.more t) l.inv.5)
           h.ensures),
     )
@@ -202,7 +213,8 @@ returns : tie.Need-returns invariant_loop decreases_loop
 returns c =
     let a = c.before.before.before.args in
     let l = c.before.loop in
-    goes_end (last_none l.next.wire l.flag l.left l.right l.first l.second
+    goes_end a.w a.table.now (last_words a.w.wire a.f a.x a.y a.u a.v a.above a.count)
+    l.next l.table _ (last_none l.next.wire l.flag l.left l.right l.first l.second
     a.above l.more c.loop-test.false) l.invariant.5
 
 pub last_of_spec : {M : Type 1} → statement M

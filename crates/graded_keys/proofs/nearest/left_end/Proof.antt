@@ -1,6 +1,8 @@
 -- `graded_keys::nearest::left_end` meets its contract: the last choice, or u if there is none.
 -- Assumes nothing.
-use Rattle.basics.proofs.Common.{◌≡◌, ap, ℕ, ◌+◌, ◌-◌, ◌*◌, ◌≤◌, ◌<◌, arith}
+use mathlib.Core.Path.{◌≡◌, ap}
+use Prim.Native.Nat.{ℕ, ◌+◌, ◌-◌, ◌*◌, ◌≤◌, ◌<◌}
+use native.Mathlib.Omega.{arith}
 use Rattle.graded_circuit.specs.Nearest.{either_span}
 use Rattle.graded_keys.proofs.Steps.{product_most, left_some, left_none}
 use Rattle.graded_keys.proofs.nearest.left_end.Statement.{statement}

@@ -1,6 +1,9 @@
 -- `graded_keys::nearest::side_flags` meets its contract: whether the words differ, then on which side of the median.
 -- Assumes nothing.
-use Rattle.basics.proofs.Common.{◌≡◌, refl, suc, ◌+◌, ◌-◌, arith, needs}
+use mathlib.Core.Path.{◌≡◌, refl}
+use Prim.Native.Nat.{suc, ◌+◌, ◌-◌}
+use native.Mathlib.Omega.{arith}
+use borrow.Author.Rules.{rules}
 use Rattle.gate_words.specs.Halves.{unequal_span}
 use Rattle.gate_words.proofs.Writing.{wrote_as, room_less}
 use Rattle.gate_words.proofs.Emitting.{and_wrote, xor_wrote}
@@ -22,7 +25,7 @@ unequal_halves_requires : tie.Need-unequal-halves-requires
 unequal_halves_requires c κs =
     let s = c.before.before.before in
     record {
-      room = room_less (omega (arith, s.requires)) s.requires.room;
+      room = room_less s.args.w _ _ (omega (arith, s.requires)) s.requires.room;
       first_below = omega (arith, s.requires);
       second_below = omega (arith, s.requires);
     }
@@ -30,14 +33,15 @@ unequal_halves_requires c κs =
 -- after the comparison
 
 differ : (c : tie.After-unequal-halves)
-    → Stands c.unequal-halves.result (c.before.before.before.before.args.w.wire
+    → Stands c.unequal-halves.result
+    (c.before.before.before.before.args.w.wire
     + unequal_span c.before.before.before.before.args.above) 2
 differ c =
     let s = c.before.before.before.before in
     let a = s.args in
-    stands_after
+    stands_after a.w a.table.now _ c.unequal-halves.new.1.0 c.unequal-halves.result _ _ _
     c.unequal-halves.ensures (length_unequal_cut a.w.wire a.x a.y a.above a.high s.requires.cut)
-    (stands refl (omega arith) s.requires.room)
+    (stands a.w a.w.wire _ _ refl (omega arith) s.requires.room)
 
 -- The stages of the function, seen from later ones.
 abbrev unequal_at_from_unequal_halves : tie.After-unequal-halves → tie.After-unequal-at
@@ -71,15 +75,18 @@ add_emit_2 c =
 
 emit_requires : tie.Need-emit-requires
 emit_requires c κs =
-    room_of (differ c.before.before.before) (omega arith)
+    room_of c.before.before.before.unequal-halves.result _ _ _ (differ c.before.before.before) (omega arith)
 
 emit_requires_2 : tie.Need-emit-requires-2
 emit_requires_2 c κs =
-    (stands_after c.before.before.before.emit.ensures refl (differ (unequal_halves_from_emit_arg2 c))).left
+    (stands_after (unequal_halves_from_emit_arg2 c).unequal-halves.result
+    (unequal_halves_from_emit_arg2 c).unequal-halves.last.1.0 _
+    c.before.before.before.emit.new.1.0 c.before.before.before.emit.result _ 1 1
+    c.before.before.before.emit.ensures refl (differ (unequal_halves_from_emit_arg2 c))).left
 
 same_length : tie.Need-same-length
 same_length c =
-    search needs
+    search rules
 
 returns : tie.Need-returns
 unfolding side_flags
@@ -91,9 +98,14 @@ returns c =
     let t₁ = (unequal_halves_from_emit2 c.before.before).unequal-halves.last.1.0 in
     let w₂ = (emit_from_slice_known4 c).emit.result in
     let t₂ = (emit_from_slice_known4 c).emit.last.1.0 in
-    wrote_then (unequal_halves_from_emit2 c.before.before).unequal-halves.ensures
-    (wrote_then (wrote_as (one_gate 4 e f refl) (and_wrote 0 (emit_from_slice_known4 c).emit.ensures))
-    (xor_wrote 0 c.before.before.emit2.ensures)
+    wrote_then a.w a.table.now _ t₁ w₁ _ _ _ _ (unequal_halves_from_emit2 c.before.before).unequal-halves.ensures
+    (wrote_then w₁ t₁ _ t₂ w₂ _ _ _ _
+    (wrote_as w₁ t₁ _ _ t₂ w₂ (one_gate 4 e f refl)
+    (and_wrote w₁ t₁ t₂ w₂ (unequal_at_from_emit2 c.before.before).unequal_at.result (a.x + a.above + 1)
+    0 (emit_from_slice_known4 c).emit.ensures))
+    (xor_wrote w₂ t₂ c.before.before.emit2.new.1.0 c.before.before.emit2.result
+    (unequal_at_from_emit2 c.before.before).unequal_at.result w₁.wire 0
+    c.before.before.emit2.ensures)
     (one_gate 6 e (differ (unequal_halves_from_emit2 c.before.before)).place refl)) refl
 
 pub side_flags_spec : {M : Type 1} → statement M

@@ -1,6 +1,8 @@
 -- `graded_keys::nearest::sides` meets its contract: after each grade, writing the grades left completes the block.
 -- Assumes nothing.
-use Rattle.basics.proofs.Common.{◌≡◌, refl, sym, ap, ℕ, ◌+◌, ◌-◌, ◌*◌, ◌≤◌, arith}
+use mathlib.Core.Path.{◌≡◌, refl, sym, ap}
+use Prim.Native.Nat.{ℕ, ◌+◌, ◌-◌, ◌*◌, ◌≤◌}
+use native.Mathlib.Omega.{arith}
 use Rattle.gate_words.proofs.Going.{Goes, goes_start, goes_as, goes_on, goes_room, goes_end}
 use Rattle.graded_circuit.specs.Nearest.{stride, side_span, sides}
 use Rattle.graded_circuit.proofs.NearestLaws.{side_flags_block, sides_block}
@@ -23,7 +25,10 @@ loop_holds c =
     let q = c.before.requires in (
       q.first_below,
       q.second_below,
-      goes_start c.before.requires.room,
+      goes_start c.before.args.w c.before.args.table.now
+          (sides c.before.args.w.wire c.before.args.x c.before.args.y c.before.args.above
+          c.before.args.high c.before.args.count)
+          (c.before.args.count * side_span c.before.args.above) c.before.requires.room,
     )
 
 -- the next words are before the writer's wire
@@ -55,17 +60,22 @@ side_flags_requires c κs =
     let a = c.before.before.before.before.args in
     let l = c.before.before.loop in
     record {
-      room = goes_room l.invariant.2 (omega (
-        arith,
-        (sides_block l.next.wire l.left l.right a.above a.high l.more
-            c.before.before.before.before.requires.cut l.invariant.0 l.invariant.1).long,
-        one_less l.more (side_span a.above) c.before.loop-test.true,
-      )) (omega (
-        arith,
-        (sides_block a.w.wire a.x a.y a.above a.high a.count
-            c.before.before.before.before.requires.cut c.before.before.before.before.requires.first_below
-            c.before.before.before.before.requires.second_below).long,
-      )) c.before.before.before.before.requires.room;
+      room = goes_room a.w a.table.now (sides a.w.wire a.x a.y a.above a.high a.count)
+          l.next l.table (sides l.next.wire l.left l.right a.above a.high l.more) _
+          (a.count * side_span a.above) l.invariant.2
+          (omega (
+            arith,
+            (sides_block l.next.wire l.left l.right a.above a.high l.more
+                c.before.before.before.before.requires.cut l.invariant.0 l.invariant.1).long,
+            one_less l.more (side_span a.above) c.before.loop-test.true,
+          ))
+          (omega (
+            arith,
+            (sides_block a.w.wire a.x a.y a.above a.high a.count
+                c.before.before.before.before.requires.cut c.before.before.before.before.requires.first_below
+                c.before.before.before.before.requires.second_below).long,
+          ))
+          c.before.before.before.before.requires.room;
       first_below = (there c.before).0;
       second_below = (there c.before).1;
       cut = c.before.before.before.before.requires.cut;
@@ -130,10 +140,16 @@ loop_again c =
     let e : stride a.above ≡ a.above + 2 = refl in (
       omega (arith, l.inv.0, one_less l.more (stride a.above) t),
       omega (arith, l.inv.1, one_less l.more (stride a.above) t),
-      goes_as (ap (λ (k : ℕ). sides k (l.left + (a.above + 2)) (l.right + (a.above + 2)) a.above a.high
-          (l.more - 1)) (sym ends)) (goes_on
-          (goes_as (sides_step l.next.wire l.left l.right a.above a.high l.more
-          t) l.inv.2) h.ensures),
+      goes_as a.w a.table.now (sides a.w.wire a.x a.y a.above a.high a.count) h.result
+          h.new.1.0 _ _
+          (ap (λ (k : ℕ). sides k (l.left + (a.above + 2)) (l.right + (a.above + 2)) a.above a.high
+          (l.more - 1)) (sym ends))
+          (goes_on a.w a.table.now (sides a.w.wire a.x a.y a.above a.high a.count)
+          l.next l.table _ _ h.new.1.0 h.result
+          (goes_as a.w a.table.now (sides a.w.wire a.x a.y a.above a.high a.count)
+          l.next l.table _ _ (sides_step l.next.wire l.left l.right a.above a.high l.more
+          t) l.inv.2)
+          h.ensures),
     )
 
 same_length : tie.Need-same-length invariant_loop decreases_loop
@@ -144,7 +160,8 @@ returns : tie.Need-returns invariant_loop decreases_loop
 returns c =
     let a = c.before.before.before.args in
     let l = c.before.loop in
-    goes_end (sides_none l.next.wire l.left l.right a.above a.high l.more
+    goes_end a.w a.table.now (sides a.w.wire a.x a.y a.above a.high a.count) l.next
+    l.table _ (sides_none l.next.wire l.left l.right a.above a.high l.more
     c.loop-test.false) l.invariant.2
 
 pub sides_spec : {M : Type 1} → statement M

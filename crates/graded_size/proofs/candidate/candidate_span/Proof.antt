@@ -1,6 +1,8 @@
 -- `graded_size::candidate::candidate_span` meets its contract: it adds up the parts.
 -- Assumes nothing.
-use Rattle.basics.proofs.Common.{◌≡◌, ap, ℕ, ◌+◌, ◌-◌, ◌*◌, ◌≤◌, arith}
+use mathlib.Core.Path.{◌≡◌, ap}
+use Prim.Native.Nat.{ℕ, ◌+◌, ◌-◌, ◌*◌, ◌≤◌}
+use native.Mathlib.Omega.{arith}
 use Rattle.graded_circuit.specs.declared.plan.Plan.{Plan}
 use Rattle.graded_circuit.specs.RunningSums.{sum_size, worst_size}
 use Rattle.graded_circuit.specs.Key.{key_span}
@@ -19,6 +21,9 @@ record Parts (p : Plan) (rows sum worst : ℕ) : Type 0 where
   few : (p.grades - 3) * p.ballots + (p.grades - 2) * sum_size p + worst_size p + key_span p ≤ 35000
   narrow : p.digits ≤ 7
   some : 2 ≤ p.grades
+
+rows_span_requires : tie.Need-rows-span-requires
+rows_span_requires c κs = c.requires
 
 count_size_requires : tie.Need-count-size-requires
 count_size_requires c κs =
@@ -47,6 +52,9 @@ parts c =
       some = f.d_least;
     }
 
+sub_result : tie.Need-overflow-sub-result
+sub_result c = omega (arith, (parts c.before).some)
+
 mul_result : tie.Need-overflow-mul-result
 mul_result c = let q = parts c.before in omega (arith, q.sums_are, q.few)
 
@@ -55,6 +63,15 @@ add_result c = let q = parts c.before in omega (arith, q.rows_are, q.sums_are, q
 
 add_result_2 : tie.Need-overflow-add-result-2
 add_result_2 c = let q = parts c.before in omega (arith, q.rows_are, q.sums_are, q.worst_is, q.few)
+
+sub_result_2 : tie.Need-overflow-sub-result-2
+sub_result_2 c = omega (arith, (parts c.before.before).some)
+
+add_result_3 : tie.Need-overflow-add-result-3
+add_result_3 c = omega (arith, (parts c.before.before.before).narrow)
+
+mul_result_2 : tie.Need-overflow-mul-result-2
+mul_result_2 c = omega (arith, (parts c.before.before.before).few)
 
 add_result_4 : tie.Need-overflow-add-result-4
 add_result_4 c = let q = parts c.before.before.before in omega (arith, q.rows_are, q.sums_are, q.worst_is, q.few)
@@ -68,7 +85,16 @@ returns c =
 pub candidate_span_spec : {M : Type 1} → statement M
 candidate_span_spec =
     tie.close
-    (tie.spec (λ c κs. c.requires) count_size_requires count_size_requires_2 (λ c. omega (arith, (parts c.before).some))
-    mul_result add_result add_result_2 (λ c. omega (arith, (parts c.before.before).some))
-    (λ c. omega (arith, (parts c.before.before.before).narrow))
-    (λ c. omega (arith, (parts c.before.before.before).few)) add_result_4 returns)
+    (tie.spec
+    rows_span_requires
+    count_size_requires
+    count_size_requires_2
+    sub_result
+    mul_result
+    add_result
+    add_result_2
+    sub_result_2
+    add_result_3
+    mul_result_2
+    add_result_4
+    returns)

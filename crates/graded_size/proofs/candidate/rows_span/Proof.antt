@@ -1,6 +1,9 @@
 -- `graded_size::candidate::rows_span` meets its contract: two grades have no row.
 -- Assumes nothing.
-use Rattle.basics.proofs.Common.{◌≡◌, ◌∙◌, refl, sym, ap, ℕ, ◌-◌, ◌*◌, zero-mul, arith}
+use mathlib.Core.Path.{◌≡◌, ◌∙◌, refl, sym, ap}
+use Prim.Native.Nat.{ℕ, ◌-◌, ◌*◌}
+use native.Mathlib.Nat.{zero-mul}
+use native.Mathlib.Omega.{arith}
 use Rattle.graded_size.proofs.Spans.{parts_small}
 use Rattle.graded_size.proofs.candidate.rows_span.Statement.{statement}
 use Rattle.graded_size.proofs.candidate.rows_span.Tie as tie
@@ -17,5 +20,8 @@ sub_result c = omega (arith, c.before.if1.false, c.before.before.before.requires
 mul_result : tie.Need-overflow-mul-result
 mul_result c = let s = c.before.before.before.before in omega (arith, parts_small s.args.p s.requires)
 
+returns_2 : tie.Need-returns-2
+returns_2 c = refl
+
 pub rows_span_spec : {M : Type 1} → statement M
-rows_span_spec = tie.close (tie.spec returns sub_result mul_result (λ c. refl))
+rows_span_spec = tie.close (tie.spec returns sub_result mul_result returns_2)

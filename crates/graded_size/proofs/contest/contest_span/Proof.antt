@@ -1,12 +1,17 @@
 -- `graded_size::contest::contest_span` meets its contract: it adds up the parts.
 -- Assumes nothing.
-use Rattle.basics.proofs.Common.{◌≡◌, ◌+◌, arith}
+use mathlib.Core.Path.{◌≡◌}
+use Prim.Native.Nat.{◌+◌}
+use native.Mathlib.Omega.{arith}
 use Rattle.graded_circuit.specs.Contest.{contest_span}
 use Rattle.graded_circuit.proofs.ContestLaws.{grade_fits}
 use Rattle.graded_circuit.proofs.BoundLaws.{digits_most, places_most}
 use Rattle.graded_size.proofs.Spans.{contest_small}
 use Rattle.graded_size.proofs.contest.contest_span.Statement.{statement}
 use Rattle.graded_size.proofs.contest.contest_span.Tie as tie
+
+sub_medians_span : tie.Need-overflow-sub-medians-span
+sub_medians_span c = omega (arith, c.before.requires.d_least)
 
 medians_span_requires : tie.Need-medians-span-requires
 medians_span_requires c κs =
@@ -38,6 +43,9 @@ add_result c = let s = c.before.before.before in omega (arith, whole c, contest_
 add_result_2 : tie.Need-overflow-add-result-2
 add_result_2 c = let s = c.before.before.before in omega (arith, whole c, contest_small s.args.p s.requires)
 
+returns : tie.Need-returns
+returns c = whole c
+
 pub contest_span_spec : {M : Type 1} → statement M
-contest_span_spec = tie.close (tie.spec (λ c. omega (arith, c.before.requires.d_least)) medians_span_requires
-    tie_break_below_span_requires add_result add_result_2 (λ c. whole c))
+contest_span_spec = tie.close (tie.spec sub_medians_span medians_span_requires tie_break_below_span_requires
+    add_result add_result_2 returns)

@@ -1,7 +1,9 @@
 -- `graded_size::contest::medians_span` meets its contract: the gates counted so far and those of the digits left add
 -- up to all.
 -- Assumes nothing.
-use Rattle.basics.proofs.Common.{◌≡◌, ◌+◌, ◌-◌, ◌*◌, ◌/◌, ◌≤◌, arith}
+use mathlib.Core.Path.{◌≡◌}
+use Prim.Native.Nat.{◌+◌, ◌-◌, ◌*◌, ◌/◌, ◌≤◌}
+use native.Mathlib.Omega.{arith}
 use Rattle.graded_circuit.specs.Median.{Fits, later_span, ones_span}
 use Rattle.graded_circuit.proofs.MedianLaws.{fits_half, fits_some, ones_span_lem}
 use Rattle.graded_circuit.proofs.BoundLaws.{ones_span_most}
@@ -14,6 +16,9 @@ invariant_loop count above gates₀ many₀ left₀ gates many left = Fits many 
 
 abbrev decreases_loop : tie.decreases-loop
 decreases_loop count above gates₀ many₀ left₀ gates many left = left
+
+mul_gates : tie.Need-overflow-mul-gates invariant_loop decreases_loop
+mul_gates c = omega (arith, c.requires)
 
 sub_gates : tie.Need-overflow-sub-gates invariant_loop decreases_loop
 sub_gates c = omega (arith, fits_some c.args.count c.args.above c.requires.fits)
@@ -38,10 +43,27 @@ in_turn c =
 few : (c : tie.In-loop invariant_loop decreases_loop) → ones_span c.before.before.args.count c.before.before.args.above ≤ 100
 few c = let a = c.before.before.args in omega (arith, ones_span_most a.count a.above, c.before.before.requires)
 
+mul_gates_2 : tie.Need-overflow-mul-gates-2 invariant_loop decreases_loop
+mul_gates_2 c = omega (arith, (in_turn c).1, few c)
+
+add_gates : tie.Need-overflow-add-gates invariant_loop decreases_loop
+add_gates c = omega (arith, (in_turn c).1, few c)
+
+add_gates_2 : tie.Need-overflow-add-gates-2 invariant_loop decreases_loop
+add_gates_2 c = omega (arith, (in_turn c).1, few c)
+
+sub_left : tie.Need-overflow-sub-left invariant_loop decreases_loop
+sub_left c = omega arith
+
+loop_less : tie.Need-loop-smaller invariant_loop decreases_loop
+loop_less c = omega arith
+
+loop_again : tie.Need-loop-preserved invariant_loop decreases_loop
+loop_again c = in_turn c
+
 returns : tie.Need-returns invariant_loop decreases_loop
 returns c = let l = c.before.loop in omega (arith, l.invariant.1, later_none l.many l.left c.loop-test.false)
 
 pub medians_span_spec : {M : Type 1} → statement M
-medians_span_spec = tie.close (tie.spec invariant_loop decreases_loop (λ c. omega (arith, c.requires)) sub_gates loop_holds
-    (λ c. omega (arith, (in_turn c).1, few c)) (λ c. omega (arith, (in_turn c).1, few c))
-    (λ c. omega (arith, (in_turn c).1, few c)) (λ c. omega arith) (λ c. omega arith) (λ c. in_turn c) returns)
+medians_span_spec = tie.close (tie.spec invariant_loop decreases_loop mul_gates sub_gates loop_holds mul_gates_2 add_gates
+    add_gates_2 sub_left loop_less loop_again returns)

@@ -1,6 +1,8 @@
 -- `graded_size::contest::reach_span` meets its contract: one digit, or two halves.
 -- Assumes nothing.
-use Rattle.basics.proofs.Common.{◌≡◌, ap, ℕ, ◌-◌, ◌/◌, arith}
+use mathlib.Core.Path.{◌≡◌, ap}
+use Prim.Native.Nat.{ℕ, ◌-◌, ◌/◌}
+use native.Mathlib.Omega.{arith}
 use Rattle.gate_words.proofs.ReachLaws.{reach_last_none, reach_last_some}
 use Rattle.graded_size.proofs.contest.reach_span.Statement.{statement}
 use Rattle.graded_size.proofs.contest.reach_span.Tie as tie

@@ -1,6 +1,10 @@
 -- `graded_size::contest::tie_break_below_span` meets its contract, case by case.
 -- Assumes nothing.
-use Rattle.basics.proofs.Common.{◌≡◌, ap, ℕ, ◌+◌, ◌-◌, ◌*◌, ◌≤◌, mul-le-mul, arith, needs}
+use mathlib.Core.Path.{◌≡◌, ap}
+use Prim.Native.Nat.{ℕ, ◌+◌, ◌-◌, ◌*◌, ◌≤◌}
+use native.Mathlib.Nat.{mul-le-mul}
+use native.Mathlib.Omega.{arith}
+use borrow.Author.Rules.{rules}
 use Rattle.gate_words.proofs.ReachLaws.{reach_last_most}
 use Rattle.graded_size.proofs.Spans.{tie_break_below_none, tie_break_below_single, tie_break_below_more}
 use Rattle.graded_size.proofs.contest.tie_break_below_span.Statement.{statement}
@@ -24,31 +28,32 @@ returns c =
 
 mul_result : tie.Need-overflow-mul-result
 mul_result c =
-    search needs
+    search rules
 
 sub_result : tie.Need-overflow-sub-result
 sub_result c =
-    search needs
+    search rules
 
 returns_2 : tie.Need-returns-2
 returns_2 c =
     let a = c.before.before.args in
     omega (
       arith,
-      tie_break_below_single a.digits (a.grades - 2) c.before.if1.false (omega (arith, c.if2.true)),
+      tie_break_below_single a.digits (a.grades - 2) c.before.if1.false
+          (omega (arith, c.if2.true)),
     )
 
 mul_result_2 : tie.Need-overflow-mul-result-2
 mul_result_2 c =
-    search needs
+    search rules
 
 add_result : tie.Need-overflow-add-result
 add_result c =
-    search needs
+    search rules
 
 sub_result_2 : tie.Need-overflow-sub-result-2
 sub_result_2 c =
-    search needs
+    search rules
 
 mul_result_3 : tie.Need-overflow-mul-result-3
 mul_result_3 c =
@@ -56,7 +61,7 @@ mul_result_3 c =
 
 mul_result_4 : tie.Need-overflow-mul-result-4
 mul_result_4 c =
-    search needs
+    search rules
 
 add_result_2 : tie.Need-overflow-add-result-2
 add_result_2 c =

@@ -1,6 +1,9 @@
 -- `graded_size::list::best_of_four_span` meets its contract: both halves, their merge and a key.
 -- Assumes nothing.
-use Rattle.basics.proofs.Common.{◌≡◌, ◌-◌, ◌/◌, ◌≤◌, arith, needs}
+use mathlib.Core.Path.{◌≡◌}
+use Prim.Native.Nat.{◌-◌, ◌/◌, ◌≤◌}
+use native.Mathlib.Omega.{arith}
+use borrow.Author.Rules.{rules}
 use Rattle.graded_circuit.specs.OwnList.{levels_span}
 use Rattle.graded_size.proofs.Spans.{four_one, four_more, pair_small, contest_small}
 use Rattle.graded_size.proofs.list.best_of_four_span.Statement.{statement}
@@ -8,6 +11,15 @@ use Rattle.graded_size.proofs.list.best_of_four_span.Tie as tie
 
 returns : tie.Need-returns
 returns c = let a = c.before.args in omega (arith, four_one a.p a.count c.if1.true)
+
+pair_span_requires : tie.Need-pair-span-requires
+pair_span_requires c κs = search rules
+
+sub_pair_span : tie.Need-overflow-sub-pair-span
+sub_pair_span c = search rules
+
+pair_span_requires_2 : tie.Need-pair-span-requires-2
+pair_span_requires_2 c κs = search rules
 
 -- both halves
 parts : (c : tie.After-pair-span2) → let a = c.before.before.before.args in
@@ -57,5 +69,5 @@ returns_2 c =
     )
 
 pub best_of_four_span_spec : {M : Type 1} → statement M
-best_of_four_span_spec = tie.close (tie.spec returns (λ c κs. search needs) (λ c. search needs) (λ c κs. search needs)
-    add_result add_result_2 add_result_3 add_result_4 add_result_5 returns_2)
+best_of_four_span_spec = tie.close (tie.spec returns pair_span_requires sub_pair_span pair_span_requires_2 add_result
+    add_result_2 add_result_3 add_result_4 add_result_5 returns_2)

@@ -1,6 +1,9 @@
 -- `graded_size::list::circuit_span` meets its contract: it adds up the parts.
 -- Assumes nothing.
-use Rattle.basics.proofs.Common.{◌≡◌, ap, ℕ, ◌-◌, ◌*◌, ◌/◌, ◌≤◌, arith, needs}
+use mathlib.Core.Path.{◌≡◌, ap}
+use Prim.Native.Nat.{ℕ, ◌-◌, ◌*◌, ◌/◌, ◌≤◌}
+use native.Mathlib.Omega.{arith}
+use borrow.Author.Rules.{rules}
 use Rattle.graded_circuit.specs.declared.plan.Plan.{Plan}
 use Rattle.graded_circuit.specs.Key.{candidate_span}
 use Rattle.graded_circuit.specs.Contest.{contest_span}
@@ -44,11 +47,47 @@ whole c =
       few = f.k_most;
     }
 
+candidate_span_requires : tie.Need-candidate-span-requires
+candidate_span_requires c κs = search rules
+
+contest_span_requires : tie.Need-contest-span-requires
+contest_span_requires c κs = search rules
+
+sub_key : tie.Need-overflow-sub-key
+sub_key c = search rules
+
 add_key : tie.Need-overflow-add-key
 add_key c = omega (arith, digits_most c.before.before.before.before.args.p c.before.before.before.before.requires.plan)
 
 mul_key : tie.Need-overflow-mul-key
 mul_key c = omega (arith, contest_small c.before.before.before.before.args.p c.before.before.before.before.requires.plan)
+
+best_of_four_span_requires : tie.Need-best-of-four-span-requires
+best_of_four_span_requires c κs = search rules
+
+sub_best_of_four_span : tie.Need-overflow-sub-best-of-four-span
+sub_best_of_four_span c = search rules
+
+best_of_four_span_requires_2 : tie.Need-best-of-four-span-requires-2
+best_of_four_span_requires_2 c κs = search rules
+
+mul_result : tie.Need-overflow-mul-result
+mul_result c = omega (arith, whole c)
+
+add_result : tie.Need-overflow-add-result
+add_result c = omega (arith, whole c)
+
+add_result_2 : tie.Need-overflow-add-result-2
+add_result_2 c = omega (arith, whole c)
+
+add_result_3 : tie.Need-overflow-add-result-3
+add_result_3 c = omega (arith, whole c)
+
+add_result_4 : tie.Need-overflow-add-result-4
+add_result_4 c = omega (arith, whole c)
+
+add_result_5 : tie.Need-overflow-add-result-5
+add_result_5 c = omega (arith, whole c)
 
 returns : tie.Need-returns
 returns c = omega (
@@ -62,7 +101,19 @@ returns c = omega (
 pub circuit_span_spec : {M : Type 1} → statement M
 circuit_span_spec =
     tie.close
-    (tie.spec (λ c κs. search needs) (λ c κs. search needs) (λ c. search needs) add_key mul_key (λ c κs. search needs)
-    (λ c. search needs) (λ c κs. search needs) (λ c. omega (arith, whole c)) (λ c. omega (arith, whole c))
-    (λ c. omega (arith, whole c)) (λ c. omega (arith, whole c)) (λ c. omega (arith, whole c))
-    (λ c. omega (arith, whole c)) returns)
+    (tie.spec
+    candidate_span_requires
+    contest_span_requires
+    sub_key
+    add_key
+    mul_key
+    best_of_four_span_requires
+    sub_best_of_four_span
+    best_of_four_span_requires_2
+    mul_result
+    add_result
+    add_result_2
+    add_result_3
+    add_result_4
+    add_result_5
+    returns)

@@ -1,6 +1,10 @@
 -- `graded_size::list::gates` meets its contract: one gate, or those of the circuit.
 -- Assumes nothing.
-use Rattle.basics.proofs.Common.{◌∙◌, sym, ap, subst, ◌<◌, arith, needs, length}
+use mathlib.Core.Path.{◌∙◌, sym, ap, subst}
+use Prim.Native.Nat.{◌<◌}
+use native.Mathlib.Omega.{arith}
+use borrow.Author.Rules.{rules}
+use lib.ListN.{length}
 use Rattle.jury.proofs.Limits.{within_T, within_back}
 use Rattle.graded_circuit.specs.declared.plan.Plan.{Plan}
 use Rattle.graded_circuit.specs.Plan.{Planned, plan_of}
@@ -30,6 +34,15 @@ plan_many c =
 returns : tie.Need-returns
 returns c = sym (ap length (own_single c.before.before.args.shape c.if1.true))
 
+new_requires : tie.Need-new-requires
+new_requires c κs = search rules
+
+circuit_span_requires : tie.Need-circuit-span-requires
+circuit_span_requires c κs = record { plan = plan_planned c; several = plan_many c }
+
+cast_result : tie.Need-overflow-cast-result
+cast_result c = search rules
+
 returns_2 : tie.Need-returns-2
 returns_2 c =
     let s = c.before.before.before.before.args.shape in
@@ -37,5 +50,4 @@ returns_2 c =
     ∙ sym (ap length (circuit_list s c.before.before.if1.false))
 
 pub gates_spec : {M : Type 1} → statement M
-gates_spec = tie.close (tie.spec returns (λ c κs. search needs)
-    (λ c κs. record { plan = plan_planned c; several = plan_many c }) (λ c. search needs) returns_2)
+gates_spec = tie.close (tie.spec returns new_requires circuit_span_requires cast_result returns_2)

@@ -1,6 +1,7 @@
 -- `graded_size::list::pair_span` meets its contract: nothing for one candidate, else a merge and a key.
 -- Assumes nothing.
-use Rattle.basics.proofs.Common.{◌-◌, arith}
+use Prim.Native.Nat.{◌-◌}
+use native.Mathlib.Omega.{arith}
 use Rattle.graded_size.proofs.Spans.{pair_one, pair_two, contest_small}
 use Rattle.graded_size.proofs.list.pair_span.Statement.{statement}
 use Rattle.graded_size.proofs.list.pair_span.Tie as tie

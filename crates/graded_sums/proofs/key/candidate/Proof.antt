@@ -1,6 +1,11 @@
 -- `graded_sums::key::candidate` meets its contract: the rows, the levels of all sums, then the key.
 -- Assumes nothing.
-use Rattle.basics.proofs.Common.{◌≡◌, refl, ap, List, ℕ, suc, ◌+◌, ◌-◌, ◌*◌, suc-mul, arith, needs}
+use mathlib.Core.Path.{◌≡◌, refl, ap}
+use mathlib.Core.List.{List}
+use Prim.Native.Nat.{ℕ, suc, ◌+◌, ◌-◌, ◌*◌}
+use native.Mathlib.Nat.{suc-mul}
+use native.Mathlib.Omega.{arith}
+use borrow.Author.Rules.{rules}
 use Rattle.gate_words.specs.declared.writer.Writer.{Writer}
 use Rattle.gate_words.specs.Writing.{Wrote}
 use Rattle.gate_words.proofs.Writing.{room_less}
@@ -41,7 +46,10 @@ unfolding candidate
 candidate_wrote p w t c t₁ w₁ t₂ w₂ t₃ w₃ t₄ w₄ t₅ w₅ a₁ e₁ a₂ e₂ a₃ a₄ a₅ =
     let n = w.wire in
     let d = p.grades - 2 in
-    wrote_then (wrote_then (wrote_then (wrote_then a₁ a₂ (ap (λ (m : ℕ). all_levels p n m c 0 d) e₁))
+    wrote_then w t _ t₄ w₄ _ _ t₅ w₅
+    (wrote_then w t _ t₃ w₃ _ _ t₄ w₄
+    (wrote_then w t _ t₂ w₂ _ _ t₃ w₃
+    (wrote_then w t _ t₁ w₁ _ _ t₂ w₂ a₁ a₂ (ap (λ (m : ℕ). all_levels p n m c 0 d) e₁))
     a₃ (ap (λ (m : ℕ). worst_levels p m c) e₂))
     a₄ (ap (λ (m : ℕ). key_words p n m c 0 d) e₁))
     a₅ (ap (λ (m : ℕ). worst_word p m c) e₂)
@@ -68,7 +76,8 @@ rows_requires c κs =
       candidate = q.candidate;
       inputs = q.inputs;
       room =
-          room_less (omega (arith, parts s.args.p q.planned)) q.room;
+          room_less s.args.w _ (candidate_span s.args.p) (omega (arith, parts s.args.p q.planned))
+          q.room;
     }
 
 rowed : (c : tie.After-rows) → let s = from_rows c in
@@ -77,9 +86,10 @@ rowed c =
     let s = from_rows c in
     let a = s.args in
     let q = s.pre in
-    stands_after c.rows.ensures
+    stands_after a.w a.table.now _ c.rows.new.1.0 c.rows.result _ _ _ c.rows.ensures
     (next_rows_block a.p q.planned a.w.wire a.c 0 (a.p.grades - 3) q.inputs q.candidate
-    (omega (arith, q.planned.d_least))).long (stands refl (omega (arith, parts a.p q.planned)) q.room)
+    (omega (arith, q.planned.d_least))).long
+    (stands a.w a.w.wire _ _ refl (omega (arith, parts a.p q.planned)) q.room)
 
 -- all rows are before the levels
 before : (c : tie.After-rows) → let s = from_rows c in
@@ -98,7 +108,7 @@ all_levels_requires c κs =
         candidate = q.candidate;
         inputs = q.inputs;
         room =
-            room_of (rowed r) (omega arith);
+            room_of r.rows.result _ _ _ (rowed r) (omega arith);
       };
       rows = omega (arith, (rowed r).place);
       there = omega arith;
@@ -111,9 +121,11 @@ levelled c =
     let s = from_rows r in
     let a = s.args in
     let q = s.pre in
-    stands_after c.all-levels.ensures
+    stands_after r.rows.result r.rows.last.1.0 _ c.all-levels.new.1.0 c.all-levels.result _ _ _
+    c.all-levels.ensures
     (all_levels_block a.p q.planned a.w.wire r.rows.result.wire a.c 0 (a.p.grades - 2)
-    q.inputs q.candidate (before r)).long (rowed r)
+    q.inputs q.candidate (before r)).long
+    (rowed r)
 
 worst_levels_requires : tie.Need-worst-levels-requires
 worst_levels_requires c κs =
@@ -123,7 +135,7 @@ worst_levels_requires c κs =
       planned = q.planned;
       candidate = q.candidate;
       inputs = omega (arith, q.inputs, (levelled l).place);
-      room = room_of (levelled l) (omega arith);
+      room = room_of l.all-levels.result _ _ _ (levelled l) (omega arith);
     }
 
 counted : (c : tie.After-worst-levels) → let s = from_rows (from_levels (from_worst c)) in
@@ -133,9 +145,11 @@ counted c =
     let s = from_rows (from_levels l) in
     let a = s.args in
     let q = s.pre in
-    stands_after c.worst-levels.ensures
+    stands_after l.all-levels.result l.all-levels.last.1.0 _ c.worst-levels.new.1.0
+    c.worst-levels.result _ _ _ c.worst-levels.ensures
     (worst_levels_block a.p q.planned l.all-levels.result.wire a.c
-    (omega (arith, q.inputs, (levelled l).place)) q.candidate).long (levelled l)
+    (omega (arith, q.inputs, (levelled l).place)) q.candidate).long
+    (levelled l)
 
 key_words_requires : tie.Need-key-words-requires
 key_words_requires c κs =
@@ -149,7 +163,7 @@ key_words_requires c κs =
           candidate = q.candidate;
           inputs = q.inputs;
           room =
-              room_of (counted k) (omega arith);
+              room_of k.worst-levels.result _ _ _ (counted k) (omega arith);
         };
         rows = omega (arith, (rowed r).place);
         there = omega (arith, (rowed r).place, (counted k).place);
@@ -166,7 +180,8 @@ worded c =
     let s = from_rows r in
     let a = s.args in
     let q = s.pre in
-    stands_after c.key-words.ensures
+    stands_after k.worst-levels.result k.worst-levels.last.1.0 _ c.key-words.new.1.0
+    c.key-words.result _ _ _ c.key-words.ensures
     (key_words_block a.p q.planned k.worst-levels.result.wire a.w.wire r.rows.result.wire a.c
     0 (a.p.grades - 2) q.inputs q.candidate (before r) (omega (arith, (rowed r).place, (counted k).place))).long
     (counted k)
@@ -186,6 +201,9 @@ worst_word_requires c κs =
       };
       levels = omega (arith, (levelled l).place, (worded h).place);
     }
+
+same_length : tie.Need-same-length
+same_length c = search rules
 
 -- The stages of the function, seen from later ones.
 abbrev key_words_from_slice_known6 : tie.After-slice-known6 → tie.After-key-words
@@ -207,4 +225,4 @@ returns c =
 
 pub candidate_spec : {M : Type 1} → statement M
 candidate_spec = tie.close (tie.spec rows_requires all_levels_requires worst_levels_requires key_words_requires
-    worst_word_requires (λ c. search needs) returns)
+    worst_word_requires same_length returns)

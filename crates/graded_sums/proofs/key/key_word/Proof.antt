@@ -1,6 +1,9 @@
 -- `graded_sums::key::key_word` meets its contract: it is `count_digits` for the bits that the grade's sum counts.
 -- Assumes nothing.
-use Rattle.basics.proofs.Common.{subst, ℕ, arith, needs}
+use mathlib.Core.Path.{subst}
+use Prim.Native.Nat.{ℕ}
+use native.Mathlib.Omega.{arith}
+use borrow.Author.Rules.{rules}
 use Rattle.gates.proofs.Laws.{operand_counts_lem}
 use Rattle.gate_words.specs.Writing.{Wrote}
 use Rattle.gate_words.specs.Counter.{count_digits_as}
@@ -29,6 +32,9 @@ count_digits_requires c κs =
       countable = first_countable s.args.p q.planned;
     }
 
+same_length : tie.Need-same-length
+same_length c = search rules
+
 returns : tie.Need-returns
 returns c =
     let h = c.before.before.count-digits in
@@ -39,4 +45,4 @@ returns c =
     t.row_at.ensures h.ensures
 
 pub key_word_spec : {M : Type 1} → statement M
-key_word_spec = tie.close (tie.spec row_at_requires count_digits_requires (λ c. search needs) returns)
+key_word_spec = tie.close (tie.spec row_at_requires count_digits_requires same_length returns)

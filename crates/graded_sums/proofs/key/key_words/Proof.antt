@@ -1,7 +1,10 @@
 -- `graded_sums::key::key_words` meets its contract: after each word, writing the words left completes the block.
 -- Assumes nothing.
-use Rattle.basics.proofs.Common.{◌≡◌, sym, ap, subst, ℕ, suc, ◌+◌, ◌-◌, ◌*◌, ◌≤◌, ◌<◌, zero-mul, suc-mul}
-use Rattle.basics.proofs.Common.{mul-le-mul_right, add-one, arith}
+use mathlib.Core.Path.{◌≡◌, sym, ap, subst}
+use Prim.Native.Nat.{ℕ, suc, ◌+◌, ◌-◌, ◌*◌, ◌≤◌, ◌<◌}
+use native.Mathlib.Nat.{zero-mul, suc-mul, mul-le-mul_right}
+use native.Mathlib.Numerals.{add-one}
+use native.Mathlib.Omega.{arith}
 use Rattle.basics.proofs.Arithmetic.{one_less}
 use Rattle.gate_words.proofs.Going.{Goes, goes_start, goes_as, goes_on, goes_room, goes_end}
 use Rattle.graded_circuit.specs.RunningSums.{word_span, sum_size, sum_levels_from}
@@ -35,7 +38,9 @@ loop_holds c =
       omega arith,
       omega (arith, zero-mul (sum_size a.p)),
       omega arith,
-      goes_as (ap (key_words a.p a.n a.m a.c 0) e) (goes_start s.requires.of.part.room),
+      goes_as a.w a.table.now whole a.w a.table.now _ _
+          (ap (key_words a.p a.n a.m a.c 0) e)
+          (goes_start a.w a.table.now whole ((a.p.grades - 2) * word_span a.p) s.requires.of.part.room),
     )
 
 add_if1 : tie.Need-overflow-add-if1 invariant_loop decreases_loop
@@ -84,18 +89,22 @@ key_word_requires c κs =
           planned = f;
           candidate = q.part.candidate;
           inputs = q.part.inputs;
-          room = goes_room l.invariant.3 (omega (
-            arith,
-            (key_words_block p f l.next.wire a.n a.m a.c l.g left q.part.inputs
-                q.part.candidate (before (l.g + left) (omega arith))
-                (subst (λ (k : ℕ). sum_levels_from p a.m k ≤ l.next.wire) (sym all) end)).long,
-            one_less left (word_span p) (omega arith),
-          )) (omega (
-            arith,
-            (key_words_block p f l.next.wire a.n a.m a.c 0 (p.grades - 2)
-                q.part.inputs q.part.candidate (before (0 + (p.grades - 2)) (omega arith))
-                (subst (λ (k : ℕ). sum_levels_from p a.m k ≤ l.next.wire) (sym every) end)).long,
-          )) q.part.room;
+          room = goes_room a.w a.table.now (key_words p a.n a.m a.c 0 (p.grades - 2)) l.next
+              l.table (key_words p a.n a.m a.c l.g left) _ ((p.grades - 2) * word_span p) l.invariant.3
+              (omega (
+                arith,
+                (key_words_block p f l.next.wire a.n a.m a.c l.g left q.part.inputs
+                    q.part.candidate (before (l.g + left) (omega arith))
+                    (subst (λ (k : ℕ). sum_levels_from p a.m k ≤ l.next.wire) (sym all) end)).long,
+                one_less left (word_span p) (omega arith),
+              ))
+              (omega (
+                arith,
+                (key_words_block p f l.next.wire a.n a.m a.c 0 (p.grades - 2)
+                    q.part.inputs q.part.candidate (before (0 + (p.grades - 2)) (omega arith))
+                    (subst (λ (k : ℕ). sum_levels_from p a.m k ≤ l.next.wire) (sym every) end)).long,
+              ))
+              q.part.room;
         };
         grade = omega arith;
         row = omega (arith, l.invariant.1, before (suc l.g) (omega arith) l.g (omega arith));
@@ -115,6 +124,9 @@ add_g c =
     let i = c.before.before.before.before in
     omega (arith, i.before.before.loop.invariant.0, (start_from_then1 i).pre.of.part.planned.d_most)
 
+loop_less : tie.Need-loop-smaller invariant_loop decreases_loop
+loop_less c = omega (arith, c.before.before.before.before.if1.true)
+
 loop_again : tie.Need-loop-preserved invariant_loop decreases_loop
 loop_again c =
     let h = c.before.before.key-word in
@@ -129,20 +141,27 @@ loop_again c =
         arith,
         l.invariant.1,
         i.before.before.before.count-size.ensures,
-        ap (λ (k : ℕ). k * sum_size p) (add-one l.g),
+        ap (λ (k : ℕ). k * sum_size p)
+            (add-one l.g),
         suc-mul l.g (sum_size p),
       ),
       omega (arith, l.invariant.2, h.ensures.wires),
-      goes_on (goes_as (words_turn p a.n a.c a.m l.g l.base t l.invariant.1) l.invariant.3) h.ensures,
+      goes_on a.w a.table.now whole l.next l.table _ _ h.new.1.0 h.result
+          (goes_as a.w a.table.now whole l.next l.table _ _
+          (words_turn p a.n a.c a.m l.g l.base t l.invariant.1) l.invariant.3)
+          h.ensures,
     )
+
+same_length : tie.Need-same-length invariant_loop decreases_loop
+same_length c = c.before.before.loop.invariant.3.long
 
 returns : tie.Need-returns invariant_loop decreases_loop
 returns c =
     let l = c.before.before.loop in
     let a = (start_from_else1 c).args in
-    goes_end (words_end a.p a.n a.c a.m l.g (a.p.grades - 2) (omega (arith, c.if1.false))) l.invariant.3
+    goes_end a.w a.table.now (key_words a.p a.n a.m a.c 0 (a.p.grades - 2)) l.next l.table
+    _ (words_end a.p a.n a.c a.m l.g (a.p.grades - 2) (omega (arith, c.if1.false))) l.invariant.3
 
 pub key_words_spec : {M : Type 1} → statement M
-key_words_spec = tie.close (tie.spec invariant_loop decreases_loop count_size_requires loop_holds add_if1 key_word_requires add_base
-    add_g (λ c. omega (arith, c.before.before.before.before.if1.true)) loop_again
-    (λ c. c.before.before.loop.invariant.3.long) returns)
+key_words_spec = tie.close (tie.spec invariant_loop decreases_loop count_size_requires loop_holds add_if1 key_word_requires
+    add_base add_g loop_less loop_again same_length returns)

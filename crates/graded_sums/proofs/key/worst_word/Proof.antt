@@ -1,6 +1,9 @@
 -- `graded_sums::key::worst_word` meets its contract: it is `count_digits` for the worst grade's bits.
 -- Assumes nothing.
-use Rattle.basics.proofs.Common.{subst, ℕ, arith, needs}
+use mathlib.Core.Path.{subst}
+use Prim.Native.Nat.{ℕ}
+use native.Mathlib.Omega.{arith}
+use borrow.Author.Rules.{rules}
 use Rattle.gates.proofs.Laws.{operand_counts_lem}
 use Rattle.gate_words.specs.Writing.{Wrote}
 use Rattle.gate_words.specs.Counter.{count_digits_as}
@@ -30,6 +33,9 @@ count_digits_requires c κs =
       countable = worst_countable s.args.p q.planned;
     }
 
+same_length : tie.Need-same-length
+same_length c = search rules
+
 returns : tie.Need-returns
 unfolding worst_word
 returns c =
@@ -41,4 +47,4 @@ returns c =
     t.bits_at.ensures h.ensures
 
 pub worst_word_spec : {M : Type 1} → statement M
-worst_word_spec = tie.close (tie.spec sub_bits_at bits_at_requires count_digits_requires (λ c. search needs) returns)
+worst_word_spec = tie.close (tie.spec sub_bits_at bits_at_requires count_digits_requires same_length returns)

@@ -1,6 +1,10 @@
 -- `graded_sums::sums::all_levels` meets its contract: after each sum, writing the levels left completes the block.
 -- Assumes nothing.
-use Rattle.basics.proofs.Common.{◌≡◌, ap, ℕ, suc, ◌+◌, ◌-◌, ◌*◌, ◌≤◌, ◌<◌, zero-mul, suc-mul, add-one, arith}
+use mathlib.Core.Path.{◌≡◌, ap}
+use Prim.Native.Nat.{ℕ, suc, ◌+◌, ◌-◌, ◌*◌, ◌≤◌, ◌<◌}
+use native.Mathlib.Nat.{zero-mul, suc-mul}
+use native.Mathlib.Numerals.{add-one}
+use native.Mathlib.Omega.{arith}
 use Rattle.basics.proofs.Arithmetic.{one_less}
 use Rattle.gate_words.proofs.Going.{Goes, goes_start, goes_as, goes_on, goes_room, goes_end}
 use Rattle.gate_words.proofs.CounterSteps.{length_count}
@@ -26,7 +30,9 @@ loop_holds c =
     let whole = all_levels a.p a.n a.w.wire a.c 0 (a.p.grades - 2) in (
       omega arith,
       omega (arith, zero-mul (sum_size a.p)),
-      goes_as (ap (all_levels a.p a.n a.w.wire a.c 0) e) (goes_start c.before.requires.part.room),
+      goes_as a.w a.table.now whole a.w a.table.now _ _
+          (ap (all_levels a.p a.n a.w.wire a.c 0) e)
+          (goes_start a.w a.table.now whole ((a.p.grades - 2) * sum_size a.p) c.before.requires.part.room),
     )
 
 add_if1 : tie.Need-overflow-add-if1 invariant_loop decreases_loop
@@ -59,16 +65,21 @@ sum_levels_requires c κs =
         planned = f;
         candidate = q.part.candidate;
         inputs = q.part.inputs;
-        room = goes_room l.invariant.2 (omega (
-          arith,
-          (all_levels_block a.p f a.n m a.c l.g left q.part.inputs
-              q.part.candidate (before (l.g + left) (omega arith))).long,
-          one_less left (sum_size a.p) (omega arith),
-        )) (omega (
-          arith,
-          (all_levels_block a.p f a.n m a.c 0 (a.p.grades - 2) q.part.inputs
-              q.part.candidate (before (0 + (a.p.grades - 2)) (omega arith))).long,
-        )) q.part.room;
+        room = goes_room a.w a.table.now (all_levels a.p a.n m a.c 0 (a.p.grades - 2)) l.next
+            l.table (all_levels a.p a.n m a.c l.g left) _ ((a.p.grades - 2) * sum_size a.p)
+            l.invariant.2
+            (omega (
+              arith,
+              (all_levels_block a.p f a.n m a.c l.g left q.part.inputs
+                  q.part.candidate (before (l.g + left) (omega arith))).long,
+              one_less left (sum_size a.p) (omega arith),
+            ))
+            (omega (
+              arith,
+              (all_levels_block a.p f a.n m a.c 0 (a.p.grades - 2) q.part.inputs
+                  q.part.candidate (before (0 + (a.p.grades - 2)) (omega arith))).long,
+            ))
+            q.part.room;
       };
       grade = omega arith;
       row = omega (arith, l.invariant.1, before (suc l.g) (omega arith) l.g (omega arith));
@@ -79,6 +90,9 @@ add_g : tie.Need-overflow-add-g invariant_loop decreases_loop
 add_g c =
     let l = (loop_reached_from_slice_known2 c).loop in
     omega (arith, l.inv.0, (start_from_sum_levels c.before.before).pre.part.planned.d_most)
+
+loop_less : tie.Need-loop-smaller invariant_loop decreases_loop
+loop_less c = omega (arith, c.before.before.before.before.if1.true)
 
 loop_again : tie.Need-loop-preserved invariant_loop decreases_loop
 loop_again c =
@@ -100,17 +114,22 @@ loop_again c =
         ap (λ (k : ℕ). k * sum_size p) (add-one l.g),
         suc-mul l.g (sum_size p),
       ),
-      goes_on (goes_as (levels_turn p a.n a.c m l.g l.next.wire t l.invariant.1) l.invariant.2) h.ensures,
+      goes_on a.w a.table.now whole l.next l.table _ _ h.new.1.0 h.result
+          (goes_as a.w a.table.now whole l.next l.table _ _
+          (levels_turn p a.n a.c m l.g l.next.wire t l.invariant.1) l.invariant.2)
+          h.ensures,
     )
+
+same_length : tie.Need-same-length invariant_loop decreases_loop
+same_length c = c.before.before.loop.invariant.2.long
 
 returns : tie.Need-returns invariant_loop decreases_loop
 returns c =
     let l = c.before.before.loop in
     let a = c.before.before.before.before.args in
     let m = a.w.wire in
-    goes_end (levels_end a.p a.n a.c m l.g (a.p.grades - 2) (omega (arith, c.if1.false))) l.invariant.2
+    goes_end a.w a.table.now (all_levels a.p a.n m a.c 0 (a.p.grades - 2)) l.next l.table _
+    (levels_end a.p a.n a.c m l.g (a.p.grades - 2) (omega (arith, c.if1.false))) l.invariant.2
 
 pub all_levels_spec : {M : Type 1} → statement M
-all_levels_spec = tie.close (tie.spec invariant_loop decreases_loop loop_holds add_if1 sum_levels_requires add_g
-    (λ c. omega (arith, c.before.before.before.before.if1.true)) loop_again
-    (λ c. c.before.before.loop.invariant.2.long) returns)
+all_levels_spec = tie.close (tie.spec invariant_loop decreases_loop loop_holds add_if1 sum_levels_requires add_g loop_less loop_again same_length returns)

@@ -1,6 +1,7 @@
 -- `graded_sums::sums::bits_at` meets its contract: within the limits nothing wraps.
 -- Assumes nothing.
-use Rattle.basics.proofs.Common.{refl, arith}
+use mathlib.Core.Path.{refl}
+use native.Mathlib.Omega.{arith}
 use Rattle.graded_sums.proofs.Writers.{bits_most}
 use Rattle.graded_sums.proofs.sums.bits_at.Statement.{statement}
 use Rattle.graded_sums.proofs.sums.bits_at.Tie as tie
@@ -13,5 +14,8 @@ add_result : tie.Need-overflow-add-result
 add_result c = let a = c.before.args in let q = c.before.requires in
     omega (arith, bits_most a.p q.planned a.c a.g q.candidate q.grade)
 
+returns : tie.Need-returns
+returns c = refl
+
 pub bits_at_spec : {M : Type 1} → statement M
-bits_at_spec = tie.close (tie.spec mul_result add_result (λ c. refl))
+bits_at_spec = tie.close (tie.spec mul_result add_result returns)

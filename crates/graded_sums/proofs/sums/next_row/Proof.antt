@@ -1,6 +1,10 @@
 -- `graded_sums::sums::next_row` meets its contract: it is `xor_rows` for the row before and the next grade's bits.
 -- Assumes nothing.
-use Rattle.basics.proofs.Common.{◌≡◌, ◌∙◌, sym, ap, subst₂, ℕ, suc, add-one, arith, needs}
+use mathlib.Core.Path.{◌≡◌, ◌∙◌, sym, ap, subst₂}
+use Prim.Native.Nat.{ℕ, suc}
+use native.Mathlib.Numerals.{add-one}
+use native.Mathlib.Omega.{arith}
+use borrow.Author.Rules.{rules}
 use Rattle.gate_words.specs.Word.{Below}
 use Rattle.gate_words.specs.Rows.{xor_rows}
 use Rattle.gate_words.proofs.Writing.{wrote_as}
@@ -19,6 +23,9 @@ row_at_requires c κs =
       small = omega (arith, q.row, q.part.room.small);
     }
 
+row_apart_requires : tie.Need-row-apart-requires
+row_apart_requires c κs = c.before.before.requires.part.planned
+
 add_bits_at : tie.Need-overflow-add-bits-at
 add_bits_at c = let q = c.before.before.before.requires in omega (arith, q.grade, q.part.planned.d_most)
 
@@ -26,6 +33,9 @@ bits_at_requires : tie.Need-bits-at-requires
 bits_at_requires c κs =
     let q = c.before.before.before.requires in
     record { planned = q.part.planned; candidate = q.part.candidate; grade = omega (arith, q.grade) }
+
+apart_requires : tie.Need-apart-requires
+apart_requires c κs = c.before.before.before.before.requires.part.planned
 
 -- The stages of the function, seen from later ones.
 abbrev start_from_apart : tie.After-apart → tie.Start
@@ -54,6 +64,9 @@ xor_rows_requires c κs =
       second_near = omega (arith, t.apart.ensures, apart_most a.p f);
     }
 
+same_length : tie.Need-same-length
+same_length c = search rules
+
 same_rows : {x x' dx dx' y y' dy dy' : ℕ} (m : ℕ) → x ≡ x' → dx ≡ dx' → y ≡ y' → dy ≡ dy' → xor_rows x dx y dy m ≡ xor_rows x' dx' y' dy' m
 same_rows {x} {x'} {dx} {dx'} {y} {y'} {dy} {dy'} m p q r s =
     ap (λ (i : ℕ). xor_rows i dx y dy m) p ∙ ap (λ (i : ℕ). xor_rows x' i y dy m) q
@@ -64,11 +77,11 @@ returns c =
     let h = c.before.before.xor-rows in
     let t = c.before.before.before.before in
     let a = (start_from_apart t).args in
-    wrote_as
+    wrote_as a.w a.table.now _ _ h.new.1.0 h.result
     (same_rows a.p.ballots t.before.before.before.row_at.ensures t.before.before.Row-Apart.ensures
-    (bits_are t) t.apart.ensures) h.ensures
+    (bits_are t) t.apart.ensures)
+    h.ensures
 
 pub next_row_spec : {M : Type 1} → statement M
-next_row_spec = tie.close (tie.spec row_at_requires (λ c κs. c.before.before.requires.part.planned) add_bits_at
-    bits_at_requires (λ c κs. c.before.before.before.before.requires.part.planned) xor_rows_requires
-    (λ c. search needs) returns)
+next_row_spec = tie.close (tie.spec row_at_requires row_apart_requires add_bits_at bits_at_requires apart_requires
+    xor_rows_requires same_length returns)

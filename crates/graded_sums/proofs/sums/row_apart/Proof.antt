@@ -5,6 +5,9 @@ use Rattle.graded_sums.proofs.Writers.{first_apart, later_apart}
 use Rattle.graded_sums.proofs.sums.row_apart.Statement.{statement}
 use Rattle.graded_sums.proofs.sums.row_apart.Tie as tie
 
+apart_requires : tie.Need-apart-requires
+apart_requires c κs = c.before.requires
+
 returns : tie.Need-returns
 returns c = let a = c.before.before.args in c.apart.ensures ∙ sym (first_apart a.p a.g c.before.if1.true)
 
@@ -12,4 +15,4 @@ returns_2 : tie.Need-returns-2
 returns_2 c = let a = c.before.args in sym (later_apart a.p a.g c.if1.false)
 
 pub row_apart_spec : {M : Type 1} → statement M
-row_apart_spec = tie.close (tie.spec (λ c κs. c.before.requires) returns returns_2)
+row_apart_spec = tie.close (tie.spec apart_requires returns returns_2)

@@ -1,6 +1,10 @@
 -- `graded_sums::sums::rows` meets its contract: after each row, writing the rows left completes the block.
 -- Assumes nothing.
-use Rattle.basics.proofs.Common.{◌≡◌, ap, ℕ, suc, ◌+◌, ◌-◌, ◌*◌, ◌≤◌, ◌<◌, zero-mul, suc-mul, add-one, arith}
+use mathlib.Core.Path.{◌≡◌, ap}
+use Prim.Native.Nat.{ℕ, suc, ◌+◌, ◌-◌, ◌*◌, ◌≤◌, ◌<◌}
+use native.Mathlib.Nat.{zero-mul, suc-mul}
+use native.Mathlib.Numerals.{add-one}
+use native.Mathlib.Omega.{arith}
 use Rattle.basics.proofs.Arithmetic.{one_less}
 use Rattle.gate_words.proofs.Going.{Goes, goes_start, goes_as, goes_on, goes_room, goes_end}
 use Rattle.gate_words.proofs.RowLaws.{length_rows}
@@ -26,7 +30,8 @@ loop_holds c =
     let whole = rows a.p a.w.wire a.c 0 (a.p.grades - 3) in (
       omega arith,
       omega (arith, zero-mul a.p.ballots),
-      goes_as (ap (rows a.p a.w.wire a.c 0) e) (goes_start c.before.requires.room),
+      goes_as a.w a.table.now whole a.w a.table.now _ _ (ap (rows a.p a.w.wire a.c 0) e)
+          (goes_start a.w a.table.now whole ((a.p.grades - 3) * a.p.ballots) c.before.requires.room),
     )
 
 add_if1 : tie.Need-overflow-add-if1 invariant_loop decreases_loop
@@ -57,15 +62,20 @@ next_row_requires c κs =
         planned = q.planned;
         candidate = q.candidate;
         inputs = q.inputs;
-        room = goes_room l.invariant.2 (omega (
-          arith,
-          (next_rows_block a.p q.planned n a.c l.g left q.inputs q.candidate (omega arith)).long,
-          one_less left a.p.ballots (omega arith),
-        )) (omega (
-          arith,
-          (next_rows_block a.p q.planned n a.c 0 (a.p.grades - 3) q.inputs
-              q.candidate (omega (arith, q.planned.d_least))).long,
-        )) q.room;
+        room = goes_room a.w a.table.now (rows a.p n a.c 0 (a.p.grades - 3)) l.next l.table
+            (rows a.p n a.c l.g left) _ ((a.p.grades - 3) * a.p.ballots) l.invariant.2
+            (omega (
+              arith,
+              (next_rows_block a.p q.planned n a.c l.g left q.inputs q.candidate
+                  (omega arith)).long,
+              one_less left a.p.ballots (omega arith),
+            ))
+            (omega (
+              arith,
+              (next_rows_block a.p q.planned n a.c 0 (a.p.grades - 3) q.inputs
+                  q.candidate (omega (arith, q.planned.d_least))).long,
+            ))
+            q.room;
       };
       grade = omega arith;
       row = omega (arith, l.invariant.1);
@@ -76,6 +86,9 @@ add_g : tie.Need-overflow-add-g invariant_loop decreases_loop
 add_g c =
     let l = (loop_reached_from_slice_known2 c).loop in
     omega (arith, l.inv.0, (start_from_next_row c.before.before).pre.planned.d_most)
+
+loop_less : tie.Need-loop-smaller invariant_loop decreases_loop
+loop_less c = omega (arith, c.before.before.before.before.if1.true)
 
 loop_again : tie.Need-loop-preserved invariant_loop decreases_loop
 loop_again c =
@@ -96,17 +109,21 @@ loop_again c =
         ap (λ (k : ℕ). k * a.p.ballots) (add-one l.g),
         suc-mul l.g a.p.ballots,
       ),
-      goes_on (goes_as (rows_turn a.p n a.c l.g t) l.invariant.2) h.ensures,
+      goes_on a.w a.table.now whole l.next l.table _ _ h.new.1.0 h.result
+          (goes_as a.w a.table.now whole l.next l.table _ _ (rows_turn a.p n a.c l.g t) l.invariant.2)
+          h.ensures,
     )
+
+same_length : tie.Need-same-length invariant_loop decreases_loop
+same_length c = c.before.before.loop.invariant.2.long
 
 returns : tie.Need-returns invariant_loop decreases_loop
 returns c =
     let l = c.before.before.loop in
     let a = c.before.before.before.before.args in
     let n = a.w.wire in
-    goes_end (rows_end a.p n a.c l.g (a.p.grades - 3) (omega (arith, c.if1.false))) l.invariant.2
+    goes_end a.w a.table.now (rows a.p n a.c 0 (a.p.grades - 3)) l.next l.table _
+    (rows_end a.p n a.c l.g (a.p.grades - 3) (omega (arith, c.if1.false))) l.invariant.2
 
 pub rows_spec : {M : Type 1} → statement M
-rows_spec = tie.close (tie.spec invariant_loop decreases_loop loop_holds add_if1 next_row_requires add_g
-    (λ c. omega (arith, c.before.before.before.before.if1.true)) loop_again
-    (λ c. c.before.before.loop.invariant.2.long) returns)
+rows_spec = tie.close (tie.spec invariant_loop decreases_loop loop_holds add_if1 next_row_requires add_g loop_less loop_again same_length returns)

@@ -1,6 +1,9 @@
 -- `graded_sums::sums::sum_levels` meets its contract: it is `count_levels` for the bits that the grade's sum counts.
 -- Assumes nothing.
-use Rattle.basics.proofs.Common.{sym, subst₂, ℕ, arith, needs}
+use mathlib.Core.Path.{sym, subst₂}
+use Prim.Native.Nat.{ℕ}
+use native.Mathlib.Omega.{arith}
+use borrow.Author.Rules.{rules}
 use Rattle.gate_words.specs.Word.{Below}
 use Rattle.gate_words.specs.Writing.{Wrote}
 use Rattle.gate_words.specs.Counter.{count_levels}
@@ -18,6 +21,9 @@ row_at_requires c κs =
       small = omega (arith, q.row, q.part.room.small);
     }
 
+row_apart_requires : tie.Need-row-apart-requires
+row_apart_requires c κs = c.before.before.requires.part.planned
+
 count_levels_requires : tie.Need-count-levels-requires
 count_levels_requires c κs =
     let s = c.before.before.before.before in
@@ -34,6 +40,9 @@ count_levels_requires c κs =
       countable = first_countable a.p f;
     }
 
+same_length : tie.Need-same-length
+same_length c = search rules
+
 returns : tie.Need-returns
 returns c =
     let h = c.before.before.count-levels in
@@ -44,5 +53,4 @@ returns c =
     t.before.row_at.ensures t.Row-Apart.ensures h.ensures
 
 pub sum_levels_spec : {M : Type 1} → statement M
-sum_levels_spec = tie.close (tie.spec row_at_requires (λ c κs. c.before.before.requires.part.planned)
-    count_levels_requires (λ c. search needs) returns)
+sum_levels_spec = tie.close (tie.spec row_at_requires row_apart_requires count_levels_requires same_length returns)

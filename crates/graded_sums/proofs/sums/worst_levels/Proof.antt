@@ -1,6 +1,9 @@
 -- `graded_sums::sums::worst_levels` meets its contract: it is `count_levels` for the worst grade's bits.
 -- Assumes nothing.
-use Rattle.basics.proofs.Common.{sym, subst₂, ℕ, ◌-◌, arith, needs}
+use mathlib.Core.Path.{sym, subst₂}
+use Prim.Native.Nat.{ℕ, ◌-◌}
+use native.Mathlib.Omega.{arith}
+use borrow.Author.Rules.{rules}
 use Rattle.gate_words.specs.Word.{Below}
 use Rattle.gate_words.specs.Writing.{Wrote}
 use Rattle.gate_words.specs.Counter.{count_levels}
@@ -10,10 +13,16 @@ use Rattle.graded_sums.proofs.Writers.{apart_most}
 use Rattle.graded_sums.proofs.sums.worst_levels.Statement.{statement}
 use Rattle.graded_sums.proofs.sums.worst_levels.Tie as tie
 
+sub_bits_at : tie.Need-overflow-sub-bits-at
+sub_bits_at c = omega (arith, c.before.before.requires.planned.d_least)
+
 bits_at_requires : tie.Need-bits-at-requires
 bits_at_requires c κs =
     let q = c.before.before.requires in
     record { planned = q.planned; candidate = q.candidate; grade = omega (arith, q.planned.d_least) }
+
+apart_requires : tie.Need-apart-requires
+apart_requires c κs = c.before.before.before.requires.planned
 
 -- The stages of the function, seen from later ones.
 abbrev start_from_count_levels_arg : tie.After-count-levels-arg → tie.Start
@@ -35,6 +44,9 @@ count_levels_requires c κs =
       countable = worst_countable a.p f;
     }
 
+same_length : tie.Need-same-length
+same_length c = search rules
+
 returns : tie.Need-returns
 unfolding worst_levels
 returns c =
@@ -46,5 +58,4 @@ returns c =
     t.before.bits_at.ensures t.apart.ensures h.ensures
 
 pub worst_levels_spec : {M : Type 1} → statement M
-worst_levels_spec = tie.close (tie.spec (λ c. omega (arith, c.before.before.requires.planned.d_least)) bits_at_requires
-    (λ c κs. c.before.before.before.requires.planned) count_levels_requires (λ c. search needs) returns)
+worst_levels_spec = tie.close (tie.spec sub_bits_at bits_at_requires apart_requires count_levels_requires same_length returns)

@@ -1,6 +1,9 @@
 -- `graded_writer::list::all_levels` meets its contract: three levels of merges after the candidates.
 -- Assumes nothing.
-use Rattle.basics.proofs.Common.{ap, ℕ, ◌+◌, ◌-◌, ◌/◌, arith, needs}
+use mathlib.Core.Path.{ap}
+use Prim.Native.Nat.{ℕ, ◌+◌, ◌-◌, ◌/◌}
+use native.Mathlib.Omega.{arith}
+use borrow.Author.Rules.{rules}
 use Rattle.gate_words.proofs.Writing.{wrote_as}
 use Rattle.graded_circuit.specs.declared.plan.Plan.{Plan}
 use Rattle.graded_circuit.specs.Merge.{merge_span}
@@ -21,7 +24,11 @@ abbrev last_span : Plan → ℕ
 last_span p = merge_span p (p.candidates / 2) (p.candidates - p.candidates / 2)
 
 all : (c : tie.Start) → Stands c.args.all (levels_at c.args.p) (all_levels_span c.args.p)
-all c = stands c.requires.place (omega arith) c.requires.room
+all c = stands c.args.all (levels_at c.args.p) (all_levels_span c.args.p) (all_levels_span c.args.p)
+    c.requires.place (omega arith) c.requires.room
+
+sub_second : tie.Need-overflow-sub-second
+sub_second c = omega arith
 
 best_of_four_requires : tie.Need-best-of-four-requires
 best_of_four_requires c κs =
@@ -29,7 +36,7 @@ best_of_four_requires c κs =
     let q = s.requires in
     record {
       plan = s.requires.plan;
-      room = room_of (all s) (omega arith);
+      room = room_of s.args.all _ _ _ (all s) (omega arith);
       span_is = q.span_is;
       levels_below = omega (arith, q.place);
       some = omega (arith, q.several);
@@ -62,9 +69,10 @@ low c =
     let s = (start_from_best_of_four c) in
     let a = s.args in
     let q = s.pre in
-    stands_after c.best-of-four.ensures
+    stands_after a.all a.table.now _ c.best-of-four.new.1.0 c.best-of-four.result _ _ _ c.best-of-four.ensures
     (levels_block a.p s.pre.plan 2 a.all.wire 0 (a.p.candidates / 2) (omega (arith, q.place))
-    (omega (arith, q.several)) (omega (arith, s.pre.plan.k_most)) (omega arith)).long (all s)
+    (omega (arith, q.several)) (omega (arith, s.pre.plan.k_most)) (omega arith)).long
+    (all s)
 
 best_of_four_requires_2 : tie.Need-best-of-four-requires-2
 best_of_four_requires_2 c κs =
@@ -73,7 +81,7 @@ best_of_four_requires_2 c κs =
     let l = low c.before.before.before in
     record {
       plan = s.pre.plan;
-      room = room_of l (omega arith);
+      room = room_of c.before.before.before.best-of-four.result _ _ _ l (omega arith);
       span_is = q.span_is;
       levels_below = omega (arith, l.place);
       some = omega (arith, q.several);
@@ -89,7 +97,7 @@ high c =
     let q = s.pre in
     let f = c.before.before.before.before.best-of-four in
     let l = low c.before.before.before.before in
-    stands_after c.best-of-four2.ensures
+    stands_after f.result f.new.1.0 _ c.best-of-four2.new.1.0 c.best-of-four2.result _ _ _ c.best-of-four2.ensures
     (levels_block a.p s.pre.plan 2 f.result.wire (a.p.candidates / 2)
     (a.p.candidates - a.p.candidates / 2) (omega (arith, l.place)) (omega (arith, q.several))
     (omega (arith, s.pre.plan.k_most)) (omega arith)).long
@@ -116,6 +124,9 @@ halves_requires c κs =
       second_below = λ z. omega (arith, e, e', span_least p 1 (p.candidates - p.candidates / 2) z);
     }
 
+same_length : tie.Need-same-length
+same_length c = search rules
+
 returns : tie.Need-returns
 returns c =
     let s = (start_from_halves c.before.before) in
@@ -126,11 +137,13 @@ returns c =
     let g = (best_of_four2_from_slice_known4 c).best-of-four2 in
     let l = low (best_of_four_from_halves c.before.before) in
     let h = high (best_of_four2_from_slice_known4 c) in
-    wrote_then (wrote_then (wrote_as (ap (λ (i : ℕ). levels p 2 i 0 (k / 2)) s.pre.place) f.ensures)
-    g.ensures (ap (λ (i : ℕ). levels p 2 i (k / 2) (k - k / 2)) l.place)) c.before.before.halves.ensures
+    wrote_then a.all a.table.now _ g.last.1.0 g.result _ _ _ _
+    (wrote_then a.all a.table.now _ f.last.1.0 f.result _ _ _ _
+    (wrote_as a.all a.table.now _ _ _ _ (ap (λ (i : ℕ). levels p 2 i 0 (k / 2)) s.pre.place) f.ensures)
+    g.ensures (ap (λ (i : ℕ). levels p 2 i (k / 2) (k - k / 2)) l.place))
+    c.before.before.halves.ensures
     (merge_same p 1 (levels_at p) 0 k g.result.wire f.result.wire g.result.wire h.place l.place
     h.place)
 
 pub all_levels_spec : {M : Type 1} → statement M
-all_levels_spec = tie.close (tie.spec (λ c. omega arith) best_of_four_requires best_of_four_requires_2 halves_requires
-    (λ c. search needs) returns)
+all_levels_spec = tie.close (tie.spec sub_second best_of_four_requires best_of_four_requires_2 halves_requires same_length returns)

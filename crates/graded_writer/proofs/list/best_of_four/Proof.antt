@@ -1,6 +1,8 @@
 -- `graded_writer::list::best_of_four` meets its contract: a single candidate is compared with nobody.
 -- Assumes nothing.
-use Rattle.basics.proofs.Common.{sym, needs}
+use mathlib.Core.Path.{sym}
+use mathlib.Core.List.{[]}
+use borrow.Author.Rules.{rules}
 use Rattle.gate_words.proofs.Writing.{wrote_nothing, wrote_as}
 use Rattle.graded_circuit.proofs.LevelsLaws.{levels_one}
 use Rattle.graded_writer.proofs.list.best_of_four.Statement.{statement}
@@ -9,7 +11,17 @@ use Rattle.graded_writer.proofs.list.best_of_four.Tie as tie
 returns : tie.Need-returns
 returns c =
     let a = c.before.before.args in
-    wrote_as (sym (levels_one a.p 1 a.count a.w.wire a.c c.if1.true)) (wrote_nothing)
+    wrote_as a.w a.table.now [] _ a.table.now a.w
+    (sym (levels_one a.p 1 a.count a.w.wire a.c c.if1.true)) (wrote_nothing a.w a.table.now)
+
+two_to_four_requires : tie.Need-two-to-four-requires
+two_to_four_requires c κs = search rules
+
+same_length : tie.Need-same-length
+same_length c = search rules
+
+returns_2 : tie.Need-returns-2
+returns_2 c = search rules
 
 pub best_of_four_spec : {M : Type 1} → statement M
-best_of_four_spec = tie.close (tie.spec returns (λ c κs. search needs) (λ c. search needs) (λ c. search needs))
+best_of_four_spec = tie.close (tie.spec returns two_to_four_requires same_length returns_2)

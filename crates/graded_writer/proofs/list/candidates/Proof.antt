@@ -1,6 +1,10 @@
 -- `graded_writer::list::candidates` meets its contract: after each candidate, writing those left completes the block.
 -- Assumes nothing.
-use Rattle.basics.proofs.Common.{◌≡◌, ◌∙◌, refl, sym, ap, ℕ, suc, ◌+◌, ◌-◌, ◌*◌, ◌≤◌, ◌<◌, suc-mul, arith, length}
+use mathlib.Core.Path.{◌≡◌, ◌∙◌, refl, sym, ap}
+use Prim.Native.Nat.{ℕ, suc, ◌+◌, ◌-◌, ◌*◌, ◌≤◌, ◌<◌}
+use native.Mathlib.Nat.{suc-mul}
+use native.Mathlib.Omega.{arith}
+use lib.ListN.{length}
 use Rattle.gate_words.proofs.Going.{Goes, goes_start, goes_as, goes_on, goes_room, goes_end}
 use Rattle.graded_circuit.specs.Key.{candidate, candidate_span}
 use Rattle.graded_circuit.specs.OwnList.{candidates_from}
@@ -26,7 +30,8 @@ loop_holds c =
       refl,
       c.before.requires.inputs_below,
       omega arith,
-      goes_as (ap (candidates_from a.p a.w.wire 0) e) (goes_start c.before.requires.room),
+      goes_as a.w a.table.now whole a.w a.table.now _ _ (ap (candidates_from a.p a.w.wire 0) e)
+          (goes_start a.w a.table.now whole (a.p.candidates * candidate_span a.p) c.before.requires.room),
     )
 
 one_more : (c : tie.In-loop invariant_loop decreases_loop)
@@ -60,11 +65,14 @@ candidate_requires c κs =
       planned = s.requires.plan;
       candidate = q.0;
       inputs = l.invariant.1;
-      room = goes_room l.invariant.3 (omega (arith, q.1, q.2)) (omega (
-        arith,
-        (candidates_block a.p s.requires.plan a.w.wire 0 a.p.candidates s.requires.inputs_below
-            (omega arith)).long,
-      )) s.requires.room;
+      room = goes_room a.w a.table.now (candidates_from a.p a.w.wire 0 a.p.candidates) l.next
+          l.table (candidates_from a.p l.next.wire l.c (a.p.candidates - l.c)) _
+          (a.p.candidates * candidate_span a.p) l.invariant.3
+          (omega (arith, q.1, q.2)) (omega (
+            arith,
+            (candidates_block a.p s.requires.plan a.w.wire 0 a.p.candidates s.requires.inputs_below
+                (omega arith)).long,
+          )) s.requires.room;
     }
 
 -- The stages of the function, seen from later ones.
@@ -99,8 +107,11 @@ loop_again c =
       l.inv.0,
       omega (arith, l.inv.1, e),
       omega (arith, t),
-      goes_as (ap (λ (k : ℕ). candidates_from a.p k (l.c + 1) (a.p.candidates - (l.c + 1))) (sym e))
-          (goes_on (goes_as (candidates_step a.p l.next.wire l.c a.p.candidates t) l.inv.3)
+      goes_as a.w a.table.now whole h.result h.new.1.0 _ _
+          (ap (λ (k : ℕ). candidates_from a.p k (l.c + 1) (a.p.candidates - (l.c + 1))) (sym e))
+          (goes_on a.w a.table.now whole l.next l.table _ _ h.new.1.0 h.result
+          (goes_as a.w a.table.now whole l.next l.table _ _
+          (candidates_step a.p l.next.wire l.c a.p.candidates t) l.inv.3)
           h.ensures),
     )
 
@@ -112,7 +123,8 @@ returns : tie.Need-returns invariant_loop decreases_loop
 returns c =
     let a = c.before.before.before.args in
     let l = c.before.loop in
-    goes_end (candidates_none a.p l.next.wire l.c a.p.candidates
+    goes_end a.w a.table.now (candidates_from a.p a.w.wire 0 a.p.candidates) l.next l.table _
+    (candidates_none a.p l.next.wire l.c a.p.candidates
     (omega (arith, c.loop-test.false, l.invariant.0))) l.invariant.3
 
 pub candidates_spec : {M : Type 1} → statement M

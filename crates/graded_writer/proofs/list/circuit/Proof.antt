@@ -1,6 +1,10 @@
 -- `graded_writer::list::circuit` meets its contract: the candidates, then all levels.
 -- Assumes nothing.
-use Rattle.basics.proofs.Common.{◌≡◌, refl, ap, ℕ, ◌+◌, ◌-◌, ◌*◌, arith, length, needs}
+use mathlib.Core.Path.{◌≡◌, refl, ap}
+use Prim.Native.Nat.{ℕ, ◌+◌, ◌-◌, ◌*◌}
+use native.Mathlib.Omega.{arith}
+use lib.ListN.{length}
+use borrow.Author.Rules.{rules}
 use Rattle.gate_words.proofs.Writing.{wrote_as, room_less}
 use Rattle.graded_circuit.specs.Key.{candidate_span}
 use Rattle.graded_circuit.specs.OwnList.{candidates_from, levels_at, circuit}
@@ -18,7 +22,7 @@ candidates_requires c κs =
     let s = c.before.before in
     record {
       plan = s.requires.plan;
-      room = room_less (omega (arith, long s)) s.requires.room;
+      room = room_less s.args.w _ _ (omega (arith, long s)) s.requires.room;
       inputs_below = omega (arith, s.requires.place);
     }
 
@@ -28,8 +32,10 @@ all c =
     let s = c.before.before.before in
     let a = s.args in
     let e = s.requires.place in
-    stands_after c.candidates.ensures (candidates_block a.p s.requires.plan a.w.wire 0 a.p.candidates
-    (omega (arith, e)) (omega arith)).long (stands e (omega (arith, long s)) s.requires.room)
+    stands_after a.w a.table.now _ c.candidates.new.1.0 c.candidates.result _ _ _
+    c.candidates.ensures (candidates_block a.p s.requires.plan a.w.wire 0 a.p.candidates
+    (omega (arith, e)) (omega arith)).long
+    (stands a.w a.p.inputs _ _ e (omega (arith, long s)) s.requires.room)
 
 sub_span : tie.Need-overflow-sub-span
 sub_span c = omega (arith, (all c.before.before.before.before).place)
@@ -50,6 +56,9 @@ start_from_all_levels c = start_from_struct_known3 c.before.before
 abbrev candidates_from_all_levels : tie.After-all-levels → tie.After-candidates
 candidates_from_all_levels c = c.before.before.before.before.before.before.before
 
+div_span : tie.Need-nonzero-div-span
+div_span c = omega (arith, (start_from_struct_known3 c).pre.several)
+
 all_levels_requires : tie.Need-all-levels-requires
 all_levels_requires c κs =
     let s = (start_from_all_levels_arg c) in
@@ -64,6 +73,9 @@ all_levels_requires c κs =
       several = s.pre.several;
     }
 
+same_length : tie.Need-same-length
+same_length c = search rules
+
 returns : tie.Need-returns
 returns c =
     let s = (start_from_all_levels c.before.before) in
@@ -71,9 +83,10 @@ returns c =
     let p = a.p in
     let f = (candidates_from_all_levels c.before.before).candidates in
     let g = c.before.before.all-levels in
-    wrote_as (circuit_parts p) (wrote_then
-    (wrote_as (ap (λ (i : ℕ). candidates_from p i 0 p.candidates) s.pre.place) f.ensures) g.ensures refl)
+    wrote_as a.w a.table.now _ (circuit p) g.new.1.0 g.result (circuit_parts p)
+    (wrote_then a.w a.table.now _ f.last.1.0 f.result _ _ _ _
+    (wrote_as a.w a.table.now _ _ _ _ (ap (λ (i : ℕ). candidates_from p i 0 p.candidates) s.pre.place) f.ensures)
+    g.ensures refl)
 
 pub circuit_spec : {M : Type 1} → statement M
-circuit_spec = tie.close (tie.spec candidates_requires sub_span
-    (λ c. omega (arith, (start_from_struct_known3 c).pre.several)) all_levels_requires (λ c. search needs) returns)
+circuit_spec = tie.close (tie.spec candidates_requires sub_span div_span all_levels_requires same_length returns)

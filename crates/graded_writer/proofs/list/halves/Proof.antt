@@ -1,6 +1,11 @@
 -- `graded_writer::list::halves` meets its contract: a merge at the places of both groups.
 -- Assumes nothing.
-use Rattle.basics.proofs.Common.{◌∙◌, ap, cond, ℕ, ◌+◌, ◌-◌, arith, leb, needs}
+use mathlib.Core.Path.{◌∙◌, ap}
+use mathlib.Core.Bool.{cond}
+use Prim.Native.Nat.{ℕ, ◌+◌, ◌-◌}
+use native.Mathlib.Omega.{arith}
+use lib.Dec.{leb}
+use borrow.Author.Rules.{rules}
 use Rattle.gate_words.proofs.Writing.{wrote_as}
 use Rattle.graded_circuit.specs.Key.{key_span}
 use Rattle.graded_circuit.specs.Merge.{merge}
@@ -105,7 +110,8 @@ returns c =
     let x = cond (leb a.first 1) (key_at p a.c) (a.middle - key_span p) in
     let y = cond (leb a.second 1) (key_at p (a.c + a.first)) (n - key_span p) in
     let u = cond (leb a.first 1) 0 (a.middle - key_span p - a.first) in
-    wrote_as (ap (λ (k : ℕ). merge p n k (best_key2_from_slice_known2 c).best-key2.result
+    wrote_as a.w a.table.now _ _ _ _
+    (ap (λ (k : ℕ). merge p n k (best_key2_from_slice_known2 c).best-key2.result
     (winner_flags_from_slice_known2 c).winner-flags.result
     c.before.before.before.before.winner-flags2.result a.first a.second)
     (best_key_from_merge c.before.before).best_key.ensures
@@ -117,6 +123,9 @@ returns c =
     ∙ ap (λ (k : ℕ). merge p n x y u k a.first a.second) c.before.before.before.before.winner-flags2.ensures)
     c.before.before.merge.ensures
 
+same_length : tie.Need-same-length
+same_length c = search rules
+
 pub halves_spec : {M : Type 1} → statement M
 halves_spec = tie.close (tie.spec best_key_requires add_best_key best_key_requires_2 winner_flags_requires
-    winner_flags_requires_2 merge_requires (λ c. search needs) returns)
+    winner_flags_requires_2 merge_requires same_length returns)

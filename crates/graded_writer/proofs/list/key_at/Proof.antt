@@ -1,6 +1,7 @@
 -- `graded_writer::list::key_at` meets its contract: a key ends where its candidate's circuit does.
 -- Assumes nothing.
-use Rattle.basics.proofs.Common.{◌-◌, arith}
+use Prim.Native.Nat.{◌-◌}
+use native.Mathlib.Omega.{arith}
 use Rattle.graded_circuit.proofs.LevelsLaws.{key_before}
 use Rattle.graded_writer.proofs.ListWriters.{key_from}
 use Rattle.graded_writer.proofs.list.key_at.Statement.{statement}
@@ -23,8 +24,10 @@ add_result_2 : tie.Need-overflow-add-result-2
 add_result_2 c =
     omega (
       arith,
-      key_from c.before.args.p c.before.args.c c.before.args.span c.before.requires.span_is,
-      key_before c.before.args.p c.before.requires.plan c.before.args.c c.before.requires.inside,
+      key_from c.before.args.p c.before.args.c c.before.args.span
+          c.before.requires.span_is,
+      key_before c.before.args.p c.before.requires.plan c.before.args.c
+          c.before.requires.inside,
       c.before.requires.small,
     )
 

@@ -1,6 +1,9 @@
 -- `graded_writer::list::pair` meets its contract: nothing for one candidate; for two, their merge and the better key.
 -- Assumes nothing.
-use Rattle.basics.proofs.Common.{◌≡◌, ◌∙◌, refl, sym, ap, ℕ, ◌+◌, ◌-◌, ◌≤◌, arith}
+use mathlib.Core.Path.{◌≡◌, ◌∙◌, refl, sym, ap}
+use mathlib.Core.List.{[]}
+use Prim.Native.Nat.{ℕ, ◌+◌, ◌-◌, ◌≤◌}
+use native.Mathlib.Omega.{arith}
 use Rattle.gate_words.specs.Choice.{choose}
 use Rattle.gate_words.proofs.Writing.{wrote_nothing, wrote_as, wrote_long, room_less}
 use Rattle.graded_circuit.specs.Key.{key_span}
@@ -17,7 +20,8 @@ use Rattle.graded_writer.proofs.list.pair.Tie as tie
 returns : tie.Need-returns
 returns c =
     let a = c.before.before.args in
-    wrote_as (sym (levels_one a.p 0 a.count a.w.wire a.c c.if1.true)) (wrote_nothing)
+    wrote_as a.w a.table.now [] _ a.table.now a.w
+    (sym (levels_one a.p 0 a.count a.w.wire a.c c.if1.true)) (wrote_nothing a.w a.table.now)
 
 two : (c : tie.Else1) → c.before.before.args.count ≡ 2
 two c =
@@ -111,7 +115,8 @@ merge_requires c κs =
     let k = keys c.before.before.before in
     record {
       plan = (start_from_merge_arg c).pre.plan;
-      room = room_less (omega (arith, spans c.before.before.before)) (start_from_merge_arg c).pre.room;
+      room = room_less (start_from_merge_arg c).args.w _ _ (omega (arith, spans c.before.before.before))
+          (start_from_merge_arg c).pre.room;
       first_below = omega (arith, k.0, c.before.before.key-at.ensures);
       second_below = omega (arith, k.1, c.before.key-at2.ensures);
       first_some = omega arith;
@@ -125,12 +130,15 @@ met : (c : tie.After-merge) → Stands c.merge.result
     (key_span (start_from_merge c).args.p)
 met c =
     let k = keys c.before.before.before.before in
-    stands_after c.merge.ensures
+    stands_after (start_from_merge c).args.w (start_from_merge c).args.table.now _
+    c.merge.new.1.0 c.merge.result _ _ _ c.merge.ensures
     (merge_block (start_from_merge c).args.p (start_from_merge c).pre.plan
     (start_from_merge c).args.w.wire c.before.before.before.key-at.result
-    c.before.before.key-at2.result 0 0 1 1 (omega (arith, k.0, c.before.before.before.key-at.ensures))
+    c.before.before.key-at2.result 0 0 1 1
+    (omega (arith, k.0, c.before.before.before.key-at.ensures))
     (omega (arith, k.1, c.before.before.key-at2.ensures)) (λ z. absurd (omega arith))
-    (λ z. absurd (omega arith))).long (stands refl
+    (λ z. absurd (omega arith))).long
+    (stands (start_from_merge c).args.w (start_from_merge c).args.w.wire _ _ refl
     (omega (arith, spans c.before.before.before.before)) (start_from_merge c).pre.room)
 
 sub_better : tie.Need-overflow-sub-better
@@ -158,12 +166,16 @@ returns_2 c =
     let y = key_at p (a.c + 1) in
     let e : (merge_from_better c.before.before).merge.result.wire - 7 + 1 ≡ result_at p n + 1 =
     omega (arith, (met (merge_from_better c.before.before)).place) in
-    wrote_as (sym (ap (levels p 1 n a.c) (two (else1_from_better c.before.before)) ∙ pair_is p n a.c))
-    (wrote_then (wrote_as
+    wrote_as a.w a.table.now _ _ _ _
+    (sym (ap (levels p 1 n a.c) (two (else1_from_better c.before.before)) ∙ pair_is p n a.c))
+    (wrote_then a.w a.table.now _ (merge_from_better c.before.before).merge.last.1.0
+    (merge_from_better c.before.before).merge.result _ _ _ _
+    (wrote_as a.w a.table.now _ _ _ _
     (ap (λ (k : ℕ). merge p n k (key_at2_from_better c.before.before).key-at2.result 0 0 1 1)
     (key_at_from_better c.before.before).key-at.ensures
     ∙ ap (λ (k : ℕ). merge p n x k 0 0 1 1) (key_at2_from_better c.before.before).key-at2.ensures)
-    (merge_from_better c.before.before).merge.ensures) c.before.before.better.ensures
+    (merge_from_better c.before.before).merge.ensures)
+    c.before.before.better.ensures
     (ap (λ (k : ℕ). choose k (key_at_from_better c.before.before).key-at.result
     (key_at2_from_better c.before.before).key-at2.result (key_span p)) e
     ∙ ap (λ (k : ℕ). choose (result_at p n + 1) k (key_at2_from_better c.before.before).key-at2.result
@@ -173,7 +185,12 @@ returns_2 c =
 
 same_length : tie.Need-same-length
 same_length c =
-    wrote_long (returns_2 c)
+    wrote_long (start_from_better c.before.before).args.w
+    (start_from_better c.before.before).args.table.now
+    (levels (start_from_better c.before.before).args.p 1
+    (start_from_better c.before.before).args.w.wire (start_from_better c.before.before).args.c
+    (start_from_better c.before.before).args.count) c.before.before.better.new.1.0
+    c.before.before.better.result (returns_2 c)
 
 pub pair_spec : {M : Type 1} → statement M
 pair_spec = tie.close (tie.spec returns key_at_requires add_key_at key_at_requires_2 merge_requires sub_better

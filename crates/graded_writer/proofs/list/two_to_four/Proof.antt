@@ -1,6 +1,11 @@
 -- `graded_writer::list::two_to_four` meets its contract: both halves, their merge and the better key.
 -- Assumes nothing.
-use Rattle.basics.proofs.Common.{◌≡◌, ◌∙◌, refl, sym, ap, cond, ℕ, ◌+◌, ◌-◌, ◌/◌, arith, leb, length}
+use mathlib.Core.Path.{◌≡◌, ◌∙◌, refl, sym, ap}
+use mathlib.Core.Bool.{cond}
+use Prim.Native.Nat.{ℕ, ◌+◌, ◌-◌, ◌/◌}
+use native.Mathlib.Omega.{arith}
+use lib.Dec.{leb}
+use lib.ListN.{length}
 use Rattle.gate_words.specs.Choice.{choose}
 use Rattle.gate_words.proofs.Writing.{wrote_as, wrote_long, room_less}
 use Rattle.graded_circuit.specs.Key.{key_span}
@@ -31,7 +36,7 @@ pair_requires c κs =
     let t = c.before.before.requires.some in
     record {
       plan = c.before.before.requires.plan;
-      room = room_less (omega (arith, spans c.before)) c.before.before.requires.room;
+      room = room_less c.before.before.args.w _ _ (omega (arith, spans c.before)) c.before.before.requires.room;
       span_is = q.span_is;
       levels_below = q.levels_below;
       some = omega (arith, t);
@@ -39,7 +44,8 @@ pair_requires c κs =
       inside = omega (arith, q.inside);
     }
 
-low : (c : tie.After-pair) → Stands c.pair.result (c.before.before.before.args.w.wire
+low : (c : tie.After-pair) → Stands c.pair.result
+    (c.before.before.before.args.w.wire
     + levels_span c.before.before.before.args.p 1 (c.before.before.before.args.count / 2))
     (levels_span c.before.before.before.args.p 1
     (c.before.before.before.args.count - c.before.before.before.args.count / 2)
@@ -50,10 +56,10 @@ low c =
     let a = c.before.before.before.args in
     let q = c.before.before.before.requires in
     let t = c.before.before.before.requires.some in
-    stands_after c.pair.ensures
+    stands_after a.w a.table.now _ c.pair.new.1.0 c.pair.result _ _ _ c.pair.ensures
     (levels_block a.p c.before.before.before.requires.plan 1 a.w.wire a.c (a.count / 2)
     q.levels_below (omega (arith, t)) (omega (arith, q.few)) (omega (arith, q.inside))).long
-    (stands refl (omega (arith, spans c.before.before)) c.before.before.before.requires.room)
+    (stands a.w a.w.wire _ _ refl (omega (arith, spans c.before.before)) c.before.before.before.requires.room)
 
 -- The stages of the function, seen from later ones.
 abbrev start_from_pair_arg2 : tie.After-pair-arg2 → tie.Start
@@ -117,7 +123,7 @@ pair_requires_2 c κs =
     let t = (start_from_pair_arg2 c).pre.some in
     record {
       plan = (start_from_pair_arg2 c).pre.plan;
-      room = room_of (low c.before.before.before) (omega arith);
+      room = room_of c.before.before.before.pair.result _ _ _ (low c.before.before.before) (omega arith);
       span_is = q.span_is;
       levels_below = omega (arith, q.levels_below, (low c.before.before.before).place);
       some = omega (arith, t);
@@ -125,7 +131,8 @@ pair_requires_2 c κs =
       inside = omega (arith, q.inside);
     }
 
-high : (c : tie.After-pair2) → Stands c.pair2.result ((start_from_pair2 c).args.w.wire
+high : (c : tie.After-pair2) → Stands c.pair2.result
+    ((start_from_pair2 c).args.w.wire
     + levels_span (start_from_pair2 c).args.p 1 ((start_from_pair2 c).args.count / 2)
     + levels_span (start_from_pair2 c).args.p 1
     ((start_from_pair2 c).args.count - (start_from_pair2 c).args.count / 2))
@@ -136,7 +143,10 @@ high c =
     let a = (start_from_pair2 c).args in
     let q = (start_from_pair2 c).pre in
     let t = (start_from_pair2 c).pre.some in
-    stands_after c.pair2.ensures (levels_block a.p (start_from_pair2 c).pre.plan 1
+    stands_after c.before.before.before.before.pair.result
+    c.before.before.before.before.pair.new.1.0 _ c.pair2.new.1.0 c.pair2.result _ _ _
+    c.pair2.ensures
+    (levels_block a.p (start_from_pair2 c).pre.plan 1
     c.before.before.before.before.pair.result.wire (a.c + a.count / 2) (a.count - a.count / 2)
     (omega (arith, q.levels_below, (low c.before.before.before.before).place)) (omega (arith, t))
     (omega (arith, q.few)) (omega (arith, q.inside))).long (low c.before.before.before.before)
@@ -150,7 +160,7 @@ halves_requires c κs =
     let e' = (high c.before.before.before).place in
     record {
       plan = (start_from_pair2 c.before.before.before).pre.plan;
-      room = room_of (high c.before.before.before) (omega arith);
+      room = room_of c.before.before.before.pair2.result _ _ _ (high c.before.before.before) (omega arith);
       span_is = q.span_is;
       levels_below = omega (arith, q.levels_below, e);
       middle_below = omega (arith, e, e');
@@ -187,7 +197,8 @@ merge_wrote c =
     c.before.before.before.before.pair2.result.wire (high c.before.before.before.before).place
     (low (pair_from_halves c)).place (high c.before.before.before.before).place)
 
-met : (c : tie.After-halves) → Stands c.halves.result ((start_from_halves c).args.w.wire
+met : (c : tie.After-halves) → Stands c.halves.result
+    ((start_from_halves c).args.w.wire
     + levels_span (start_from_halves c).args.p 1 ((start_from_halves c).args.count / 2)
     + levels_span (start_from_halves c).args.p 1
     ((start_from_halves c).args.count - (start_from_halves c).args.count / 2)
@@ -197,7 +208,10 @@ met : (c : tie.After-halves) → Stands c.halves.result ((start_from_halves c).a
 met c =
     let a = (start_from_halves c).args in
     let q = (start_from_halves c).pre in
-    stands_after c.halves.ensures (sym (ap length (merge_wrote c))
+    stands_after c.before.before.before.before.pair2.result
+    c.before.before.before.before.pair2.new.1.0 _ c.halves.new.1.0 c.halves.result _ _ _
+    c.halves.ensures
+    (sym (ap length (merge_wrote c))
     ∙ (halves_merge_block a.p (start_from_halves c).pre.plan 1 a.w.wire a.c a.count q.levels_below
     (start_from_halves c).pre.some q.few q.inside).long) (high c.before.before.before.before)
 
@@ -287,8 +301,14 @@ returns c =
     let x = cond (leb (m / 2) 1) (key_at p a.c) ((pair_from_better c.before.before).pair.result.wire - key_span p) in
     let e : (halves_from_better c.before.before).halves.result.wire - m - 5 + 1
     ≡ result_at p (merge_at p 1 n m) + 1 = omega (arith, (met (halves_from_better c.before.before)).place) in
-    wrote_as (sym (levels_more p 1 m n a.c (start_from_better c.before.before).pre.some))
-    (wrote_then (wrote_then (wrote_then (pair_from_better c.before.before).pair.ensures
+    wrote_as a.w a.table.now _ _ _ _ (sym (levels_more p 1 m n a.c (start_from_better c.before.before).pre.some))
+    (wrote_then a.w a.table.now _ (halves_from_better c.before.before).halves.last.1.0
+    (halves_from_better c.before.before).halves.result _ _ _ _
+    (wrote_then a.w a.table.now _ (pair2_from_better c.before.before).pair2.last.1.0
+    (pair2_from_better c.before.before).pair2.result _ _ _ _
+    (wrote_then a.w a.table.now _ (pair_from_better c.before.before).pair.last.1.0
+    (pair_from_better c.before.before).pair.result _ _ _ _
+    (pair_from_better c.before.before).pair.ensures
     (pair2_from_better c.before.before).pair2.ensures
     (ap (λ (k : ℕ). levels p 1 k (a.c + m / 2) (m - m / 2)) (low (pair_from_better c.before.before)).place))
     (halves_from_better c.before.before).halves.ensures (sym (merge_wrote (halves_from_better c.before.before))))
@@ -305,7 +325,12 @@ returns c =
 
 same_length : tie.Need-same-length
 same_length c =
-    wrote_long (returns c)
+    wrote_long (start_from_better c.before.before).args.w
+    (start_from_better c.before.before).args.table.now
+    (levels (start_from_better c.before.before).args.p 2
+    (start_from_better c.before.before).args.w.wire (start_from_better c.before.before).args.c
+    (start_from_better c.before.before).args.count) c.before.before.better.new.1.0
+    c.before.before.better.result (returns c)
 
 pub two_to_four_spec : {M : Type 1} → statement M
 two_to_four_spec = tie.close (tie.spec sub_second pair_requires add_pair pair_requires_2 halves_requires

@@ -1,6 +1,8 @@
 -- `graded_writer::list::winner_flags` meets its contract, for one candidate and for more.
 -- Assumes nothing.
-use Rattle.basics.proofs.Common.{◌∙◌, ap, ℕ, ◌-◌, arith}
+use mathlib.Core.Path.{◌∙◌, ap}
+use Prim.Native.Nat.{ℕ, ◌-◌}
+use native.Mathlib.Omega.{arith}
 use Rattle.graded_circuit.specs.Key.{key_span}
 use Rattle.graded_writer.proofs.ListWriters.{small_case, large_case}
 use Rattle.graded_writer.proofs.list.winner_flags.Statement.{statement}

@@ -1,6 +1,9 @@
 -- `graded_writer::merge::and_all` meets its contract: after each gate, writing the gates left completes the block.
 -- Assumes nothing.
-use Rattle.basics.proofs.Common.{◌≡◌, ◌∙◌, sym, ap, ℕ, ◌+◌, ◌-◌, ◌≤◌, add-zero, arith}
+use mathlib.Core.Path.{◌≡◌, ◌∙◌, sym, ap}
+use Prim.Native.Nat.{ℕ, ◌+◌, ◌-◌, ◌≤◌}
+use native.Mathlib.Nat.{add-zero}
+use native.Mathlib.Omega.{arith}
 use Rattle.gate_words.proofs.Emitting.{and_wrote}
 use Rattle.gate_words.proofs.Going.{Goes, goes_start, goes_as, goes_on, goes_room, goes_end}
 use Rattle.graded_circuit.specs.Merge.{and_all}
@@ -20,8 +23,10 @@ loop_holds c =
     let a = c.before.args in
     let e : a.count ≡ a.count - 0 = omega arith in (
       omega arith,
-      goes_as (ap (λ (k : ℕ). and_all k a.stays a.count) (sym (add-zero a.at))
-          ∙ ap (and_all (a.at + 0) a.stays) e) (goes_start c.before.requires.room),
+      goes_as a.w a.table.now (and_all a.at a.stays a.count) a.w a.table.now _ _
+          (ap (λ (k : ℕ). and_all k a.stays a.count) (sym (add-zero a.at))
+          ∙ ap (and_all (a.at + 0) a.stays) e)
+          (goes_start a.w a.table.now (and_all a.at a.stays a.count) a.count c.before.requires.room),
     )
 
 add_emit : tie.Need-overflow-add-emit invariant_loop decreases_loop
@@ -37,7 +42,8 @@ emit_requires : tie.Need-emit-requires invariant_loop decreases_loop
 emit_requires c κs =
     let a = c.before.before.before.before.args in
     let l = c.before.before.loop in
-    goes_room l.invariant.1
+    goes_room a.w a.table.now (and_all a.at a.stays a.count) l.next l.table
+    (and_all (a.at + l.i) a.stays (a.count - l.i)) 1 a.count l.invariant.1
     (omega (arith, length_both (a.at + l.i) a.stays (a.count - l.i), c.before.loop-test.true))
     (omega (arith, length_both a.at a.stays a.count)) c.before.before.before.before.requires.room
 
@@ -63,7 +69,10 @@ loop_again c =
     let t = c.before.before.before.before.loop-test.true in
     let h = c.before.before.emit in (
       omega (arith, t),
-      goes_on (goes_as (both_step a.at a.stays l.i a.count t) l.inv.1) (and_wrote 0 h.ensures),
+      goes_on a.w a.table.now (and_all a.at a.stays a.count) l.next l.table _ _ h.new.1.0 h.result
+          (goes_as a.w a.table.now (and_all a.at a.stays a.count) l.next l.table _ _
+          (both_step a.at a.stays l.i a.count t) l.inv.1)
+          (and_wrote l.next l.table h.new.1.0 h.result (a.at + l.i) a.stays 0 h.ensures),
     )
 
 same_length : tie.Need-same-length invariant_loop decreases_loop
@@ -74,7 +83,8 @@ returns : tie.Need-returns invariant_loop decreases_loop
 returns c =
     let a = c.before.before.before.args in
     let l = c.before.loop in
-    goes_end (both_none (a.at + l.i) a.stays l.i a.count c.loop-test.false) l.invariant.1
+    goes_end a.w a.table.now (and_all a.at a.stays a.count) l.next l.table _
+    (both_none (a.at + l.i) a.stays l.i a.count c.loop-test.false) l.invariant.1
 
 pub and_all_spec : {M : Type 1} → statement M
 and_all_spec = tie.close (tie.spec invariant_loop decreases_loop loop_holds add_emit emit_requires add_i loop_less loop_again same_length returns)

@@ -1,6 +1,9 @@
 -- `graded_writer::merge::better` meets its contract: it chooses between the wires of the keys.
 -- Assumes nothing.
-use Rattle.basics.proofs.Common.{ap, ◌+◌, arith, needs}
+use mathlib.Core.Path.{ap}
+use Prim.Native.Nat.{◌+◌}
+use native.Mathlib.Omega.{arith}
+use borrow.Author.Rules.{rules}
 use Rattle.gate_words.specs.Choice.{choose}
 use Rattle.gate_words.proofs.Writing.{wrote_as, room_less}
 use Rattle.graded_writer.proofs.merge.better.Statement.{statement}
@@ -18,7 +21,7 @@ choose_requires : tie.Need-choose-requires
 choose_requires c κs =
     let e = c.before.key-span.ensures in
     record {
-      room = room_less (omega (arith, e)) c.before.before.before.requires.room;
+      room = room_less c.before.before.before.args.w _ _ (omega (arith, e)) c.before.before.before.requires.room;
       first_below = omega (arith, e, c.before.before.before.requires.first_below);
       second_below = omega (arith, e, c.before.before.before.requires.second_below);
     }
@@ -30,8 +33,12 @@ start_from_slice_known2 c = c.before.before.before.before.before.before
 returns : tie.Need-returns
 returns c =
     let a = (start_from_slice_known2 c).args in
-    wrote_as (ap (choose (a.q + 1) a.x a.y) c.before.before.before.before.key-span.ensures)
+    wrote_as a.w a.table.now _ _ _ _
+    (ap (choose (a.q + 1) a.x a.y) c.before.before.before.before.key-span.ensures)
     c.before.before.choose.ensures
 
+same_length : tie.Need-same-length
+same_length c = search rules
+
 pub better_spec : {M : Type 1} → statement M
-better_spec = tie.close (tie.spec key_span_requires add_choose choose_requires (λ c. search needs) returns)
+better_spec = tie.close (tie.spec key_span_requires add_choose choose_requires same_length returns)

@@ -1,6 +1,8 @@
 -- `graded_writer::merge::high_digits` meets its contract: it computes the definition.
 -- Assumes nothing.
-use Rattle.basics.proofs.Common.{◌≡◌, ℕ, ◌-◌, ◌/◌, ◌≤◌, ◌<◌, le-leb, lt-leb}
+use mathlib.Core.Path.{◌≡◌}
+use Prim.Native.Nat.{ℕ, ◌-◌, ◌/◌, ◌≤◌, ◌<◌}
+use borrow.Author.Tests.{le-leb, lt-leb}
 use Rattle.graded_circuit.specs.declared.plan.Plan.{Plan}
 use Rattle.graded_circuit.specs.Merge.{high_digits}
 use Rattle.graded_writer.proofs.merge.high_digits.Statement.{statement}

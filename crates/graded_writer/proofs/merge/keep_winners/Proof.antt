@@ -1,6 +1,10 @@
 -- `graded_writer::merge::keep_winners` meets its contract: a copy for a single candidate, else a gate for each.
 -- Assumes nothing.
-use Rattle.basics.proofs.Common.{◌≡◌, ⊎_elim, ℕ, ◌≤◌, ◌<◌, arith, needs}
+use mathlib.Core.Path.{◌≡◌}
+use mathlib.Core.Logic.{⊎_elim}
+use Prim.Native.Nat.{ℕ, ◌≤◌, ◌<◌}
+use native.Mathlib.Omega.{arith}
+use borrow.Author.Rules.{rules}
 use Rattle.basics.proofs.Cases.{below_or_not}
 use Rattle.gate_words.proofs.Writing.{wrote_as, room_less}
 use Rattle.gate_words.proofs.Emitting.{copy_wrote}
@@ -13,7 +17,8 @@ more_than_one m h e = ⊎_elim (λ (z : 1 < m). z) (λ (z : m ≤ 1). absurd (e 
 
 emit_requires : tie.Need-emit-requires
 emit_requires c κs =
-    room_less (omega (arith, c.before.before.before.requires.some)) c.before.before.before.requires.room
+    room_less c.before.before.before.args.w _ _ (omega (arith, c.before.before.before.requires.some))
+    c.before.before.before.requires.room
 
 -- The stages of the function, seen from later ones.
 abbrev start_from_slice_known2 : tie.After-slice-known2 → tie.Start
@@ -25,8 +30,10 @@ start_from_slice_known3 c = c.before.before.before.before.before.before
 returns : tie.Need-returns
 returns c =
     let a = (start_from_slice_known2 c).args in
-    wrote_as (won_single a.at a.stays a.count c.before.before.before.before.if1.true)
-    (copy_wrote 0 0 c.before.before.emit.ensures)
+    wrote_as a.w a.table.now _ _ _ _
+    (won_single a.at a.stays a.count c.before.before.before.before.if1.true)
+    (copy_wrote a.w a.table.now c.before.before.emit.new.1.0 c.before.before.emit.result
+    a.stays 0 0 c.before.before.emit.ensures)
 
 and_all_requires : tie.Need-and-all-requires
 and_all_requires c κs =
@@ -39,15 +46,18 @@ and_all_requires c κs =
 
 same_length_2 : tie.Need-same-length-2
 same_length_2 c =
-    search needs
+    search rules
 
 returns_2 : tie.Need-returns-2
 returns_2 c =
     let a = (start_from_slice_known3 c).args in
-    wrote_as (won_many a.at a.stays a.count
+    wrote_as a.w a.table.now _ _ _ _
+    (won_many a.at a.stays a.count
     (more_than_one a.count (start_from_slice_known3 c).pre.some
     c.before.before.before.before.if1.false)) c.before.before.and-all.ensures
 
+same_length : tie.Need-same-length
+same_length c = search rules
+
 pub keep_winners_spec : {M : Type 1} → statement M
-keep_winners_spec = tie.close (tie.spec emit_requires (λ c. search needs) returns and_all_requires same_length_2
-    returns_2)
+keep_winners_spec = tie.close (tie.spec emit_requires same_length returns and_all_requires same_length_2 returns_2)

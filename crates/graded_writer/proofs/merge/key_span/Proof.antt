@@ -1,6 +1,9 @@
 -- `graded_writer::merge::key_span` meets its contract: a word for each grade but the worst.
 -- Assumes nothing.
-use Rattle.basics.proofs.Common.{refl, ◌+◌, ◌-◌, ◌*◌, ◌≤◌, mul-le-mul, arith}
+use mathlib.Core.Path.{refl}
+use Prim.Native.Nat.{◌+◌, ◌-◌, ◌*◌, ◌≤◌}
+use native.Mathlib.Nat.{mul-le-mul}
+use native.Mathlib.Omega.{arith}
 use Rattle.graded_circuit.specs.declared.plan.Plan.{Plan}
 use Rattle.graded_circuit.specs.Plan.{Planned}
 use Rattle.graded_circuit.proofs.BoundLaws.{digits_most}

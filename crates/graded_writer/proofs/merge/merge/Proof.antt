@@ -1,6 +1,8 @@
 -- `graded_writer::merge::merge` meets its contract: the contest, which group stays, then who stays in each group.
 -- Assumes nothing.
-use Rattle.basics.proofs.Common.{◌≡◌, refl, ap, ℕ, ◌+◌, ◌-◌, arith}
+use mathlib.Core.Path.{◌≡◌, refl, ap}
+use Prim.Native.Nat.{ℕ, ◌+◌, ◌-◌}
+use native.Mathlib.Omega.{arith}
 use Rattle.gate_words.proofs.Writing.{wrote_as, room_less, wrote_long}
 use Rattle.gate_words.proofs.Standing.{Stands, stands, stands_after, room_of, wrote_then}
 use Rattle.graded_circuit.specs.Contest.{contest, result_at, contest_span}
@@ -16,7 +18,7 @@ contest_requires c κs =
     let q = s.requires in
     record {
       plan = s.requires.plan;
-      room = room_less (omega arith) s.requires.room;
+      room = room_less s.args.w _ _ (omega arith) s.requires.room;
       first_below = q.first_below;
       second_below = q.second_below;
       cut = omega (arith, c.high-digits.ensures, high_leaves s.args.p (s.args.l + s.args.m));
@@ -32,10 +34,11 @@ compared c =
     let s = c.before.before.before.before in
     let a = s.args in
     let q = s.requires in
-    stands_after c.contest.ensures
+    stands_after a.w a.table.now _ c.contest.new.1.0 c.contest.result _ _ _ c.contest.ensures
     (contest_block a.p s.requires.plan a.w.wire a.x a.y c.before.high-digits.result
     (omega (arith, c.before.high-digits.ensures, high_leaves a.p (a.l + a.m))) q.first_below
-    q.second_below).long (stands refl (omega arith) s.requires.room)
+    q.second_below).long
+    (stands a.w a.w.wire _ _ refl (omega arith) s.requires.room)
 
 sub_q : tie.Need-overflow-sub-q
 sub_q c =
@@ -44,7 +47,8 @@ sub_q c =
 select_flags_requires : tie.Need-select-flags-requires
 select_flags_requires c κs =
     record {
-      room = room_of (compared c.before.before.before.before) (omega arith);
+      room = room_of c.before.before.before.before.contest.result _ _ _
+          (compared c.before.before.before.before) (omega arith);
       place = omega (arith, (compared c.before.before.before.before).place);
     }
 
@@ -87,7 +91,9 @@ judged : (c : tie.After-select-flags)
     ((start_from_select_flags c).args.w.wire + contest_span (start_from_select_flags c).args.p + 3)
     ((start_from_select_flags c).args.l + (start_from_select_flags c).args.m)
 judged c =
-    stands_after c.select-flags.ensures
+    stands_after (contest_from_select_flags c).contest.result
+    (contest_from_select_flags c).contest.last.1.0 _ c.select-flags.new.1.0 c.select-flags.result
+    _ _ _ c.select-flags.ensures
     (select_flags_block ((contest_from_select_flags c).contest.result.wire - 2)).long
     (compared (contest_from_select_flags c))
 
@@ -104,7 +110,7 @@ keep_winners_requires c κs =
     let q = (start_from_select_flags c.before.before.before).pre in
     let p = (judged c.before.before.before).place in
     record {
-      room = room_of (judged c.before.before.before) (omega arith);
+      room = room_of c.before.before.before.select-flags.result _ _ _ (judged c.before.before.before) (omega arith);
       some = q.first_some;
       below = λ k. let z = q.first_won k in omega arith;
     }
@@ -117,7 +123,9 @@ first c =
     let a = (start_from_keep_winners c).args in
     let q = (start_from_keep_winners c).pre in
     let p = (judged c.before.before.before.before).place in
-    stands_after c.keep-winners.ensures
+    stands_after c.before.before.before.before.select-flags.result
+    c.before.before.before.before.select-flags.new.1.0 _ c.keep-winners.new.1.0
+    c.keep-winners.result _ _ _ c.keep-winners.ensures
     (keep_winners_block c.before.before.before.before.select-flags.result.wire a.u
     ((contest_from_keep_winners c).contest.result.wire - 2 + 4) a.l
     (λ k. let z = q.first_won k in omega arith)
@@ -149,7 +157,15 @@ returns c =
     let e : (contest_from_keep_winners2 c.before.before).contest.result.wire - 2
     ≡ result_at a.p a.w.wire =
     omega (arith, (compared (contest_from_keep_winners2 c.before.before)).place) in
-    wrote_then (wrote_then (wrote_then (wrote_as (ap (contest a.p a.w.wire a.x a.y)
+    wrote_then a.w a.table.now _ (keep_winners_from_slice_known5 c).keep-winners.last.1.0
+    (keep_winners_from_slice_known5 c).keep-winners.result _ _ _ _
+    (wrote_then a.w a.table.now _
+    (select_flags_from_keep_winners2 c.before.before).select-flags.last.1.0
+    (select_flags_from_keep_winners2 c.before.before).select-flags.result _ _ _ _
+    (wrote_then a.w a.table.now _ (contest_from_keep_winners2 c.before.before).contest.last.1.0
+    (contest_from_keep_winners2 c.before.before).contest.result _ _ _ _
+    (wrote_as a.w a.table.now _ _ _ _
+    (ap (contest a.p a.w.wire a.x a.y)
     (high_digits_from_keep_winners2 c.before.before).high-digits.ensures)
     (contest_from_keep_winners2 c.before.before).contest.ensures)
     (select_flags_from_keep_winners2 c.before.before).select-flags.ensures (ap select_flags e))
@@ -159,7 +175,8 @@ returns c =
 same_length : tie.Need-same-length
 same_length c =
     let a = (start_from_keep_winners2 c.before.before).args in
-    wrote_long (returns c)
+    wrote_long a.w a.table.now (merge a.p a.w.wire a.x a.y a.u a.v a.l a.m)
+    c.before.before.keep-winners2.new.1.0 c.before.before.keep-winners2.result (returns c)
 
 add_high_digits : tie.Need-overflow-add-high-digits
 add_high_digits c =

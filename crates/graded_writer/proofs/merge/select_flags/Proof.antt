@@ -1,6 +1,8 @@
 -- `graded_writer::merge::select_flags` meets its contract: three gates.
 -- Assumes nothing.
-use Rattle.basics.proofs.Common.{refl, ◌+◌, arith}
+use mathlib.Core.Path.{refl}
+use Prim.Native.Nat.{◌+◌}
+use native.Mathlib.Omega.{arith}
 use Rattle.gate_words.proofs.Writing.{room_less, wrote_long}
 use Rattle.gate_words.proofs.Emitting.{and_wrote, xor_wrote, not_wrote, wrote_three}
 use Rattle.graded_circuit.specs.Merge.{select_flags}
@@ -14,11 +16,14 @@ add_emit c =
 
 emit_requires : tie.Need-emit-requires
 emit_requires c κs =
-    room_less (omega arith) c.before.before.requires.room
+    room_less c.before.before.args.w _ _ (omega arith) c.before.before.requires.room
 
 one : (c : tie.After-emit) → Stands c.emit.result (c.before.before.before.args.w.wire + 1) 2
 one c =
-    stands_after c.emit.ensures refl (stands refl (omega arith) c.before.before.before.requires.room)
+    stands_after c.before.before.before.args.w c.before.before.before.args.table.now _
+    c.emit.new.1.0 c.emit.result _ 1 2 c.emit.ensures refl
+    (stands c.before.before.before.args.w c.before.before.before.args.w.wire _ _ refl
+    (omega arith) c.before.before.before.requires.room)
 
 -- The stages of the function, seen from later ones.
 abbrev start_from_emit_arg2 : tie.After-emit-arg2 → tie.Start
@@ -39,11 +44,13 @@ add_emit_2 c =
 
 emit_requires_2 : tie.Need-emit-requires-2
 emit_requires_2 c κs =
-    room_of (one c.before.before.before) (omega arith)
+    room_of c.before.before.before.emit.result _ _ _ (one c.before.before.before) (omega arith)
 
 two : (c : tie.After-emit2) → Stands c.emit2.result ((start_from_emit2 c).args.w.wire + 1 + 1) 1
 two c =
-    stands_after c.emit2.ensures refl (one c.before.before.before.before)
+    stands_after c.before.before.before.before.emit.result
+    c.before.before.before.before.emit.new.1.0 _ c.emit2.new.1.0 c.emit2.result _ 1 1
+    c.emit2.ensures refl (one c.before.before.before.before)
 
 add_emit_3 : tie.Need-overflow-add-emit-3
 add_emit_3 c =
@@ -53,6 +60,9 @@ add_emit_3 c =
       (start_from_emit2 c.before.before.before).pre.place,
     )
 
+emit_requires_3 : tie.Need-emit-requires-3
+emit_requires_3 c κs = (two c.before.before.before).left
+
 returns : tie.Need-returns
 unfolding select_flags
 returns c =
@@ -61,15 +71,20 @@ returns c =
     let first = emit_from_emit2 second in
     let a = (start_from_emit2 second).args in
     let q = a.q in
-    wrote_three (and_wrote 0 first.emit.ensures) (not_wrote 0 0 second.emit2.ensures)
-    (xor_wrote 0 last.emit3.ensures)
+    wrote_three a.w a.table.now _ first.emit.last.1.0 first.emit.result _
+    second.emit2.last.1.0 second.emit2.result _ last.emit3.new.1.0 last.emit3.result
+    (and_wrote a.w a.table.now first.emit.last.1.0 first.emit.result q (q + 1) 0 first.emit.ensures)
+    (not_wrote first.emit.result first.emit.last.1.0 second.emit2.last.1.0 second.emit2.result
+    (q + 2) 0 0 second.emit2.ensures)
+    (xor_wrote second.emit2.result second.emit2.last.1.0 last.emit3.new.1.0 last.emit3.result
+    q (q + 3) 0 last.emit3.ensures)
 
 same_length : tie.Need-same-length
 same_length c =
     let last = c.before.before in
     let a = (start_from_emit2 (emit2_from_emit3 last)).args in
-    wrote_long (returns c)
+    wrote_long a.w a.table.now (select_flags a.q) last.emit3.new.1.0 last.emit3.result (returns c)
 
 pub select_flags_spec : {M : Type 1} → statement M
-select_flags_spec = tie.close (tie.spec add_emit emit_requires add_emit_2 emit_requires_2 add_emit_3
-    (λ c κs. (two c.before.before.before).left) same_length returns)
+select_flags_spec = tie.close (tie.spec add_emit emit_requires add_emit_2 emit_requires_2 add_emit_3 emit_requires_3
+    same_length returns)

@@ -13,7 +13,7 @@ use Rattle.jury.specs.Shape.{is_ranking, graded_limits, within_limits, ballot_by
 use Rattle.jury.specs.Reason.{reason_of, refused_for, unless, found_at, first_of}
 use Rattle.jury.specs.Ballots.{ballot_kind_reasons, ballot_reasons}
 use Rattle.basics.proofs.Flags.{T_true, true_T}
-use Rattle.jury.proofs.Limits.{bounds_T, grades_columns, ranked_bytes, graded_kind}
+use Rattle.jury.proofs.Limits.{grades_columns, ranked_bytes, graded_kind}
 use Rattle.jury.proofs.BallotLaws.{judged, judged_by, judged_kind, graded_reasons_lem, ranked_reasons_lem}
 use Rattle.jury.proofs.ballots.test.Statement.{statement}
 use Rattle.jury.proofs.ballots.test.Tie as tie
@@ -79,11 +79,7 @@ test_rankings_requires : tie.Need-test-rankings-requires
 test_rankings_requires c κs =
     let told = c.before.before in
     let passed = told.before.before.before in
-    let start = passed.before.before.before in
-    let s = start.args.shape in (
-      (bounds_T s start.requires).k_most,
-      size_known passed ∙ ranked_bytes s (ranking c.before ∙ c.if2.true),
-    )
+    size_known passed ∙ ranked_bytes passed.before.before.before.args.shape (ranking c.before ∙ c.if2.true)
 
 test_grades_requires : tie.Need-test-grades-requires
 test_grades_requires c κs =

@@ -9,27 +9,8 @@ use Rattle.gates.specs.declared.place.Place.TheVariants.{Nowhere}
 use Rattle.jury.specs.Reason.{Reason, reason_of, refused_for, found_at, first_of}
 use Rattle.jury.specs.Ballots.{ranked_reasons}
 use Rattle.jury.specs.Rankings.{first_not_asymmetric, first_not_weak_order}
-use Rattle.jury.proofs.RankingLaws.{passes_orders}
 use Rattle.jury.proofs.ballots.test_rankings.Statement.{statement}
 use Rattle.jury.proofs.ballots.test_rankings.Tie as tie
-
-are_orders_requires : tie.Need-are-orders-requires
-are_orders_requires c κs = search rules
-
--- the answer from what the two searches found
-found : Place → Place → Option Reason
-found clash not_weak_order = first_of (found_at 11 clash ∷ found_at 12 not_weak_order ∷ [])
-
--- of strict weak orders they find nothing
-returns : tie.Need-returns
-unfolding refused_for ranked_reasons found_at first_of found
-returns c =
-    let a = c.before.before.before.args in
-    let k = a.shape.candidates in
-    let n = a.shape.ballots in
-    let xs = a.ballots.now in
-    let none = (passes_orders k n xs).1 (c.before.are-orders.ensures c.if1.true) in
-    sym (ap (λ (p : Place). found p (first_not_weak_order k n xs)) none.0 ∙ ap (found Nowhere) none.1)
 
 first_not_asymmetric_requires : tie.Need-first-not-asymmetric-requires
 first_not_asymmetric_requires c κs = search rules
@@ -37,10 +18,14 @@ first_not_asymmetric_requires c κs = search rules
 enum_known_i : tie.Need-enum-known-i
 enum_known_i c = search rules
 
-returns_2 : tie.Need-returns-2
+-- the answer from what the two searches found
+found : Place → Place → Option Reason
+found clash not_weak_order = first_of (found_at 11 clash ∷ found_at 12 not_weak_order ∷ [])
+
+returns : tie.Need-returns
 unfolding refused_for ranked_reasons reason_of found_at first_of found
-returns_2 c =
-    let a = c.before.before.before.before.before.before.before.args in
+returns c =
+    let a = c.before.before.before.before.before.args in
     sym (ap (λ (p : Place). found p
     (first_not_weak_order a.shape.candidates a.shape.ballots a.ballots.now))
     (sym c.before.before.before.first-not-asymmetric.ensures ∙ c.before.i.given.1))
@@ -49,7 +34,7 @@ enum_told : tie.Need-enum-told
 enum_told c = search rules
 
 -- 11 found nothing
-no_clash : (c : tie.After-enum-told) → let a = c.before.before.before.before.before.before.args in
+no_clash : (c : tie.After-enum-told) → let a = c.before.before.before.before.args in
     first_not_asymmetric a.shape.candidates a.shape.ballots a.ballots.now ≡ Nowhere
 no_clash c = sym c.before.before.first-not-asymmetric.ensures ∙ c.enum_told.given.1
 
@@ -62,19 +47,19 @@ enum_known_b c = search rules
 enum_told_2 : tie.Need-enum-told-2
 enum_told_2 c = search rules
 
-returns_3 : tie.Need-returns-3
+returns_2 : tie.Need-returns-2
 unfolding refused_for ranked_reasons reason_of found_at first_of found
-returns_3 c =
+returns_2 c =
     let passed = c.before.before.before.before in
-    let a = passed.before.before.before.before.before.before.args in
+    let a = passed.before.before.before.before.args in
     sym (ap (λ (p : Place). found p (first_not_weak_order a.shape.candidates a.shape.ballots a.ballots.now)) (no_clash passed)
     ∙ ap (found Nowhere) (sym c.before.before.before.first-not-weak-order.ensures ∙ c.before.b.given.1))
 
-returns_4 : tie.Need-returns-4
+returns_3 : tie.Need-returns-3
 unfolding refused_for ranked_reasons found_at first_of found
-returns_4 c =
+returns_3 c =
     let passed = c.before.before.before in
-    let a = passed.before.before.before.before.before.before.args in
+    let a = passed.before.before.before.before.args in
     sym (ap (λ (p : Place). found p (first_not_weak_order a.shape.candidates a.shape.ballots a.ballots.now)) (no_clash passed)
     ∙ ap (found Nowhere) (sym c.before.before.first-not-weak-order.ensures ∙ c.enum-told2.given.1))
 
@@ -82,14 +67,12 @@ pub test_rankings_spec : {M : Type 1} → statement M
 test_rankings_spec =
     tie.close
     (tie.spec
-    are_orders_requires
-    returns
     first_not_asymmetric_requires
     enum_known_i
-    returns_2
+    returns
     enum_told
     first_not_weak_order_requires
     enum_known_b
     enum_told_2
-    returns_3
-    returns_4)
+    returns_2
+    returns_3)

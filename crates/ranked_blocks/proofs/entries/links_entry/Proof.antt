@@ -1,7 +1,14 @@
 -- `ranked_blocks::entries::links_entry` meets its contract: a comparison for the later candidate, whose last two wires are kept.
 -- Assumes nothing.
-use Rattle.basics.proofs.Common.{◌≡◌, true, ◌&&◌, ℕ, ◌+◌, ◌-◌, ◌*◌, ◌/◌, ◌%◌, ◌≤◌, ◌<◌, arith, needs, leb, ltb}
-use Rattle.basics.proofs.Common.{length-set, le-leb, lt-leb}
+use mathlib.Core.Path.{◌≡◌}
+use mathlib.Core.Bool.{true, ◌&&◌}
+use mathlib.Core.List.{[]}
+use Prim.Native.Nat.{ℕ, ◌+◌, ◌-◌, ◌*◌, ◌/◌, ◌%◌, ◌≤◌, ◌<◌}
+use native.Mathlib.Omega.{arith}
+use borrow.Author.Rules.{rules}
+use lib.Dec.{leb, ltb}
+use lib.ListN.{length-set}
+use borrow.Author.Tests.{le-leb, lt-leb}
 use Rattle.jury.specs.Shape.{most_pairs}
 use Rattle.gate_words.proofs.Writing.{room_less, wrote_nothing, wrote_as}
 use Rattle.ranked_circuit.proofs.BlockLaws.{length_whole}
@@ -63,9 +70,9 @@ returns c =
     let k = a.p.candidates in
     let q = not_later (leb a.first) (a.e / k) (a.e % k) c.if1.true in
     record {
-      wrote = wrote_as
+      wrote = wrote_as a.w a.table.now [] _ a.table.now a.w
           (links_kept a.first (kept_of a.words.now k) a.p.digits a.w.wire (a.e / k) (a.e % k) q)
-          (wrote_nothing);
+          (wrote_nothing a.w a.table.now);
       kept = same_links (leb a.first) a.links.now k (a.e / k) (a.e % k) a.w.wire q;
     }
 
@@ -75,9 +82,9 @@ returns_2 c =
     let k = a.p.candidates in
     let q = no_row (leb a.first) (a.e / k) (a.e % k) (lt-leb a.first (a.e / k) c.if2.true) in
     record {
-      wrote = wrote_as
+      wrote = wrote_as a.w a.table.now [] _ a.table.now a.w
           (links_kept a.first (kept_of a.words.now k) a.p.digits a.w.wire (a.e / k) (a.e % k) q)
-          (wrote_nothing);
+          (wrote_nothing a.w a.table.now);
       kept = same_links (leb a.first) a.links.now k (a.e / k) (a.e % k) a.w.wire q;
     }
 
@@ -114,9 +121,10 @@ compare_requires c κs =
     let l = f.later in
     let b = s.pre.kept.below in
     record {
-      room = room_less (omega (
+      room = room_less a.w _ _ (omega (
         arith,
-        links_long a.first (kept_of a.words.now k) a.p.digits a.w.wire (a.e / k) (a.e % k) f.row,
+        links_long a.first (kept_of a.words.now k) a.p.digits a.w.wire (a.e / k) (a.e % k)
+            f.row,
       )) s.pre.room;
       first_below = omega (arith, b (a.e / k) (a.e % k) t.row t.column (λ z. omega arith), c.before.kept.ensures);
       second_below = omega (arith, b (a.e % k) (a.e / k) t.column t.row (λ z. omega arith), c.kept2.ensures);
@@ -130,8 +138,38 @@ ended c = let a = (start (tested c)).args in
       length_whole a.w.wire c.before.before.kept.result c.before.kept2.result a.p.digits,
     )
 
+sub_links : tie.Need-overflow-sub-links
+sub_links c = omega (arith, ended (made c))
+
+mul_links : tie.Need-overflow-mul-links
+mul_links c = omega (arith, (facts (tested (made c))).index)
+
+add_links : tie.Need-overflow-add-links
+add_links c = omega (arith, (facts (tested (made c))).index)
+
+cast_links : tie.Need-overflow-cast-links
+cast_links c = omega (arith, (facts (tested (made c))).index)
+
+mul_links_2 : tie.Need-overflow-mul-links-2
+mul_links_2 c = omega (arith, (facts (tested (made c))).index)
+
 slice_write_links : tie.Need-slice-write-links
 slice_write_links c = omega (arith, (facts (tested (made c))).index, (start (tested (made c))).requires.kept.wires_long)
+
+sub_links_2 : tie.Need-overflow-sub-links-2
+sub_links_2 c = omega (arith, ended (made c.before))
+
+mul_links_3 : tie.Need-overflow-mul-links-3
+mul_links_3 c = omega (arith, (facts (tested (made c.before))).index_back)
+
+add_links_2 : tie.Need-overflow-add-links-2
+add_links_2 c = omega (arith, (facts (tested (made c.before))).index_back)
+
+cast_links_2 : tie.Need-overflow-cast-links-2
+cast_links_2 c = omega (arith, (facts (tested (made c.before))).index_back)
+
+mul_links_4 : tie.Need-overflow-mul-links-4
+mul_links_4 c = omega (arith, (facts (tested (made c.before))).index_back)
 
 slice_write_links_2 : tie.Need-slice-write-links-2
 slice_write_links_2 c =
@@ -154,21 +192,42 @@ returns_3 c =
     let q = (facts (tested d)).row in
     let next = d.compare.result in
     record {
-      wrote = wrote_as
+      wrote = wrote_as a.w a.table.now _ _ d.compare.last.1.0 next
           (links_moved a.first (kept_of a.words.now k) a.p.digits a.w.wire (a.e / k) (a.e % k) q
           d.before.before.kept.result d.before.kept2.result d.before.before.kept.ensures
           d.before.kept2.ensures) d.compare.ensures;
       kept = new_links (leb a.first) a.links.now k (a.e / k) (a.e % k) next.wire q;
     }
 
+same_length : tie.Need-same-length
+same_length c = search rules
+
+same_length_2 : tie.Need-same-length-2
+same_length_2 c = search rules
+
 pub links_entry_spec : {M : Type 1} → statement M
 links_entry_spec =
-    tie.close (tie.spec div_i rem_j returns returns_2 kept_requires kept_requires_2 compare_requires
-    (λ c. omega (arith, ended (made c))) (λ c. omega (arith, (facts (tested (made c))).index))
-    (λ c. omega (arith, (facts (tested (made c))).index)) (λ c. omega (arith, (facts (tested (made c))).index))
-    (λ c. omega (arith, (facts (tested (made c))).index)) slice_write_links
-    (λ c. omega (arith, ended (made c.before))) (λ c. omega (arith, (facts (tested (made c.before))).index_back))
-    (λ c. omega (arith, (facts (tested (made c.before))).index_back))
-    (λ c. omega (arith, (facts (tested (made c.before))).index_back))
-    (λ c. omega (arith, (facts (tested (made c.before))).index_back)) slice_write_links_2 (λ c. search needs)
-    (λ c. search needs) returns_3)
+    tie.close
+    (tie.spec
+    div_i
+    rem_j
+    returns
+    returns_2
+    kept_requires
+    kept_requires_2
+    compare_requires
+    sub_links
+    mul_links
+    add_links
+    cast_links
+    mul_links_2
+    slice_write_links
+    sub_links_2
+    mul_links_3
+    add_links_2
+    cast_links_2
+    mul_links_4
+    slice_write_links_2
+    same_length
+    same_length_2
+    returns_3)

@@ -1,6 +1,9 @@
 -- `ranked_blocks::entries::meet` meets its contract: it reads six kept wires and writes the meeting.
 -- Assumes nothing.
-use Rattle.basics.proofs.Common.{◌≡◌, ℕ, suc, ◌-◌, ◌<◌, arith, needs}
+use mathlib.Core.Path.{◌≡◌}
+use Prim.Native.Nat.{ℕ, suc, ◌-◌, ◌<◌}
+use native.Mathlib.Omega.{arith}
+use borrow.Author.Rules.{rules}
 use Rattle.gate_words.proofs.Writing.{wrote_as}
 use Rattle.ranked_circuit.specs.Contests.{meeting}
 use Rattle.ranked_blocks.proofs.entries.meet.Statement.{statement}
@@ -32,6 +35,9 @@ who c =
     let o = c.requires.other in
     let l = c.requires.later in
     record { last = omega arith; later = omega arith; earlier = omega arith; i_before = o; j_before = omega arith }
+
+sub_l : tie.Need-overflow-sub-l
+sub_l c = omega (arith, c.before.before.before.requires.other)
 
 kept_requires : tie.Need-kept-requires
 kept_requires c κs =
@@ -123,12 +129,26 @@ returns c =
     let q = six c in
     let p = three q in
     let a = (start (asked p)).args in
-    wrote_as (same_meeting _ _ _ _ _ _ _ _ _ _ _ _ a.p.digits a.w.wire p.before.before.kept.ensures
+    wrote_as a.w a.table.now _ _ m.meeting.new.1.0 m.meeting.result
+    (same_meeting _ _ _ _ _ _ _ _ _ _ _ _ a.p.digits a.w.wire p.before.before.kept.ensures
     p.before.kept2.ensures p.kept3.ensures q.before.before.kept4.ensures q.before.kept5.ensures
-    q.kept6.ensures) m.meeting.ensures
+    q.kept6.ensures)
+    m.meeting.ensures
+
+same_length : tie.Need-same-length
+same_length c = search rules
 
 pub meet_spec : {M : Type 1} → statement M
 meet_spec =
     tie.close
-    (tie.spec (λ c. omega (arith, c.before.before.before.requires.other)) kept_requires kept_requires_2 kept_requires_3
-    kept_requires_4 kept_requires_5 kept_requires_6 meeting_requires (λ c. search needs) returns)
+    (tie.spec
+    sub_l
+    kept_requires
+    kept_requires_2
+    kept_requires_3
+    kept_requires_4
+    kept_requires_5
+    kept_requires_6
+    meeting_requires
+    same_length
+    returns)

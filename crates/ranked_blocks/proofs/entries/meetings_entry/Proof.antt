@@ -1,7 +1,14 @@
 -- `ranked_blocks::entries::meetings_entry` meets its contract: a meeting for the later candidate, whose last two wires are kept.
 -- Assumes nothing.
-use Rattle.basics.proofs.Common.{◌≡◌, true, ◌&&◌, ℕ, suc, ◌+◌, ◌-◌, ◌*◌, ◌/◌, ◌%◌, ◌≤◌, ◌<◌, arith, needs, ltb}
-use Rattle.basics.proofs.Common.{length-set, lt-ltb, le-ltb}
+use mathlib.Core.Path.{◌≡◌}
+use mathlib.Core.Bool.{true, ◌&&◌}
+use mathlib.Core.List.{[]}
+use Prim.Native.Nat.{ℕ, suc, ◌+◌, ◌-◌, ◌*◌, ◌/◌, ◌%◌, ◌≤◌, ◌<◌}
+use native.Mathlib.Omega.{arith}
+use borrow.Author.Rules.{rules}
+use lib.Dec.{ltb}
+use lib.ListN.{length-set}
+use borrow.Author.Tests.{lt-ltb, le-ltb}
 use Rattle.jury.specs.Shape.{most_pairs}
 use Rattle.gate_words.proofs.Writing.{room_less, wrote_nothing, wrote_as}
 use Rattle.ranked_blocks.specs.Ranked.{kept_of}
@@ -67,9 +74,9 @@ returns c =
     let k = a.p.candidates in
     let q = not_later (λ y. ltb y (k - 1)) (a.e / k) (a.e % k) c.if1.true in
     record {
-      wrote = wrote_as
+      wrote = wrote_as a.w a.table.now [] _ a.table.now a.w
           (meetings_kept (k - 1) (kept_of a.words.now k) (kept_of a.met.now k) a.p.digits a.w.wire
-          (a.e / k) (a.e % k) q) (wrote_nothing);
+          (a.e / k) (a.e % k) q) (wrote_nothing a.w a.table.now);
       kept = same_links (λ y. ltb y (k - 1)) a.met.now k (a.e / k) (a.e % k) a.w.wire q;
     }
 
@@ -79,9 +86,9 @@ returns_2 c =
     let k = a.p.candidates in
     let q = no_row (λ y. ltb y (k - 1)) (a.e / k) (a.e % k) (le-ltb (a.e / k) (k - 1) c.if2.true) in
     record {
-      wrote = wrote_as
+      wrote = wrote_as a.w a.table.now [] _ a.table.now a.w
           (meetings_kept (k - 1) (kept_of a.words.now k) (kept_of a.met.now k) a.p.digits a.w.wire
-          (a.e / k) (a.e % k) q) (wrote_nothing);
+          (a.e / k) (a.e % k) q) (wrote_nothing a.w a.table.now);
       kept = same_links (λ y. ltb y (k - 1)) a.met.now k (a.e / k) (a.e % k) a.w.wire q;
     }
 
@@ -94,7 +101,7 @@ meet_requires c κs =
     let f = facts p in
     record {
       kept = s.pre.kept;
-      room = room_less (omega (
+      room = room_less a.w _ _ (omega (
         arith,
         meetings_long (k - 1) (kept_of a.words.now k) (kept_of a.met.now k) a.p.digits a.w.wire
             (a.e / k) (a.e % k) f.row,
@@ -114,8 +121,38 @@ ended c =
           (a.e % k),
     )
 
+sub_met : tie.Need-overflow-sub-met
+sub_met c = omega (arith, ended (made c))
+
+mul_met : tie.Need-overflow-mul-met
+mul_met c = omega (arith, (facts (tested (made c))).index)
+
+add_met : tie.Need-overflow-add-met
+add_met c = omega (arith, (facts (tested (made c))).index)
+
+cast_met : tie.Need-overflow-cast-met
+cast_met c = omega (arith, (facts (tested (made c))).index)
+
+mul_met_2 : tie.Need-overflow-mul-met-2
+mul_met_2 c = omega (arith, (facts (tested (made c))).index)
+
 slice_write_met : tie.Need-slice-write-met
 slice_write_met c = omega (arith, (facts (tested (made c))).index, (start (tested (made c))).requires.kept.wires_long)
+
+sub_met_2 : tie.Need-overflow-sub-met-2
+sub_met_2 c = omega (arith, ended (made c.before))
+
+mul_met_3 : tie.Need-overflow-mul-met-3
+mul_met_3 c = omega (arith, (facts (tested (made c.before))).index_back)
+
+add_met_2 : tie.Need-overflow-add-met-2
+add_met_2 c = omega (arith, (facts (tested (made c.before))).index_back)
+
+cast_met_2 : tie.Need-overflow-cast-met-2
+cast_met_2 c = omega (arith, (facts (tested (made c.before))).index_back)
+
+mul_met_4 : tie.Need-overflow-mul-met-4
+mul_met_4 c = omega (arith, (facts (tested (made c.before))).index_back)
 
 slice_write_met_2 : tie.Need-slice-write-met-2
 slice_write_met_2 c =
@@ -138,20 +175,40 @@ returns_3 c =
     let q = (facts (tested d)).row in
     let next = d.meet.result in
     record {
-      wrote = wrote_as
+      wrote = wrote_as a.w a.table.now _ _ d.meet.last.1.0 next
           (meetings_moved (k - 1) (kept_of a.words.now k) (kept_of a.met.now k) a.p.digits a.w.wire
           (a.e / k) (a.e % k) q) d.meet.ensures;
       kept = new_links (λ y. ltb y (k - 1)) a.met.now k (a.e / k) (a.e % k) next.wire q;
     }
 
+same_length : tie.Need-same-length
+same_length c = search rules
+
+same_length_2 : tie.Need-same-length-2
+same_length_2 c = search rules
+
 pub meetings_entry_spec : {M : Type 1} → statement M
 meetings_entry_spec =
-    tie.close (tie.spec div_i rem_j returns sub_if2 returns_2 meet_requires (λ c. omega (arith, ended (made c)))
-    (λ c. omega (arith, (facts (tested (made c))).index)) (λ c. omega (arith, (facts (tested (made c))).index))
-    (λ c. omega (arith, (facts (tested (made c))).index)) (λ c. omega (arith, (facts (tested (made c))).index))
-    slice_write_met (λ c. omega (arith, ended (made c.before)))
-    (λ c. omega (arith, (facts (tested (made c.before))).index_back))
-    (λ c. omega (arith, (facts (tested (made c.before))).index_back))
-    (λ c. omega (arith, (facts (tested (made c.before))).index_back))
-    (λ c. omega (arith, (facts (tested (made c.before))).index_back)) slice_write_met_2 (λ c. search needs)
-    (λ c. search needs) returns_3)
+    tie.close
+    (tie.spec
+    div_i
+    rem_j
+    returns
+    sub_if2
+    returns_2
+    meet_requires
+    sub_met
+    mul_met
+    add_met
+    cast_met
+    mul_met_2
+    slice_write_met
+    sub_met_2
+    mul_met_3
+    add_met_2
+    cast_met_2
+    mul_met_4
+    slice_write_met_2
+    same_length
+    same_length_2
+    returns_3)

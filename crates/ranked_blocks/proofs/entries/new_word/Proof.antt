@@ -1,6 +1,11 @@
 -- `ranked_blocks::entries::new_word` meets its contract: a link's strength, or the stronger of a path and a way.
 -- Assumes nothing.
-use Rattle.basics.proofs.Common.{◌≡◌, ◌∙◌, sym, ap, ◌≢◌, ◌++◌, ℕ, suc, ◌+◌, ◌-◌, ◌≤◌, ◌<◌, arith, needs}
+use mathlib.Core.Path.{◌≡◌, ◌∙◌, sym, ap}
+use mathlib.Core.Logic.{◌≢◌}
+use mathlib.Core.List.{◌++◌}
+use Prim.Native.Nat.{ℕ, suc, ◌+◌, ◌-◌, ◌≤◌, ◌<◌}
+use native.Mathlib.Omega.{arith}
+use borrow.Author.Rules.{rules}
 use Rattle.gate_words.specs.Choice.{masked}
 use Rattle.gate_words.proofs.Writing.{room_less, wrote_as}
 use Rattle.ranked_circuit.specs.Blocks.{order_size, smaller, larger, larger_if}
@@ -72,7 +77,7 @@ masked_requires c κs =
     let k = a.p.candidates in
     let ne : a.i ≢ a.j = apart_zero a.i a.j (ap (λ (x : ℕ). stays x a.i a.j) (sym t.if1.true) ∙ s.pre.moves) in
     record {
-      room = room_less (omega (
+      room = room_less a.w _ _ (omega (
         arith,
         long_zero (kept_of a.links.now k) (kept_of a.words.now k) a.p.digits (cut_of s) a.w.wire
             a.i a.j (within s) a.m t.if1.true,
@@ -88,7 +93,7 @@ returns c =
     let s = start r in
     let a = s.args in
     let k = a.p.candidates in
-    wrote_as
+    wrote_as a.w a.table.now _ _ d.masked.new.1.0 d.masked.result
     (zero_same r.before.kept.result r.kept2.result a.p.digits (kept_of a.links.now k a.i a.j)
     (kept_of a.words.now k a.i a.j) r.before.kept.ensures r.kept2.ensures
     ∙ new_zero (kept_of a.links.now k) (kept_of a.words.now k) a.p.digits (cut_of s) a.w.wire a.i
@@ -158,7 +163,7 @@ link_or_way_requires c κs =
     let k = a.p.candidates in
     let b = below q in
     record {
-      room = room_less (omega (
+      room = room_less a.w _ _ (omega (
         arith,
         long_first (kept_of a.links.now k) (kept_of a.words.now k) a.p.digits (cut_of s) a.w.wire
             a.i a.j (within s) a.m t.if2.true,
@@ -180,7 +185,8 @@ returns_2 c =
     let a = s.args in
     let k = a.p.candidates in
     let words = kept_of a.words.now k in
-    wrote_as (first_same a.w.wire r.before.kept.result r.kept2.result q.before.before.kept3.result
+    wrote_as a.w a.table.now _ _ d.link-or-way.new.1.0 d.link-or-way.result
+    (first_same a.w.wire r.before.kept.result r.kept2.result q.before.before.kept3.result
     q.before.kept4.result a.p.digits q.cut_at.result (kept_of a.links.now k a.i a.j)
     (words a.i a.j) (words a.i (a.m - 1)) (words (a.m - 1) a.j) (cut_of s)
     r.before.kept.ensures r.kept2.ensures q.before.before.kept3.ensures q.before.kept4.ensures q.cut_at.ensures
@@ -196,7 +202,7 @@ path_or_way_requires c κs =
     let k = a.p.candidates in
     let b = below q in
     record {
-      room = room_less (omega (
+      room = room_less a.w _ _ (omega (
         arith,
         long_later (kept_of a.links.now k) (kept_of a.words.now k) a.p.digits (cut_of s) a.w.wire
             a.i a.j (within s) a.m q.before.before.before.if1.false t.if2.false,
@@ -218,9 +224,11 @@ returns_3 c =
     let a = s.args in
     let k = a.p.candidates in
     let words = kept_of a.words.now k in
-    wrote_as (later_same a.w.wire r.kept2.result q.before.before.kept3.result q.before.kept4.result
+    wrote_as a.w a.table.now _ _ d.path-or-way.new.1.0 d.path-or-way.result
+    (later_same a.w.wire r.kept2.result q.before.before.kept3.result q.before.kept4.result
     a.p.digits q.cut_at.result (words a.i a.j) (words a.i (a.m - 1)) (words (a.m - 1) a.j)
-    (cut_of s) r.kept2.ensures q.before.before.kept3.ensures q.before.kept4.ensures q.cut_at.ensures
+    (cut_of s)
+    r.kept2.ensures q.before.before.kept3.ensures q.before.kept4.ensures q.cut_at.ensures
     ∙ new_later (kept_of a.links.now k) words a.p.digits (cut_of s) a.w.wire a.i a.j a.m
     q.before.before.before.if1.false t.if2.false) d.path-or-way.ensures
 
@@ -233,8 +241,33 @@ sub_kept c = let n = c.if1.false in omega arith
 sub_kept_2 : tie.Need-overflow-sub-kept-2
 sub_kept_2 c = let n = c.before.if1.false in omega arith
 
+same_length : tie.Need-same-length
+same_length c = search rules
+
+same_length_2 : tie.Need-same-length-2
+same_length_2 c = search rules
+
+same_length_3 : tie.Need-same-length-3
+same_length_3 c = search rules
+
 pub new_word_spec : {M : Type 1} → statement M
 new_word_spec =
-    tie.close (tie.spec kept_requires kept_requires_2 add_masked masked_requires (λ c. search needs) returns sub_kept
-    kept_requires_3 sub_kept_2 kept_requires_4 cut_at_requires link_or_way_requires (λ c. search needs) returns_2
-    path_or_way_requires (λ c. search needs) returns_3)
+    tie.close
+    (tie.spec
+    kept_requires
+    kept_requires_2
+    add_masked
+    masked_requires
+    same_length
+    returns
+    sub_kept
+    kept_requires_3
+    sub_kept_2
+    kept_requires_4
+    cut_at_requires
+    link_or_way_requires
+    same_length_2
+    returns_2
+    path_or_way_requires
+    same_length_3
+    returns_3)

@@ -1,8 +1,13 @@
 -- `ranked_blocks::entries::path_entry` meets its contract: nothing if the stage leaves the word, else a new word that
 -- is kept.
 -- Assumes nothing.
-use Rattle.basics.proofs.Common.{◌≡◌, ◌∙◌, sym, ap, true, false, suc, ◌-◌, ◌/◌, ◌%◌, ◌≤◌, arith, needs, length}
-use Rattle.basics.proofs.Common.{set}
+use mathlib.Core.Path.{◌≡◌, ◌∙◌, sym, ap}
+use mathlib.Core.Bool.{true, false}
+use mathlib.Core.List.{[]}
+use Prim.Native.Nat.{suc, ◌-◌, ◌/◌, ◌%◌, ◌≤◌}
+use native.Mathlib.Omega.{arith}
+use borrow.Author.Rules.{rules}
+use lib.ListN.{length, set}
 use Rattle.gate_words.proofs.Writing.{room_less, wrote_nothing, wrote_as}
 use Rattle.ranked_circuit.specs.Stages.{stays, cut_at}
 use Rattle.ranked_circuit.proofs.StageLaws.{cut_most}
@@ -42,9 +47,9 @@ returns c =
     let k = a.p.candidates in
     let q : stays a.m (a.e / k) (a.e % k) ≡ true = sym c.before.stays.ensures ∙ c.if1.true in
     record {
-      wrote = wrote_as
+      wrote = wrote_as a.w a.table.now [] _ a.table.now a.w
           (path_kept k (kept_of a.links.now k) (kept_of a.words.now k) a.p.digits a.w.wire (a.e / k)
-          (a.e % k) a.m q) (wrote_nothing);
+          (a.e % k) a.m q) (wrote_nothing a.w a.table.now);
       kept = keeps (stays a.m (a.e / k) (a.e % k)) a.words.now _ q;
     }
 
@@ -63,7 +68,7 @@ new_word_requires c κs =
     let g = (start_from_else1 c.before.before).pre in
     record {
       kept = g.entry.kept;
-      room = room_less (omega (
+      room = room_less a.w _ _ (omega (
         arith,
         ap length (path_moved k (kept_of a.links.now k) (kept_of a.words.now k) a.p.digits a.w.wire
             (a.e / k) (a.e % k) a.m q),
@@ -86,6 +91,12 @@ ended c =
           (cut_most k a.p.digits a.m (a.e / k) (a.e % k)) a.m,
     )
 
+sub_words : tie.Need-overflow-sub-words
+sub_words c = omega (arith, ended c.before.before.before.before)
+
+sub_words_2 : tie.Need-overflow-sub-words-2
+sub_words_2 c = omega (arith, ended c.before.before.before.before)
+
 slice_write_words : tie.Need-slice-write-words
 slice_write_words c = omega (
   arith,
@@ -103,15 +114,37 @@ returns_2 c =
     let q = moves (else1_from_struct_known4 c) in
     let back : next.wire - a.p.digits - 1 ≡ next.wire - suc a.p.digits = omega arith in
     record {
-      wrote = wrote_as
+      wrote = wrote_as a.w a.table.now _ _ c.before.before.before.before.new_IsWord.new.1.0 next
           (path_moved k (kept_of a.links.now k) (kept_of a.words.now k) a.p.digits a.w.wire (a.e / k)
           (a.e % k) a.m q) c.before.before.before.before.new_IsWord.ensures;
       kept = stores (stays a.m (a.e / k) (a.e % k)) a.words.now _ _ q (ap (set a.words.now a.e) back);
     }
 
+stays_requires : tie.Need-stays-requires
+stays_requires c κs = search rules
+
+mul_words : tie.Need-overflow-mul-words
+mul_words c = search rules
+
+same_length : tie.Need-same-length
+same_length c = search rules
+
+same_length_2 : tie.Need-same-length-2
+same_length_2 c = search rules
+
 pub path_entry_spec : {M : Type 1} → statement M
 path_entry_spec =
-    tie.close (tie.spec div_i rem_j (λ c κs. search needs) returns new_word_requires
-    (λ c. omega (arith, ended c.before.before.before.before))
-    (λ c. omega (arith, ended c.before.before.before.before)) (λ c. search needs) slice_write_words
-    (λ c. search needs) (λ c. search needs) returns_2)
+    tie.close
+    (tie.spec
+    div_i
+    rem_j
+    stays_requires
+    returns
+    new_word_requires
+    sub_words
+    sub_words_2
+    mul_words
+    slice_write_words
+    same_length
+    same_length_2
+    returns_2)

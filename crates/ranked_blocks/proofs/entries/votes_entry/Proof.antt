@@ -1,7 +1,13 @@
 -- `ranked_blocks::entries::votes_entry` meets its contract: nothing on the diagonal, else a counter whose word is kept.
 -- Assumes nothing.
-use Rattle.basics.proofs.Common.{◌≡◌, ◌∙◌, sym, ap, suc, ◌+◌, ◌-◌, ◌*◌, ◌/◌, ◌%◌, ◌≤◌, arith, needs, eqb, length}
-use Rattle.basics.proofs.Common.{set, eq-eqb, ne_eqb}
+use mathlib.Core.Path.{◌≡◌, ◌∙◌, sym, ap}
+use mathlib.Core.List.{[]}
+use Prim.Native.Nat.{suc, ◌+◌, ◌-◌, ◌*◌, ◌/◌, ◌%◌, ◌≤◌}
+use native.Mathlib.Omega.{arith}
+use borrow.Author.Rules.{rules}
+use lib.Dec.{eqb}
+use lib.ListN.{length, set}
+use borrow.Author.Tests.{eq-eqb, ne_eqb}
 use Rattle.gate_words.specs.Word.{Below}
 use Rattle.gate_words.specs.Counter.{counter, count_size}
 use Rattle.gate_words.proofs.Laws.{length_counter}
@@ -17,9 +23,9 @@ returns c =
     let a = c.before.before.before.args in
     let k = a.p.candidates in
     record {
-      wrote = wrote_as
+      wrote = wrote_as a.w a.table.now [] _ a.table.now a.w
           (votes_kept k a.p.ballots a.p.digits a.w.wire (a.e / k) (a.e % k) c.if1.true)
-          (wrote_nothing);
+          (wrote_nothing a.w a.table.now);
       kept = keeps (eqb (a.e / k) (a.e % k)) a.words.now _ (eq-eqb (a.e / k) (a.e % k) c.if1.true);
     }
 
@@ -29,6 +35,12 @@ mul_counter c = omega (
   square_small c.before.before.before.before.args.p.candidates
       c.before.before.before.before.requires.ranked.k_most,
 )
+
+div_if1 : tie.Need-nonzero-div-if1
+div_if1 c = omega (arith, c.before.before.requires.ranked.k_least)
+
+rem_if1 : tie.Need-nonzero-rem-if1
+rem_if1 c = omega (arith, c.before.before.requires.ranked.k_least)
 
 bytes : (c : tie.Else1) → Below c.before.before.before.args.w.wire c.before.before.before.args.e
     (c.before.before.before.args.p.candidates * c.before.before.before.args.p.candidates)
@@ -60,7 +72,7 @@ counter_requires c κs =
     let a = c.before.before.before.before.args in
     let f = c.before.before.before.before.requires.ranked in
     record {
-      room = room_less (omega (arith, size c.before)) c.before.before.before.before.requires.room;
+      room = room_less a.w _ _ (omega (arith, size c.before)) c.before.before.before.before.requires.room;
       below = bytes c.before;
       near = omega (arith, square_small a.p.candidates f.k_most);
       few = omega (arith, f.n_most);
@@ -86,6 +98,12 @@ ended c =
       length_counter a.w.wire a.e (a.p.candidates * a.p.candidates) a.p.ballots 0 a.p.digits,
     )
 
+sub_words : tie.Need-overflow-sub-words
+sub_words c = omega (arith, ended c.before.before.before.before)
+
+sub_words_2 : tie.Need-overflow-sub-words-2
+sub_words_2 c = omega (arith, ended c.before.before.before.before)
+
 slice_write_words : tie.Need-slice-write-words
 slice_write_words c = omega (
   arith,
@@ -102,7 +120,7 @@ returns_2 c =
     let t = place k a.e (start_from_struct_known2 c).pre.ranked.k_most (start_from_struct_known2 c).pre.number in
     let back : next.wire - a.p.digits - 1 ≡ next.wire - suc a.p.digits = omega arith in
     record {
-      wrote = wrote_as
+      wrote = wrote_as a.w a.table.now _ _ c.before.before.before.before.counter.new.1.0 next
           (votes_moved k a.p.ballots a.p.digits a.w.wire (a.e / k) (a.e % k) a.e t.number
           (else1_from_struct_known2 c).if1.left) c.before.before.before.before.counter.ensures;
       kept = stores (eqb (a.e / k) (a.e % k)) a.words.now _ _
@@ -110,10 +128,28 @@ returns_2 c =
           (ap (set a.words.now a.e) back);
     }
 
+mul_words : tie.Need-overflow-mul-words
+mul_words c = search rules
+
+same_length : tie.Need-same-length
+same_length c = search rules
+
+same_length_2 : tie.Need-same-length-2
+same_length_2 c = search rules
+
 pub votes_entry_spec : {M : Type 1} → statement M
 votes_entry_spec =
-    tie.close (tie.spec (λ c. omega (arith, c.before.before.requires.ranked.k_least))
-    (λ c. omega (arith, c.before.before.requires.ranked.k_least)) returns mul_counter counter_requires
-    (λ c. omega (arith, ended c.before.before.before.before))
-    (λ c. omega (arith, ended c.before.before.before.before)) (λ c. search needs) slice_write_words
-    (λ c. search needs) (λ c. search needs) returns_2)
+    tie.close
+    (tie.spec
+    div_if1
+    rem_if1
+    returns
+    mul_counter
+    counter_requires
+    sub_words
+    sub_words_2
+    mul_words
+    slice_write_words
+    same_length
+    same_length_2
+    returns_2)

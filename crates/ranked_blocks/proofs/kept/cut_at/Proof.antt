@@ -1,9 +1,15 @@
 -- `ranked_blocks::kept::cut_at` meets its contract: one test after the other.
 -- Assumes nothing.
-use Rattle.basics.proofs.Common.{◌≡◌, ◌∙◌, sym, ap, ℕ, suc, ◌+◌, ◌-◌, ◌/◌, ◌<◌, add-one, arith}
+use mathlib.Core.Path.{◌≡◌, ◌∙◌, sym, ap}
+use Prim.Native.Nat.{ℕ, suc, ◌+◌, ◌-◌, ◌/◌, ◌<◌}
+use native.Mathlib.Numerals.{add-one}
+use native.Mathlib.Omega.{arith}
 use Rattle.ranked_blocks.proofs.Entering.{cut_last, cut_row, cut_column, cut_none}
 use Rattle.ranked_blocks.proofs.kept.cut_at.Statement.{statement}
 use Rattle.ranked_blocks.proofs.kept.cut_at.Tie as tie
+
+sub_if1 : tie.Need-overflow-sub-if1
+sub_if1 c = c.requires.some
 
 returns : tie.Need-returns
 returns c = let a = c.before.args in sym (cut_last a.k a.digits a.m a.i a.j c.if1.true)
@@ -15,9 +21,15 @@ half w = ap (λ (x : ℕ). x / 2) (add-one w)
 next : (c : tie.Else1) → c.before.args.m < c.before.args.k - 1
 next c = omega (arith, c.if1.false)
 
+add_result : tie.Need-overflow-add-result
+add_result c = omega (arith, c.before.before.requires.narrow)
+
 returns_2 : tie.Need-returns-2
 returns_2 c = let a = c.before.before.args in half a.digits
     ∙ sym (cut_row a.k a.digits a.m a.i a.j (next c.before) c.if2.true)
+
+add_result_2 : tie.Need-overflow-add-result-2
+add_result_2 c = omega (arith, c.before.before.before.requires.narrow)
 
 returns_3 : tie.Need-returns-3
 returns_3 c =
@@ -32,5 +44,4 @@ returns_4 c = let a = c.before.before.before.args in
 
 pub cut_at_spec : {M : Type 1} → statement M
 cut_at_spec =
-    tie.close (tie.spec (λ c. c.requires.some) returns (λ c. omega (arith, c.before.before.requires.narrow)) returns_2
-    (λ c. omega (arith, c.before.before.before.requires.narrow)) returns_3 returns_4)
+    tie.close (tie.spec sub_if1 returns add_result returns_2 add_result_2 returns_3 returns_4)

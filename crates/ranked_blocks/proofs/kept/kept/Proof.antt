@@ -1,6 +1,7 @@
 -- `ranked_blocks::kept::kept` meets its contract: the place of each pair of eight candidates is below 64.
 -- Assumes nothing.
-use Rattle.basics.proofs.Common.{arith, needs}
+use native.Mathlib.Omega.{arith}
+use borrow.Author.Rules.{rules}
 use Rattle.ranked_blocks.proofs.Entering.{index_small}
 use Rattle.ranked_blocks.proofs.kept.kept.Statement.{statement}
 use Rattle.ranked_blocks.proofs.kept.kept.Tie as tie
@@ -25,6 +26,10 @@ shared_slice_read_result c = omega (
   c.before.requires.long,
 )
 
+returns : tie.Need-returns
+returns c = search rules
+
 pub kept_spec : {M : Type 1} → statement M
 kept_spec =
-    tie.close (tie.spec mul_result add_result cast_result mul_result_2 shared_slice_read_result (λ c. search needs))
+    tie.close
+    (tie.spec mul_result add_result cast_result mul_result_2 shared_slice_read_result returns)

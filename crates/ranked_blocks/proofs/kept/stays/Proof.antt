@@ -1,7 +1,9 @@
 -- `ranked_blocks::kept::stays` meets its contract: one test after the other.
 -- Assumes nothing.
-use Rattle.basics.proofs.Common.{sym, ◌-◌, needs}
+use mathlib.Core.Path.{sym}
+use Prim.Native.Nat.{◌-◌}
 use Rattle.ranked_blocks.proofs.Entering.{diagonal_stays, zero_from, zero_to, zero_else, row_stays, column_stays}
+use borrow.Author.Rules.{rules}
 use Rattle.ranked_blocks.proofs.kept.stays.Statement.{statement}
 use Rattle.ranked_blocks.proofs.kept.stays.Tie as tie
 
@@ -32,7 +34,13 @@ returns_6 : tie.Need-returns-6
 returns_6 c = sym (column_stays c.before.before.before.args.m c.before.before.before.args.i
     c.before.before.before.args.j c.before.if2.false c.before.before.if1.false c.if5.false)
 
+sub_if5 : tie.Need-overflow-sub-if5
+sub_if5 c = search rules
+
+sub_result : tie.Need-overflow-sub-result
+sub_result c = search rules
+
 pub stays_spec : {M : Type 1} → statement M
 stays_spec =
     tie.close
-    (tie.spec returns returns_2 returns_3 returns_4 (λ c. search needs) returns_5 (λ c. search needs) returns_6)
+    (tie.spec returns returns_2 returns_3 returns_4 sub_if5 returns_5 sub_result returns_6)

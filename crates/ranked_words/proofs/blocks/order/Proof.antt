@@ -1,6 +1,9 @@
 -- `ranked_words::blocks::order` meets its contract: the differences, then the comparison.
 -- Assumes nothing.
-use Rattle.basics.proofs.Common.{◌≡◌, ap, ℕ, ◌+◌, arith, needs}
+use mathlib.Core.Path.{◌≡◌, ap}
+use Prim.Native.Nat.{ℕ, ◌+◌}
+use native.Mathlib.Omega.{arith}
+use borrow.Author.Rules.{rules}
 use Rattle.gate_words.specs.Comparison.{above}
 use Rattle.gate_words.proofs.Laws.{length_differences}
 use Rattle.ranked_circuit.specs.Blocks.{order}
@@ -9,6 +12,15 @@ use Rattle.ranked_words.proofs.blocks.order.Statement.{statement}
 use Rattle.ranked_words.proofs.blocks.order.Tie as tie
 use Rattle.gate_words.proofs.Standing.{wrote_then}
 
+add_differences : tie.Need-overflow-add-differences
+add_differences c = search rules
+
+add_differences_2 : tie.Need-overflow-add-differences-2
+add_differences_2 c = search rules
+
+differences_requires : tie.Need-differences-requires
+differences_requires c κs = search rules
+
 -- the writer after the differences
 differ : (c : tie.After-differences) → c.differences.result.wire ≡ c.before.before.before.args.w.wire
     + c.before.before.before.args.digits
@@ -16,6 +28,9 @@ differ c = behind c.before.before.before.args.w c.before.before.before.args.tabl
     c.differences.new.1.0 c.differences.result c.before.before.before.args.digits
     c.differences.ensures (length_differences (c.before.before.before.args.x + 1)
     (c.before.before.before.args.y + 1) c.before.before.before.args.digits)
+
+add_above : tie.Need-overflow-add-above
+add_above c = search rules
 
 -- The stages of the function, seen from later ones.
 abbrev start_from_above_arg : tie.After-above-arg → tie.Start
@@ -44,9 +59,15 @@ returns : tie.Need-returns
 unfolding order
 returns c =
     let a = (start_from_above c.before.before).args in
-    wrote_then (differences_from_slice_known3 c).differences.ensures c.before.before.above.ensures
+    wrote_then a.w a.table.now _
+    (differences_from_slice_known3 c).differences.last.1.0
+    (differences_from_slice_known3 c).differences.result _ _
+    c.before.before.above.new.1.0 c.before.before.above.result
+    (differences_from_slice_known3 c).differences.ensures c.before.before.above.ensures
     (ap (λ (n : ℕ). above n a.w.wire (a.x + 1) a.x a.digits) (differ (differences_from_slice_known3 c)))
 
+same_length : tie.Need-same-length
+same_length c = search rules
+
 pub order_spec : {M : Type 1} → statement M
-order_spec = tie.close (tie.spec (λ c. search needs) (λ c. search needs) (λ c κs. search needs) (λ c. search needs)
-    above_requires (λ c. search needs) returns)
+order_spec = tie.close (tie.spec add_differences add_differences_2 differences_requires add_above above_requires same_length returns)

@@ -1,7 +1,11 @@
 -- `ranked_words::blocks::order_cut` meets its contract: one chain, or the low digits, the high ones, and the gate
 -- that decides.
 -- Assumes nothing.
-use Rattle.basics.proofs.Common.{◌≡◌, ◌∙◌, refl, ap, ℕ, suc, ◌+◌, ◌-◌, ◌*◌, arith, needs}
+use mathlib.Core.Path.{◌≡◌, ◌∙◌, refl, ap}
+use mathlib.Core.List.{◌++◌}
+use Prim.Native.Nat.{ℕ, suc, ◌+◌, ◌-◌, ◌*◌}
+use native.Mathlib.Omega.{arith}
+use borrow.Author.Rules.{rules}
 use Rattle.gate_words.specs.Choice.{chain_end}
 use Rattle.gate_words.specs.Halves.{compare_halves, unequal_at, above_at}
 use Rattle.gate_words.proofs.Laws.{length_compare_halves}
@@ -35,7 +39,7 @@ order_requires : tie.Need-order-requires
 order_requires c κs =
     let s = c.before.before.before in
     record {
-      room = room_less (omega arith) s.requires.room;
+      room = room_less s.args.w _ _ (omega arith) s.requires.room;
       first_below = s.requires.first_below;
       second_below = s.requires.second_below;
     }
@@ -45,7 +49,8 @@ returns c =
     let o = c.before.before in
     let t = o.before.before in
     let a = t.before.before.args in
-    wrote_as (cut_zero a.w.wire a.x a.y a.digits a.cut t.if1.true) o.order.ensures
+    wrote_as a.w a.table.now _ _ o.order.new.1.0 o.order.result
+    (cut_zero a.w.wire a.x a.y a.digits a.cut t.if1.true) o.order.ensures
 
 -- two halves
 abbrev low_of : tie.Start → ℕ
@@ -53,6 +58,9 @@ low_of s = s.args.digits - s.args.cut
 
 some : (c : tie.Else1) → (start c).args.cut ≡ suc ((start c).args.cut - 1)
 some c = let n = c.if1.false in omega arith
+
+sub_low : tie.Need-overflow-sub-low
+sub_low c = (start c).requires.within
 
 add_chain_end : tie.Need-overflow-add-chain-end
 add_chain_end c = let s = start c.before in omega (arith, s.pre.room.small)
@@ -64,7 +72,7 @@ order_requires_2 : tie.Need-order-requires-2
 order_requires_2 c κs =
     let s = start c.before.before.before in
     record {
-      room = room_less (omega arith) s.pre.room;
+      room = room_less s.args.w _ _ (omega arith) s.pre.room;
       first_below = omega (arith, s.pre.first_below);
       second_below = omega (arith, s.pre.second_below);
     }
@@ -76,8 +84,9 @@ one c =
     let a = s.args in
     let e = some (tested c) in
     let q = s.pre.within in
-    stands_after c.order2.ensures (length_order a.w.wire a.x a.y (low_of s))
-    (stands refl (omega arith) s.pre.room)
+    stands_after a.w a.table.now _ c.order2.new.1.0 c.order2.result _ (2 * low_of s)
+    (3 * (a.cut - 1) + 2) c.order2.ensures (length_order a.w.wire a.x a.y (low_of s))
+    (stands a.w a.w.wire _ _ refl (omega arith) s.pre.room)
 
 add_high : tie.Need-overflow-add-high
 add_high c = let q = c.before.before in let s = start (tested q) in omega (arith, s.pre.room.small, s.pre.first_below)
@@ -114,7 +123,7 @@ compare_halves_requires c κs =
     let w = s.pre.within in
     let p = (one q).place in
     record {
-      room = room_less (omega arith) (one q).left;
+      room = room_less q.order2.result _ _ (omega arith) (one q).left;
       first_below = omega (arith, s.pre.first_below);
       second_below = omega (arith, s.pre.second_below);
     }
@@ -129,9 +138,13 @@ two c =
     let a = s.args in
     let h = a.cut - 1 in
     let t = one q in
-    stands_after c.compare-halves.ensures
+    stands_after q.order2.result q.order2.last.1.0 _ c.compare-halves.new.1.0
+    c.compare-halves.result _ (3 * h + 1) 1 c.compare-halves.ensures
     (length_compare_halves q.order2.result.wire (a.x + low_of s + 1) (a.y + low_of s + 1) h 0 ∙ omega arith)
-    (stands t.place (omega arith) t.left)
+    (stands q.order2.result _ _ _ t.place (omega arith) t.left)
+
+emit_requires : tie.Need-emit-requires
+emit_requires c κs = (two c.before.before.before).left
 
 same_high : (n x y h n₁ x₁ y₁ : ℕ) → n ≡ n₁ → x ≡ x₁ → y ≡ y₁ → compare_halves n x y h 0 ≡ compare_halves n₁ x₁ y₁ h 0
 same_high n x y h n₁ x₁ y₁ en ex ey = rw (en, ex, ey)
@@ -155,18 +168,48 @@ returns_2 c =
     let p = (one q).place in
     let X : a.x + l + 1 ≡ a.x + suc l = omega arith in
     let Y : a.y + l + 1 ≡ a.y + suc l = omega arith in
-    wrote_as (cut_some n a.x a.y a.digits a.cut l h (some t) refl) (wrote_then
-    (wrote_then q.order2.ensures z.compare-halves.ensures
+    wrote_as a.w a.table.now _ _ d.emit.new.1.0 d.emit.result
+    (cut_some n a.x a.y a.digits a.cut l h (some t) refl)
+    (wrote_then a.w a.table.now
+    (order n a.x a.y l ++ compare_halves (n + 2 * l) (a.x + suc l) (a.y + suc l) h 0)
+    z.compare-halves.last.1.0 z.compare-halves.result _ _ d.emit.new.1.0 d.emit.result
+    (wrote_then a.w a.table.now (order n a.x a.y l) q.order2.last.1.0 q.order2.result _ _
+    z.compare-halves.last.1.0 z.compare-halves.result q.order2.ensures z.compare-halves.ensures
     (same_high N (a.x + l + 1) (a.y + l + 1) h (n + 2 * l) (a.x + suc l) (a.y + suc l) p X Y))
-    (mux_wrote d.emit.ensures) (one_gate 7 (f.before.unequal_at.ensures ∙ ap (λ (m : ℕ). unequal_at m h) p)
+    (mux_wrote z.compare-halves.result z.compare-halves.last.1.0 d.emit.new.1.0 d.emit.result
+    f.before.unequal_at.result f.above_at.result q.before.before.chain-end.result d.emit.ensures)
+    (one_gate 7 (f.before.unequal_at.ensures ∙ ap (λ (m : ℕ). unequal_at m h) p)
     (f.above_at.ensures ∙ ap (λ (m : ℕ). above_at m (a.x + l + 1) h) p
     ∙ ap (λ (m : ℕ). above_at (n + 2 * l) m h) X)
     (end_is n a.x l q.before.before.chain-end.result q.before.before.chain-end.ensures)))
 
+same_length : tie.Need-same-length
+same_length c = search rules
+
+same_length_2 : tie.Need-same-length-2
+same_length_2 c = search rules
+
 pub order_cut_spec : {M : Type 1} → statement M
 order_cut_spec =
     tie.close
-    (tie.spec order_requires (λ c. search needs) returns (λ c. (start c).requires.within) add_chain_end chain_end_requires
-    order_requires_2 add_high add_high_2 sub_unequal_at unequal_at_requires sub_above_at above_at_requires
-    add_compare_halves add_compare_halves_2 sub_compare_halves compare_halves_requires
-    (λ c κs. (two c.before.before.before).left) (λ c. search needs) returns_2)
+    (tie.spec
+    order_requires
+    same_length
+    returns
+    sub_low
+    add_chain_end
+    chain_end_requires
+    order_requires_2
+    add_high
+    add_high_2
+    sub_unequal_at
+    unequal_at_requires
+    sub_above_at
+    above_at_requires
+    add_compare_halves
+    add_compare_halves_2
+    sub_compare_halves
+    compare_halves_requires
+    emit_requires
+    same_length_2
+    returns_2)

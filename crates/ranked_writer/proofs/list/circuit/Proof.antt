@@ -1,7 +1,11 @@
 -- `ranked_writer::list::circuit` meets its contract: the paths, the contests, who loses, and the output gates.
 -- Assumes nothing.
-use Rattle.basics.proofs.Common.{◌≡◌, ◌∙◌, refl, sym, ap, List, ◌++◌, append_assoc, ℕ, suc, ◌+◌, ◌-◌, ◌*◌, ◌≤◌, arith}
-use Rattle.basics.proofs.Common.{needs, length, length-append}
+use mathlib.Core.Path.{◌≡◌, ◌∙◌, refl, sym, ap}
+use mathlib.Core.List.{List, ◌++◌, append_assoc}
+use Prim.Native.Nat.{ℕ, suc, ◌+◌, ◌-◌, ◌*◌, ◌≤◌}
+use native.Mathlib.Omega.{arith}
+use borrow.Author.Rules.{rules}
+use lib.ListN.{length, length-append}
 use Rattle.gates.specs.Gate.{Gate}
 use Rattle.gate_words.specs.Writing.{Room}
 use Rattle.gate_words.proofs.Writing.{room_less, room_after, wrote_as, wrote_both}
@@ -64,7 +68,7 @@ path_tables_requires c κs =
     let a = s.args in
     record {
       ranked = s.requires.ranked;
-      room = room_less (omega (arith, (known a.p s.requires.many).long)) s.requires.room;
+      room = room_less a.w _ _ (omega (arith, (known a.p s.requires.many).long)) s.requires.room;
       place = s.requires.place;
       words_long = refl;
     }
@@ -89,14 +93,15 @@ room_met c =
     let s = start c in
     let a = s.args in
     let h = c.path-tables in
-    room_after h.ensures.wrote (omega (arith, (known a.p s.pre.many).long)) s.pre.room
+    room_after a.w a.table.now _ h.new.1.0 h.result _ _ h.ensures.wrote
+    (omega (arith, (known a.p s.pre.many).long)) s.pre.room
 
 contests_requires : tie.Need-contests-requires
 contests_requires c κs =
     let q = (path_tables_from_beats c) in
     record {
       ranked = (start q).pre.ranked;
-      room = room_less (omega arith) (room_met q);
+      room = room_less q.path-tables.result _ _ (omega arith) (room_met q);
       place = paths_end q;
       paths = q.path-tables.ensures.kept;
       long = refl;
@@ -128,14 +133,15 @@ room_rows : (c : tie.After-contests)
 room_rows c =
     let h = (pathed c).path-tables in
     let m = c.contests in
-    room_after m.ensures.wrote (omega (arith, both_long (start (pathed c)).args.p)) (room_met (pathed c))
+    room_after h.result h.last.1.0 _ m.new.1.0 m.result _ _ m.ensures.wrote
+    (omega (arith, both_long (start (pathed c)).args.p)) (room_met (pathed c))
 
 loser_rows_requires : tie.Need-loser-rows-requires
 loser_rows_requires c κs =
     let q = (contests_from_beats3 c) in
     let s = start (pathed q) in
     record {
-      room = room_less (omega arith) (room_rows q);
+      room = room_less q.contests.result _ _ (omega arith) (room_rows q);
       k_least = s.pre.ranked.k_least;
       k_most = s.pre.ranked.k_most;
       long = q.contests.ensures.kept.long;
@@ -160,7 +166,7 @@ output_gates_requires c κs =
     let r = q.loser-rows in
     let e = rows_size q in
     record {
-      room = room_after r.ensures (omega (arith, e)) (room_rows (met q));
+      room = room_after l.result l.last.1.0 _ r.new.1.0 r.result _ _ r.ensures (omega (arith, e)) (room_rows (met q));
       k_least = s.pre.ranked.k_least;
       k_most = s.pre.ranked.k_most;
       long = l.ensures.kept.long;
@@ -204,10 +210,15 @@ returns c =
     let met = duels k n w ++ meetings k n w in
     let rows = loser_rows (beats_at k n w) (k - 2) (losers_from k n w) k in
     let outputs = output_gates (beats_at k n w) (k - 2) (losers_from k n w) k in
-    wrote_as (grouped k n w (k - 2) (omega (arith, s.pre.many)) two) (wrote_both
-    (wrote_both (wrote_both h.ensures.wrote l.ensures.wrote)
-    (wrote_as (rows_are k n w bs l.result.wire two l.ensures.kept (losers_start x)) r.ensures))
-    (wrote_as (outputs_are k n w bs l.result.wire two l.ensures.kept (losers_start x)) o.ensures))
+    wrote_as a.w a.table.now _ _ o.new.1.0 o.result (grouped k n w (k - 2) (omega (arith, s.pre.many)) two)
+    (wrote_both a.w a.table.now (paths ++ met ++ rows) r.last.1.0 r.result outputs o.new.1.0 o.result
+    (wrote_both a.w a.table.now (paths ++ met) l.last.1.0 l.result rows r.last.1.0 r.result
+    (wrote_both a.w a.table.now paths h.last.1.0 h.result met l.last.1.0 l.result
+    h.ensures.wrote l.ensures.wrote)
+    (wrote_as l.result l.last.1.0 _ rows r.last.1.0 r.result
+    (rows_are k n w bs l.result.wire two l.ensures.kept (losers_start x)) r.ensures))
+    (wrote_as r.result r.last.1.0 _ outputs o.new.1.0 o.result
+    (outputs_are k n w bs l.result.wire two l.ensures.kept (losers_start x)) o.ensures))
   where
     -- the contests as one part
     grouped : (k n w r : ℕ) → 1 ≤ r → k ≡ suc (suc r) →
@@ -220,8 +231,36 @@ returns c =
         (sym (append_assoc (paths_to k n w k).gates (duels k n w) (meetings k n w)))
         ∙ sym (list_parts k n w r h e)
 
+slice_aggregate_path_tables : tie.Need-slice-aggregate-path-tables
+slice_aggregate_path_tables c = search rules
+
+slice_aggregate_contests : tie.Need-slice-aggregate-contests
+slice_aggregate_contests c = search rules
+
+slice_aggregate_contests_2 : tie.Need-slice-aggregate-contests-2
+slice_aggregate_contests_2 c = search rules
+
+slice_aggregate_loser_rows : tie.Need-slice-aggregate-loser-rows
+slice_aggregate_loser_rows c = search rules
+
+slice_aggregate_output_gates : tie.Need-slice-aggregate-output-gates
+slice_aggregate_output_gates c = search rules
+
+same_length : tie.Need-same-length
+same_length c = search rules
+
 pub circuit_spec : {M : Type 1} → statement M
 circuit_spec =
     tie.close
-    (tie.spec (λ c. search needs) path_tables_requires (λ c. search needs) (λ c. search needs) contests_requires
-    (λ c. search needs) loser_rows_requires (λ c. search needs) output_gates_requires (λ c. search needs) returns)
+    (tie.spec
+    slice_aggregate_path_tables
+    path_tables_requires
+    slice_aggregate_contests
+    slice_aggregate_contests_2
+    contests_requires
+    slice_aggregate_loser_rows
+    loser_rows_requires
+    slice_aggregate_output_gates
+    output_gates_requires
+    same_length
+    returns)

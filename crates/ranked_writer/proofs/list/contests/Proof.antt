@@ -1,6 +1,11 @@
 -- `ranked_writer::list::contests` meets its contract: the duels, then the meetings.
 -- Assumes nothing.
-use Rattle.basics.proofs.Common.{◌≡◌, ◌∙◌, ◌-◌, arith, ap, needs, length}
+use mathlib.Core.Path.{◌≡◌, ◌∙◌}
+use Prim.Native.Nat.{◌-◌}
+use native.Mathlib.Omega.{arith}
+use mathlib.Core.Path.{ap}
+use borrow.Author.Rules.{rules}
+use lib.ListN.{length}
 use Rattle.gate_words.proofs.Writing.{room_less, room_after, wrote_as, wrote_both}
 use Rattle.ranked_circuit.specs.Table.{table}
 use Rattle.ranked_circuit.specs.Stages.{links_block}
@@ -55,7 +60,7 @@ links_table_requires c κs =
     let s = (start_from_struct_known c) in
     record {
       kept = record { ranked = s.pre.ranked; words_long = s.pre.paths.long; wires_long = s.pre.long; below = below s };
-      room = room_less (omega (arith, ap length (same s))) s.pre.room;
+      room = room_less s.args.w _ _ (omega (arith, ap length (same s))) s.pre.room;
     }
 
 -- the writer after the duels, and the meetings there
@@ -100,7 +105,8 @@ meetings_table_requires c κs =
         wires_long = l.ensures.kept.long;
         below = λ i j hi hj ne. omega (arith, below s i j hi hj ne);
       };
-      room = room_after l.ensures.wrote (omega (arith, ap length (same s), ap length (met q))) s.pre.room;
+      room = room_after a.w a.table.now _ l.last.1.0 l.result _ _ l.ensures.wrote
+          (omega (arith, ap length (same s), ap length (met q))) s.pre.room;
     }
 
 returns : tie.Need-returns
@@ -117,11 +123,18 @@ returns c =
     let m = d.meetings-table in
     record {
       wrote =
-          wrote_both (wrote_as (same s) l.ensures.wrote) (wrote_as (met q) m.ensures.wrote);
+          wrote_both a.w a.table.now (duels k n w) l.last.1.0 l.result (meetings k n w) m.last.1.0 m.result
+          (wrote_as a.w a.table.now _ (duels k n w) l.last.1.0 l.result (same s) l.ensures.wrote)
+          (wrote_as l.result l.last.1.0 _ (meetings k n w) m.last.1.0 m.result (met q) m.ensures.wrote);
       kept = beats_kept k n w a.words.now s.pre.paths a.w.wire s.pre.place l.last.1.1.1.0
           a.beats.now l.ensures.kept l.result.wire m.last.1.1.1.0 (stands q) m.ensures.kept;
     }
 
+same_length : tie.Need-same-length
+same_length c = search rules
+
+same_length_2 : tie.Need-same-length-2
+same_length_2 c = search rules
+
 pub contests_spec : {M : Type 1} → statement M
-contests_spec = tie.close (tie.spec sub_links_table links_table_requires meetings_table_requires (λ c. search needs)
-    (λ c. search needs) returns)
+contests_spec = tie.close (tie.spec sub_links_table links_table_requires meetings_table_requires same_length same_length_2 returns)

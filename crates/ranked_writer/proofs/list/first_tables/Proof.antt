@@ -1,6 +1,10 @@
 -- `ranked_writer::list::first_tables` meets its contract: the numbers of ballots, then the links.
 -- Assumes nothing.
-use Rattle.basics.proofs.Common.{◌≡◌, ◌∙◌, sym, ap, subst, ℕ, ◌+◌, ◌-◌, ◌*◌, arith, needs, length, length-append}
+use mathlib.Core.Path.{◌≡◌, ◌∙◌, sym, ap, subst}
+use Prim.Native.Nat.{ℕ, ◌+◌, ◌-◌, ◌*◌}
+use native.Mathlib.Omega.{arith}
+use borrow.Author.Rules.{rules}
+use lib.ListN.{length, length-append}
 use Rattle.gate_words.proofs.Writing.{room_less, room_after, wrote_as, wrote_both}
 use Rattle.ranked_circuit.specs.Table.{table}
 use Rattle.ranked_circuit.specs.Stages.{votes_block, links_block}
@@ -47,7 +51,7 @@ votes_table_requires c κs =
     let q = (start_from_votes_table_arg2 c).pre in
     record {
       ranked = (start_from_votes_table_arg2 c).pre.ranked;
-      room = room_less (omega (
+      room = room_less a.w _ _ (omega (
         arith,
         ap length (votes_from p.candidates p.ballots p.digits a.w.wire q.place),
         long p.candidates p.ballots p.digits,
@@ -111,13 +115,14 @@ links_table_requires c κs =
         below = votes_kept_below p.candidates p.ballots p.digits v.result.wire v.last.1.1.0
             (stands (votes_table_from_links_table_arg3 c)) k;
       };
-      room = room_after v.ensures.wrote (omega (
-        arith,
-        ap length (votes_from p.candidates p.ballots p.digits a.w.wire
-            (start_from_links_table_arg3 c).pre.place),
-        long p.candidates p.ballots p.digits,
-        ap length (same (votes_table_from_links_table_arg3 c)),
-      )) (start_from_links_table_arg3 c).pre.room;
+      room = room_after a.w a.table.now _ v.last.1.0 v.result _ _ v.ensures.wrote
+          (omega (
+            arith,
+            ap length (votes_from p.candidates p.ballots p.digits a.w.wire
+                (start_from_links_table_arg3 c).pre.place),
+            long p.candidates p.ballots p.digits,
+            ap length (same (votes_table_from_links_table_arg3 c)),
+          )) (start_from_links_table_arg3 c).pre.room;
     }
 
 returns : tie.Need-returns
@@ -129,10 +134,16 @@ returns c =
     let words = (paths_to p.candidates p.ballots p.digits 0).words in
     let from = links_from p.candidates p.ballots p.digits in
     record {
-      wrote = wrote_as (sym (first_parts p.candidates p.ballots p.digits))
-          (wrote_both (wrote_as (votes_from p.candidates p.ballots p.digits a.w.wire
+      wrote = wrote_as a.w a.table.now _ _ l.new.1.0 l.result (sym (first_parts p.candidates p.ballots p.digits))
+          (wrote_both a.w a.table.now
+          (table (p.ballots * p.candidates * p.candidates) p.candidates
+          (votes_block p.candidates p.ballots p.digits)) v.last.1.0 v.result _ l.new.1.0
+          l.result
+          (wrote_as a.w a.table.now _ _ v.last.1.0 v.result
+          (votes_from p.candidates p.ballots p.digits a.w.wire
           (start_from_links c.before).pre.place) v.ensures.wrote)
-          (wrote_as (same (votes_table_from_links c.before)) l.ensures.wrote));
+          (wrote_as v.result v.last.1.0 _ _ l.new.1.0 l.result
+          (same (votes_table_from_links c.before)) l.ensures.wrote));
       words_kept = kept (votes_table_from_links c.before);
       links_kept = subst (λ (f : ℕ → ℕ → ℕ). Keeps p.candidates l.new.1.1.1.0 f)
           (link_wire_is p.candidates p.ballots p.digits)
@@ -141,6 +152,14 @@ returns c =
           (kept_of a.links.now p.candidates) (stands (votes_table_from_links c.before)) l.ensures.kept);
     }
 
+same_length : tie.Need-same-length
+same_length c = search rules
+
+same_length_2 : tie.Need-same-length-2
+same_length_2 c = search rules
+
+same_length_3 : tie.Need-same-length-3
+same_length_3 c = search rules
+
 pub first_tables_spec : {M : Type 1} → statement M
-first_tables_spec = tie.close (tie.spec votes_table_requires links_table_requires (λ c. search needs)
-    (λ c. search needs) (λ c. search needs) returns)
+first_tables_spec = tie.close (tie.spec votes_table_requires links_table_requires same_length same_length_2 same_length_3 returns)

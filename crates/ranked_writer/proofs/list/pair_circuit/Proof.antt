@@ -1,7 +1,11 @@
 -- `ranked_writer::list::pair_circuit` meets its contract: the links, then who has no link against it.
 -- Assumes nothing.
-use Rattle.basics.proofs.Common.{◌≡◌, ◌∙◌, refl, sym, ap, List, ℕ, suc, ◌+◌, ◌-◌, ◌*◌, arith, needs, length}
-use Rattle.basics.proofs.Common.{length-append}
+use mathlib.Core.Path.{◌≡◌, ◌∙◌, refl, sym, ap}
+use mathlib.Core.List.{List}
+use Prim.Native.Nat.{ℕ, suc, ◌+◌, ◌-◌, ◌*◌}
+use native.Mathlib.Omega.{arith}
+use borrow.Author.Rules.{rules}
+use lib.ListN.{length, length-append}
 use Rattle.gate_words.proofs.Writing.{room_less, room_after, wrote_as, wrote_both}
 use Rattle.ranked_circuit.specs.Paths.{link_wire, paths_to}
 use Rattle.ranked_circuit.specs.RankedList.{output_gates, ranked_list}
@@ -38,7 +42,7 @@ first_tables_requires c κs =
     let a = c.before.before.before.before.args in
     record {
       ranked = c.before.before.before.before.requires.ranked;
-      room = room_less (omega (arith, long a.p c.before.before.before.before.requires.two))
+      room = room_less a.w _ _ (omega (arith, long a.p c.before.before.before.before.requires.two))
           c.before.before.before.before.requires.room;
       place = c.before.before.before.before.requires.place;
       links_long = refl;
@@ -62,7 +66,8 @@ output_gates_requires c κs =
     let a = s.args in
     let f = done.first-tables in
     record {
-      room = room_after f.ensures.wrote (omega (arith, long a.p s.pre.two)) s.pre.room;
+      room = room_after a.w a.table.now _ f.new.1.0 f.result _ _ f.ensures.wrote
+          (omega (arith, long a.p s.pre.two)) s.pre.room;
       k_least = s.pre.ranked.k_least;
       k_most = s.pre.ranked.k_most;
       long = f.ensures.links_kept.long;
@@ -85,13 +90,28 @@ returns c =
     let f = (first_tables_from_output_gates c.before.before).first-tables in
     let o = c.before.before.output-gates in
     let outputs = output_gates (link_wire k p.ballots p.digits) (k - 2) (end_of k p.ballots p.digits 0) k in
-    wrote_as (sym (pair_parts k p.ballots p.digits (start_from_output_gates c.before.before).pre.two))
-    (wrote_both f.ensures.wrote
-    (wrote_as (outputs_are k p.ballots p.digits f.last.1.1.0 f.result.wire
+    wrote_as a.w a.table.now _ _ o.new.1.0 o.result
+    (sym (pair_parts k p.ballots p.digits (start_from_output_gates c.before.before).pre.two))
+    (wrote_both a.w a.table.now (paths_to k p.ballots p.digits 0).gates f.last.1.0 f.result
+    outputs o.new.1.0 o.result f.ensures.wrote
+    (wrote_as f.result f.last.1.0 _ outputs o.new.1.0 o.result
+    (outputs_are k p.ballots p.digits f.last.1.1.0 f.result.wire
     (start_from_output_gates c.before.before).pre.two f.ensures.links_kept
     (omega (arith, f.ensures.wrote.wires, (start_from_output_gates c.before.before).pre.place)))
     o.ensures))
 
+slice_aggregate_first_tables : tie.Need-slice-aggregate-first-tables
+slice_aggregate_first_tables c = search rules
+
+slice_aggregate_first_tables_2 : tie.Need-slice-aggregate-first-tables-2
+slice_aggregate_first_tables_2 c = search rules
+
+slice_aggregate_output_gates : tie.Need-slice-aggregate-output-gates
+slice_aggregate_output_gates c = search rules
+
+same_length : tie.Need-same-length
+same_length c = search rules
+
 pub pair_circuit_spec : {M : Type 1} → statement M
-pair_circuit_spec = tie.close (tie.spec (λ c. search needs) (λ c. search needs) first_tables_requires
-    (λ c. search needs) output_gates_requires (λ c. search needs) returns)
+pair_circuit_spec = tie.close (tie.spec slice_aggregate_first_tables slice_aggregate_first_tables_2
+    first_tables_requires slice_aggregate_output_gates output_gates_requires same_length returns)

@@ -1,7 +1,12 @@
 -- `ranked_writer::list::path_tables` meets its contract: one stage after the other.
 -- Assumes nothing.
-use Rattle.basics.proofs.Common.{◌≡◌, ◌∙◌, refl, sym, ap, subst, List, [], ◌++◌, ℕ, suc, ◌+◌, ◌-◌, ◌≤◌, add-one, arith}
-use Rattle.basics.proofs.Common.{needs, length}
+use mathlib.Core.Path.{◌≡◌, ◌∙◌, refl, sym, ap, subst}
+use mathlib.Core.List.{List, [], ◌++◌}
+use Prim.Native.Nat.{ℕ, suc, ◌+◌, ◌-◌, ◌≤◌}
+use native.Mathlib.Numerals.{add-one}
+use native.Mathlib.Omega.{arith}
+use borrow.Author.Rules.{rules}
+use lib.ListN.{length}
 use Rattle.gates.specs.Gate.{Gate}
 use Rattle.gate_words.specs.Writing.{Wrote}
 use Rattle.gate_words.proofs.Writing.{room_less, room_after, wrote_nothing, wrote_as, wrote_both}
@@ -80,10 +85,11 @@ first_tables_requires c κs =
     let p = a.p in
     record {
       ranked = (start_from_first_tables_arg2 c).pre.ranked;
-      room = room_less (omega (
+      room = room_less a.w _ _ (omega (
         arith,
         stages_long p.candidates p.ballots p.digits p.candidates,
-      )) (start_from_first_tables_arg2 c).pre.room;
+      ))
+          (start_from_first_tables_arg2 c).pre.room;
       place = (start_from_first_tables_arg2 c).pre.place;
       links_long = refl;
       words_long = (start_from_first_tables_arg2 c).pre.words_long;
@@ -100,7 +106,7 @@ loop_holds c =
       omega arith,
       f.ensures.links_kept,
       omega (arith, f.ensures.wrote.wires, (start_from_words c.before).pre.place),
-      wrote_as (sym (nothing p)) (wrote_nothing),
+      wrote_as f.result f.last.1.0 _ _ f.last.1.0 f.result (sym (nothing p)) (wrote_nothing f.result f.last.1.0),
       f.ensures.words_kept,
     )
 
@@ -114,7 +120,8 @@ same : (c : tie.Then1 invariant_loop decreases_loop)
     (start_from_then1 c).args.p.digits c.before.before.loop.m)
     ≡ table (end_of (start_from_then1 c).args.p.candidates (start_from_then1 c).args.p.ballots
     (start_from_then1 c).args.p.digits c.before.before.loop.m)
-    (start_from_then1 c).args.p.candidates (path_block (start_from_then1 c).args.p.candidates
+    (start_from_then1 c).args.p.candidates
+    (path_block (start_from_then1 c).args.p.candidates
     (link_wire (start_from_then1 c).args.p.candidates (start_from_then1 c).args.p.ballots
     (start_from_then1 c).args.p.digits)
     (words_at (start_from_then1 c).args.p c.before.before.loop.m)
@@ -132,8 +139,8 @@ path_table_requires c κs =
     let p = a.p in
     let l = (loop_reached_from_path_table_arg2 c).loop in
     let f = (first_tables_from_links3 c.before).first-tables in
-    let room₀ = room_after {m = length (stages p p.candidates)} f.ensures.wrote
-    (omega (arith, stages_long p.candidates p.ballots p.digits p.candidates))
+    let room₀ = room_after a.w a.table.now _ f.last.1.0 f.result (length (stages p p.candidates))
+    _ f.ensures.wrote (omega (arith, stages_long p.candidates p.ballots p.digits p.candidates))
     (start_from_links3 c.before).pre.room in
     let grow = stages_grow p.candidates p.ballots p.digits p.candidates (suc l.m)
     c.before.before.before.if1.true in
@@ -146,13 +153,17 @@ path_table_requires c κs =
           wires_long = l.inv.1.long;
           below = kept_below p.candidates p.ballots p.digits l.m l.words l.next.wire l.inv.4 l.inv.2;
         };
-        room = room_after l.inv.3 (omega (arith, ap length (same c.before.before.before), grow, next)) room₀;
+        room = room_after f.result f.last.1.0 _ l.table l.next _ _ l.inv.3
+            (omega (arith, ap length (same c.before.before.before), grow, next)) room₀;
       };
       stage = omega (arith, c.before.before.before.if1.true);
     }
 
 add_m : tie.Need-overflow-add-m invariant_loop decreases_loop
 add_m c = omega (arith, (then1_from_words2 c.before).if1.taken, (start_from_words2 c.before).pre.ranked.k_most)
+
+loop_less : tie.Need-loop-smaller invariant_loop decreases_loop
+loop_less c = omega (arith, (then1_from_words2 c.before).if1.taken)
 
 stages_are : (p : Ranks) (m : ℕ) → stages p m
     ++ table (end_of p.candidates p.ballots p.digits m) p.candidates
@@ -178,8 +189,10 @@ loop_again c =
         l.inv.2,
       )
           ∙ ap (end_of p.candidates p.ballots p.digits) (sym e),
-      wrote_as (stages_are p l.m ∙ ap (stages p) (sym e))
-          (wrote_both l.inv.3 (wrote_as (same (then1_from_words2 c.before)) h.ensures.wrote)),
+      wrote_as f.result f.last.1.0 _ _ h.new.1.0 h.result (stages_are p l.m ∙ ap (stages p) (sym e))
+          (wrote_both f.result f.last.1.0 (stages p l.m) l.table l.next _ h.new.1.0
+          h.result l.inv.3 (wrote_as l.next l.table _ _ h.new.1.0 h.result
+          (same (then1_from_words2 c.before)) h.ensures.wrote)),
       subst (λ (x : ℕ). Keeps p.candidates h.new.1.1.1.0 (words_at p x)) (sym e)
           (stage_words p.candidates p.ballots p.digits l.m
           (omega (arith, (then1_from_words2 c.before).if1.taken)) f.last.1.1.0 l.words l.inv.1
@@ -200,13 +213,20 @@ returns c =
     let f = (first_tables_from_else1 c).first-tables in
     let all : l.m ≡ p.candidates = omega (arith, c.if1.false, l.invariant.0) in
     record {
-      wrote = wrote_as (sym (stages_split p.candidates p.ballots p.digits l.m)
+      wrote = wrote_as a.w a.table.now _ _ l.table l.next
+          (sym (stages_split p.candidates p.ballots p.digits l.m)
           ∙ ap (λ (x : ℕ). (paths_to p.candidates p.ballots p.digits x).gates) all)
-          (wrote_both f.ensures.wrote l.invariant.3);
+          (wrote_both a.w a.table.now (paths_to p.candidates p.ballots p.digits 0).gates
+          f.last.1.0 f.result (stages p l.m) l.table l.next f.ensures.wrote l.invariant.3);
       kept = subst (λ (x : ℕ). Keeps p.candidates l.words (words_at p x)) all l.invariant.4;
     }
 
+slice_aggregate_first_tables : tie.Need-slice-aggregate-first-tables invariant_loop decreases_loop
+slice_aggregate_first_tables c = search rules
+
+slice_aggregate_path_table : tie.Need-slice-aggregate-path-table invariant_loop decreases_loop
+slice_aggregate_path_table c = search rules
+
 pub path_tables_spec : {M : Type 1} → statement M
-path_tables_spec = tie.close (tie.spec invariant_loop decreases_loop (λ c. search needs) first_tables_requires loop_holds
-    (λ c. search needs) path_table_requires add_m (λ c. omega (arith, (then1_from_words2 c.before).if1.taken))
-    loop_again same_length same_length_2 returns)
+path_tables_spec = tie.close (tie.spec invariant_loop decreases_loop slice_aggregate_first_tables first_tables_requires loop_holds
+    slice_aggregate_path_table path_table_requires add_m loop_less loop_again same_length same_length_2 returns)

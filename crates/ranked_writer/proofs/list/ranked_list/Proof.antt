@@ -1,7 +1,12 @@
 -- `ranked_writer::list::ranked_list` meets its contract: one gate for a single candidate, else the circuit.
 -- Assumes nothing.
-use Rattle.basics.proofs.Common.{◌≡◌, ◌∙◌, refl, sym, ap, subst, List, [], ◌∷◌, ℕ, ◌-◌, ◌*◌, ◌≤◌, mul-le-mul, arith}
-use Rattle.basics.proofs.Common.{needs, length}
+use mathlib.Core.Path.{◌≡◌, ◌∙◌, refl, sym, ap, subst}
+use mathlib.Core.List.{List, [], ◌∷◌}
+use Prim.Native.Nat.{ℕ, ◌-◌, ◌*◌, ◌≤◌}
+use native.Mathlib.Nat.{mul-le-mul}
+use native.Mathlib.Omega.{arith}
+use borrow.Author.Rules.{rules}
+use lib.ListN.{length}
 use Rattle.gates.specs.Gate.{Gate}
 use Rattle.gate_words.specs.Gates.{constant}
 use Rattle.gate_words.specs.Counter.{Countable}
@@ -96,8 +101,10 @@ returns c =
     let e = c.before.before.emit in
     subst (λ (v : Writer). Wrote v a.table.now (own_ranking a.candidates a.ballots) e.new.1.0
     e.result) (new_from_slice_known2 c).new.ensures
-    (wrote_as (single a.candidates a.ballots c.before.before.before.before.if1.true)
-    (constant_wrote 0 0 0 1 e.ensures))
+    (wrote_as (new_from_slice_known2 c).new.result a.table.now _ _ e.new.1.0 e.result
+    (single a.candidates a.ballots c.before.before.before.before.if1.true)
+    (constant_wrote (new_from_slice_known2 c).new.result a.table.now e.new.1.0 e.result 0 0 0 1
+    e.ensures))
 
 cast_digits : tie.Need-overflow-cast-digits
 cast_digits c = omega (
@@ -200,7 +207,8 @@ returns_2 c =
     let e = c.before.before.pair-circuit in
     subst (λ (v : Writer). Wrote v a.table.now (own_ranking a.candidates a.ballots) e.new.1.0
     e.result) (new_from_pair_circuit c.before.before).new.ensures
-    (wrote_as (same_list (width_from_slice_known3 c)) e.ensures)
+    (wrote_as (new_from_pair_circuit c.before.before).new.result a.table.now _ _ e.new.1.0
+    e.result (same_list (width_from_slice_known3 c)) e.ensures)
 
 returns_3 : tie.Need-returns-3
 returns_3 c =
@@ -208,9 +216,25 @@ returns_3 c =
     let e = c.before.before.circuit in
     subst (λ (v : Writer). Wrote v a.table.now (own_ranking a.candidates a.ballots) e.new.1.0
     e.result) (new_from_circuit c.before.before).new.ensures
-    (wrote_as (same_list (width_from_slice_known4 c)) e.ensures)
+    (wrote_as (new_from_circuit c.before.before).new.result a.table.now _ _ e.new.1.0
+    e.result (same_list (width_from_slice_known4 c)) e.ensures)
+
+new_requires : tie.Need-new-requires
+new_requires c κs = search rules
+
+same_length : tie.Need-same-length
+same_length c = search rules
+
+width_requires : tie.Need-width-requires
+width_requires c κs = search rules
+
+same_length_2 : tie.Need-same-length-2
+same_length_2 c = search rules
+
+same_length_3 : tie.Need-same-length-3
+same_length_3 c = search rules
 
 pub ranked_list_spec : {M : Type 1} → statement M
-ranked_list_spec = tie.close (tie.spec mul_new mul_new_2 (λ c κs. search needs) emit_requires (λ c. search needs)
-    returns (λ c κs. search needs) cast_digits sub_digits pair_circuit_requires (λ c. search needs) returns_2
-    circuit_requires (λ c. search needs) returns_3)
+ranked_list_spec = tie.close (tie.spec mul_new mul_new_2 new_requires emit_requires same_length returns
+    width_requires cast_digits sub_digits pair_circuit_requires same_length_2 returns_2 circuit_requires
+    same_length_3 returns_3)

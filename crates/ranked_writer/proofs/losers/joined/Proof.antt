@@ -1,6 +1,10 @@
 -- `ranked_writer::losers::joined` meets its contract: the wire of another candidate, or a wire of the row.
 -- Assumes nothing.
-use Rattle.basics.proofs.Common.{◌≡◌, ◌∙◌, sym, ap, Bool, cond, ℕ, suc, ◌+◌, ◌-◌, ◌≤◌, ◌<◌, arith, lt-ltb, le-ltb}
+use mathlib.Core.Path.{◌≡◌, ◌∙◌, sym, ap}
+use mathlib.Core.Bool.{Bool, cond}
+use Prim.Native.Nat.{ℕ, suc, ◌+◌, ◌-◌, ◌≤◌, ◌<◌}
+use native.Mathlib.Omega.{arith}
+use borrow.Author.Tests.{lt-ltb, le-ltb}
 use Rattle.ranked_circuit.specs.RankedList.{other, joined_wire}
 use Rattle.ranked_circuit.proofs.LoserLaws.{other_low}
 use Rattle.ranked_blocks.specs.Ranked.{kept_of}
@@ -48,6 +52,12 @@ returns c = other_is (kept_of c.before.before.before.before.args.beats.now
     c.before.before.before.before.requires.k_least c.before.before.if1.true
     c.before.other.ensures c.kept.ensures
 
+sub_if1 : tie.Need-overflow-sub-if1
+sub_if1 c = omega (arith, c.before.requires.k_least)
+
+sub_result : tie.Need-overflow-sub-result
+sub_result c = omega (arith, c.before.before.requires.k_least)
+
 sub_result_2 : tie.Need-overflow-sub-result-2
 sub_result_2 c = omega (arith, c.if1.false, c.before.before.requires.k_least)
 
@@ -60,5 +70,4 @@ returns_2 c = own_is (kept_of c.before.before.args.beats.now c.before.before.arg
     c.before.before.args.s c.before.before.requires.k_least (omega (arith, c.if1.false))
 
 pub joined_spec : {M : Type 1} → statement M
-joined_spec = tie.close (tie.spec (λ c. omega (arith, c.before.requires.k_least)) other_requires kept_requires returns
-    (λ c. omega (arith, c.before.before.requires.k_least)) sub_result_2 add_result returns_2)
+joined_spec = tie.close (tie.spec sub_if1 other_requires kept_requires returns sub_result sub_result_2 add_result returns_2)

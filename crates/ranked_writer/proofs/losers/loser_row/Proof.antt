@@ -1,6 +1,9 @@
 -- `ranked_writer::losers::loser_row` meets its contract: each gate joins two operands.
 -- Assumes nothing.
-use Rattle.basics.proofs.Common.{◌≡◌, ◌∙◌, refl, ap, List, [], ◌∷◌, ℕ, suc, ◌+◌, ◌-◌, ◌*◌, ◌≤◌, arith}
+use mathlib.Core.Path.{◌≡◌, ◌∙◌, refl, ap}
+use mathlib.Core.List.{List, [], ◌∷◌}
+use Prim.Native.Nat.{ℕ, suc, ◌+◌, ◌-◌, ◌*◌, ◌≤◌}
+use native.Mathlib.Omega.{arith}
 use Rattle.gates.specs.Gate.{Gate}
 use Rattle.gate_words.specs.Gates.{or_of}
 use Rattle.gate_words.proofs.Writing.{wrote_as}
@@ -25,6 +28,9 @@ decreases_loop table₀ beats k i at next₀ t₀ table next t = k - 2 - t
 loop_holds : tie.Need-loop-init invariant_loop decreases_loop
 loop_holds c = let a = c.before.before.args in
     (refl, omega arith, fill_start a.w a.table.now (gate a.beats.now a.k a.w.wire a.i))
+
+sub_loop : tie.Need-overflow-sub-loop invariant_loop decreases_loop
+sub_loop c = omega (arith, c.before.before.before.requires.k_least)
 
 mul_joined : tie.Need-overflow-mul-joined invariant_loop decreases_loop
 mul_joined c = omega (arith, c.loop-test.true, c.before.before.before.before.requires.k_most)
@@ -100,11 +106,16 @@ loop_again c =
       l.inv.0,
       omega (arith, (round_from_slice_known2 c).loop-test.taken),
       fill_next a.w a.table.now b l.t l.table l.next h.new.1.0 h.result l.inv.2
-          (wrote_as (ap (λ (x : ℕ). or_of x c.before.before.before.before.joined2.result ∷ [])
+          (wrote_as l.next l.table _ _ h.new.1.0 h.result
+          (ap (λ (x : ℕ). or_of x c.before.before.before.before.joined2.result ∷ [])
           (joined_from_slice_known2 c).joined.ensures
           ∙ ap (λ (x : ℕ). or_of (joined_wire (kept_of a.beats.now a.k) (suc (a.k - 2)) a.w.wire a.i
-          (2 * l.t)) x ∷ []) c.before.before.before.before.joined2.ensures) (or_wrote 0 h.ensures)),
+          (2 * l.t)) x ∷ []) c.before.before.before.before.joined2.ensures)
+          (or_wrote l.next l.table h.new.1.0 h.result _ _ 0 h.ensures)),
     )
+
+same_length : tie.Need-same-length invariant_loop decreases_loop
+same_length c = c.before.loop.invariant.2.long
 
 row_is : (beats : ℕ → ℕ → ℕ) (r at i : ℕ)
     → blocks at (λ wire t. or_of (joined_wire beats (suc r) at i (2 * t)) (joined_wire beats (suc r) at i (2 * t + 1)) ∷ []) r
@@ -115,11 +126,10 @@ returns : tie.Need-returns invariant_loop decreases_loop
 returns c =
     let a = c.before.before.before.before.args in
     let l = c.before.loop in
-    wrote_as (row_is (kept_of a.beats.now a.k) (a.k - 2) a.w.wire a.i)
+    wrote_as a.w a.table.now _ _ l.table l.next (row_is (kept_of a.beats.now a.k) (a.k - 2) a.w.wire a.i)
     (fill_end a.w a.table.now (gate a.beats.now a.k a.w.wire a.i) l.t (a.k - 2) l.table
     l.next (omega (arith, c.loop-test.false)) l.invariant.1 l.invariant.2)
 
 pub loser_row_spec : {M : Type 1} → statement M
-loser_row_spec = tie.close (tie.spec invariant_loop decreases_loop loop_holds
-    (λ c. omega (arith, c.before.before.before.requires.k_least)) mul_joined joined_requires mul_joined_2 add_joined
-    joined_requires_2 emit_requires add_t loop_less loop_again (λ c. c.before.loop.invariant.2.long) returns)
+loser_row_spec = tie.close (tie.spec invariant_loop decreases_loop loop_holds sub_loop mul_joined joined_requires mul_joined_2
+    add_joined joined_requires_2 emit_requires add_t loop_less loop_again same_length returns)

@@ -1,6 +1,9 @@
 -- `ranked_writer::losers::loser_rows` meets its contract: a row for each candidate.
 -- Assumes nothing.
-use Rattle.basics.proofs.Common.{◌≡◌, refl, ℕ, ◌-◌, ◌*◌, ◌≤◌, arith, length}
+use mathlib.Core.Path.{◌≡◌, refl}
+use Prim.Native.Nat.{ℕ, ◌-◌, ◌*◌, ◌≤◌}
+use native.Mathlib.Omega.{arith}
+use lib.ListN.{length}
 use Rattle.gate_words.specs.declared.writer.Writer.{Writer}
 use Rattle.gate_words.specs.Writing.{Room}
 use Rattle.gate_words.proofs.Writing.{room_less, wrote_as}
@@ -24,7 +27,7 @@ loop_holds c = let a = c.before.before.args in
     (omega arith, fill_start a.w a.table.now (loser_row (kept_of a.beats.now a.k) (a.k - 2)))
 
 rows_room : (w : Writer) (beats : ℕ → ℕ → ℕ) (k r : ℕ) → Room w (k * r) → Room w (length (blocks w.wire (loser_row beats r) k))
-rows_room w beats k r room = room_less
+rows_room w beats k r room = room_less w _ _
     (omega (arith, length_same w.wire (loser_row beats r) r (λ at i. row_length beats r at i) k)) room
 
 -- The stages of the function, seen from later ones.
@@ -46,7 +49,7 @@ loser_row_requires c κs =
     (rows_room a.w (kept_of a.beats.now a.k) a.k (a.k - 2)
     (start_from_loser_row_arg c).pre.room) l.invariant.1 in
     record {
-      room = room_less (omega (arith, row_length (kept_of a.beats.now a.k) (a.k - 2) l.next.wire l.i)) room;
+      room = room_less l.next _ _ (omega (arith, row_length (kept_of a.beats.now a.k) (a.k - 2) l.next.wire l.i)) room;
       k_least = (start_from_loser_row_arg c).pre.k_least;
       k_most = (start_from_loser_row_arg c).pre.k_most;
       row = c.before.loop-test.true;
@@ -69,6 +72,9 @@ loop_again c =
           l.next h.new.1.0 h.result l.inv.1 h.ensures,
     )
 
+same_length : tie.Need-same-length invariant_loop decreases_loop
+same_length c = c.before.loop.invariant.1.long
+
 rows_are : (beats : ℕ → ℕ → ℕ) (r n k : ℕ) → blocks n (loser_row beats r) k ≡ loser_rows beats r n k
 rows_are beats r n k = unfold loser_rows in refl
 
@@ -76,10 +82,9 @@ returns : tie.Need-returns invariant_loop decreases_loop
 returns c =
     let a = c.before.before.before.before.args in
     let l = c.before.loop in
-    wrote_as (rows_are (kept_of a.beats.now a.k) (a.k - 2) a.w.wire a.k)
+    wrote_as a.w a.table.now _ _ l.table l.next (rows_are (kept_of a.beats.now a.k) (a.k - 2) a.w.wire a.k)
     (fill_end a.w a.table.now (loser_row (kept_of a.beats.now a.k) (a.k - 2)) l.i a.k l.table
     l.next (omega (arith, c.loop-test.false)) l.invariant.0 l.invariant.1)
 
 pub loser_rows_spec : {M : Type 1} → statement M
-loser_rows_spec = tie.close (tie.spec invariant_loop decreases_loop loop_holds loser_row_requires add_i loop_less loop_again
-    (λ c. c.before.loop.invariant.1.long) returns)
+loser_rows_spec = tie.close (tie.spec invariant_loop decreases_loop loop_holds loser_row_requires add_i loop_less loop_again same_length returns)

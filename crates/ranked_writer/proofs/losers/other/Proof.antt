@@ -1,9 +1,17 @@
 -- `ranked_writer::losers::other` meets its contract: those before i keep their number, those after it move up.
 -- Assumes nothing.
-use Rattle.basics.proofs.Common.{◌∙◌, sym, ap, Bool, cond, suc, add-one, arith, lt-ltb, le-ltb}
+use mathlib.Core.Path.{◌∙◌, sym, ap}
+use mathlib.Core.Bool.{Bool, cond}
+use Prim.Native.Nat.{suc}
+use native.Mathlib.Numerals.{add-one}
+use native.Mathlib.Omega.{arith}
+use borrow.Author.Tests.{lt-ltb, le-ltb}
 use Rattle.ranked_circuit.specs.RankedList.{other}
 use Rattle.ranked_writer.proofs.losers.other.Statement.{statement}
 use Rattle.ranked_writer.proofs.losers.other.Tie as tie
+
+add_result : tie.Need-overflow-add-result
+add_result c = omega (arith, c.before.requires)
 
 returns : tie.Need-returns
 unfolding other
@@ -15,4 +23,4 @@ returns_2 c = let a = c.before.args in add-one a.s
     ∙ sym (ap (λ (t : Bool). cond t a.s (suc a.s)) (le-ltb a.s a.i (omega (arith, c.if1.false))))
 
 pub other_spec : {M : Type 1} → statement M
-other_spec = tie.close (tie.spec (λ c. omega (arith, c.before.requires)) returns returns_2)
+other_spec = tie.close (tie.spec add_result returns returns_2)

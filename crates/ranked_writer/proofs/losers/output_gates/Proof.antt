@@ -1,7 +1,10 @@
 -- `ranked_writer::losers::output_gates` meets its contract: the complement of what each row says.
 -- Assumes nothing.
-use Rattle.basics.proofs.Common.{◌≡◌, ◌∙◌, refl, ap, List, [], ◌∷◌, ℕ, suc, ◌+◌, ◌-◌, ◌*◌, ◌≤◌, ◌<◌, mul-le-mul}
-use Rattle.basics.proofs.Common.{mul-le-mul_right, arith}
+use mathlib.Core.Path.{◌≡◌, ◌∙◌, refl, ap}
+use mathlib.Core.List.{List, [], ◌∷◌}
+use Prim.Native.Nat.{ℕ, suc, ◌+◌, ◌-◌, ◌*◌, ◌≤◌, ◌<◌}
+use native.Mathlib.Nat.{mul-le-mul, mul-le-mul_right}
+use native.Mathlib.Omega.{arith}
 use Rattle.jury.specs.Shape.{most_candidates, most_pairs}
 use Rattle.gates.specs.Gate.{Gate}
 use Rattle.gate_words.specs.Gates.{not_of}
@@ -110,9 +113,13 @@ loop_again c =
       omega (arith, (round_from_slice_known2 c).loop-test.taken),
       fill_next a.w a.table.now (gate a.beats.now a.k a.rows) l.i l.table l.next
           h.new.1.0 h.result l.inv.1
-          (wrote_as (ap (λ (x : ℕ). not_of x ∷ []) c.before.before.before.before.joined.ensures)
-          (not_wrote 0 0 h.ensures)),
+          (wrote_as l.next l.table _ _ h.new.1.0 h.result
+          (ap (λ (x : ℕ). not_of x ∷ []) c.before.before.before.before.joined.ensures)
+          (not_wrote l.next l.table h.new.1.0 h.result _ 0 0 h.ensures)),
     )
+
+same_length : tie.Need-same-length invariant_loop decreases_loop
+same_length c = c.before.loop.invariant.1.long
 
 outputs_are : (beats : ℕ → ℕ → ℕ) (r rows k wire : ℕ) → wire ≡ rows + k * r
     → blocks wire (λ at i. not_of (joined_wire beats (suc r) (rows + i * r) i (2 * r)) ∷ []) k ≡ output_gates beats r rows k
@@ -124,11 +131,12 @@ returns : tie.Need-returns invariant_loop decreases_loop
 returns c =
     let a = c.before.before.before.before.args in
     let l = c.before.loop in
-    wrote_as (outputs_are (kept_of a.beats.now a.k) (a.k - 2) a.rows a.k a.w.wire
+    wrote_as a.w a.table.now _ _ l.table l.next
+    (outputs_are (kept_of a.beats.now a.k) (a.k - 2) a.rows a.k a.w.wire
     c.before.before.before.before.requires.place)
     (fill_end a.w a.table.now (gate a.beats.now a.k a.rows) l.i a.k l.table l.next
     (omega (arith, c.loop-test.false)) l.invariant.0 l.invariant.1)
 
 pub output_gates_spec : {M : Type 1} → statement M
 output_gates_spec = tie.close (tie.spec invariant_loop decreases_loop loop_holds sub_joined mul_joined add_joined sub_joined_2
-    mul_joined_2 joined_requires emit_requires add_i loop_less loop_again (λ c. c.before.loop.invariant.1.long) returns)
+    mul_joined_2 joined_requires emit_requires add_i loop_less loop_again same_length returns)

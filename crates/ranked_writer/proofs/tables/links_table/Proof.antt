@@ -1,7 +1,12 @@
 -- `ranked_writer::tables::links_table` meets its contract: a comparison for each pair of candidates, from a first row
 -- on.
 -- Assumes nothing.
-use Rattle.basics.proofs.Common.{◌≡◌, ◌∙◌, refl, sym, Bool, List, ℕ, ◌-◌, ◌*◌, ◌/◌, ◌%◌, ◌≤◌, arith, leb}
+use mathlib.Core.Path.{◌≡◌, ◌∙◌, refl, sym}
+use mathlib.Core.Bool.{Bool}
+use mathlib.Core.List.{List}
+use Prim.Native.Nat.{ℕ, ◌-◌, ◌*◌, ◌/◌, ◌%◌, ◌≤◌}
+use native.Mathlib.Omega.{arith}
+use lib.Dec.{leb}
 use Rattle.gates.specs.Gate.{Gate}
 use Rattle.gate_words.specs.declared.writer.Writer.{Writer}
 use Rattle.ranked_circuit.specs.Table.{entry_end}
@@ -91,6 +96,12 @@ links_entry_requires c κs =
       room = table_room a.w a.table.now k (block_at s) l.e l.table l.next t.few s.pre.room l.invariant.wrote;
     }
 
+add_e : tie.Need-overflow-add-e invariant_loop decreases_loop
+add_e c = omega (arith, (now (turning (written c))).small)
+
+loop_less : tie.Need-loop-smaller invariant_loop decreases_loop
+loop_less c = omega (arith, (now (turning (written c))).few)
+
 loop_again : tie.Need-loop-preserved invariant_loop decreases_loop
 loop_again c =
     let d = written c in
@@ -114,6 +125,9 @@ loop_again c =
           (end_here a.w a.table.now k (block_at s) l.e (l.e / k) (l.e % k) h.last.1.0 h.result t.number more);
     }
 
+same_length : tie.Need-same-length invariant_loop decreases_loop
+same_length c = c.before.loop.invariant.wrote.long
+
 same_length_2 : tie.Need-same-length-2 invariant_loop decreases_loop
 same_length_2 c = c.before.loop.invariant.kept.long ∙ sym (start c.before).pre.kept.wires_long
 
@@ -131,6 +145,5 @@ returns c =
     }
 
 pub links_table_spec : {M : Type 1} → statement M
-links_table_spec = tie.close (tie.spec invariant_loop decreases_loop loop_holds mul_loop links_entry_requires
-    (λ c. omega (arith, (now (turning (written c))).small)) (λ c. omega (arith, (now (turning (written c))).few))
-    loop_again (λ c. c.before.loop.invariant.wrote.long) same_length_2 returns)
+links_table_spec = tie.close (tie.spec invariant_loop decreases_loop loop_holds mul_loop links_entry_requires add_e loop_less
+    loop_again same_length same_length_2 returns)

@@ -1,7 +1,13 @@
 -- `ranked_writer::tables::meetings_table` meets its contract: a meeting for each pair of candidates before the last
 -- one.
 -- Assumes nothing.
-use Rattle.basics.proofs.Common.{◌≡◌, ◌∙◌, refl, sym, ap, Bool, List, ℕ, ◌-◌, ◌*◌, ◌/◌, ◌%◌, ◌≤◌, arith, ltb, length}
+use mathlib.Core.Path.{◌≡◌, ◌∙◌, refl, sym, ap}
+use mathlib.Core.Bool.{Bool}
+use mathlib.Core.List.{List}
+use Prim.Native.Nat.{ℕ, ◌-◌, ◌*◌, ◌/◌, ◌%◌, ◌≤◌}
+use native.Mathlib.Omega.{arith}
+use lib.Dec.{ltb}
+use lib.ListN.{length}
 use Rattle.gates.specs.Gate.{Gate}
 use Rattle.gate_words.specs.declared.writer.Writer.{Writer}
 use Rattle.gate_words.proofs.Writing.{room_less, wrote_as}
@@ -91,13 +97,19 @@ meetings_entry_requires c κs =
       };
       number = t.few;
       room =
-          room_less (omega (
+          room_less l.next _ _ (omega (
             arith,
             ap length (met_agree k a.p.digits a.words.now a.met.now (entry_end a.w.wire k (block_at s))
                 l.e l.met l.invariant.kept l.next.wire t.few),
           ))
           (table_room a.w a.table.now k (block_at s) l.e l.table l.next t.few s.pre.room l.invariant.wrote);
     }
+
+add_e : tie.Need-overflow-add-e invariant_loop decreases_loop
+add_e c = omega (arith, (now (turning (written c))).small)
+
+loop_less : tie.Need-loop-smaller invariant_loop decreases_loop
+loop_less c = omega (arith, (now (turning (written c))).few)
 
 loop_again : tie.Need-loop-preserved invariant_loop decreases_loop
 loop_again c =
@@ -110,7 +122,7 @@ loop_again c =
     let t = now q in
     let h = d.meetings-entry in
     let more = table_next a.w a.table.now k (block_at s) l.e l.table l.next h.last.1.0 h.result l.inv.wrote
-    (wrote_as
+    (wrote_as l.next l.table _ _ h.last.1.0 h.result
     (met_agree k a.p.digits a.words.now a.met.now (entry_end a.w.wire k (block_at s)) l.e l.met
     l.inv.kept l.next.wire t.few) h.ensures.wrote) in
     record {
@@ -123,6 +135,9 @@ loop_again c =
           t.column l.inv.kept h.ensures.kept
           (end_here a.w a.table.now k (block_at s) l.e (l.e / k) (l.e % k) h.last.1.0 h.result t.number more);
     }
+
+same_length : tie.Need-same-length invariant_loop decreases_loop
+same_length c = c.before.loop.invariant.wrote.long
 
 same_length_2 : tie.Need-same-length-2 invariant_loop decreases_loop
 same_length_2 c = c.before.loop.invariant.kept.long ∙ sym (start c.before).pre.kept.wires_long
@@ -141,6 +156,6 @@ returns c =
     }
 
 pub meetings_table_spec : {M : Type 1} → statement M
-meetings_table_spec = tie.close (tie.spec invariant_loop decreases_loop loop_holds mul_loop meetings_entry_requires
-    (λ c. omega (arith, (now (turning (written c))).small)) (λ c. omega (arith, (now (turning (written c))).few))
-    loop_again (λ c. c.before.loop.invariant.wrote.long) same_length_2 returns)
+meetings_table_spec = tie.close
+    (tie.spec invariant_loop decreases_loop loop_holds mul_loop meetings_entry_requires add_e loop_less loop_again same_length
+    same_length_2 returns)

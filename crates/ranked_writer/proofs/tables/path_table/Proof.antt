@@ -1,7 +1,10 @@
 -- `ranked_writer::tables::path_table` meets its contract: a new word for each pair of candidates whose word the stage
 -- changes.
 -- Assumes nothing.
-use Rattle.basics.proofs.Common.{◌≡◌, ◌∙◌, refl, sym, ap, ℕ, suc, ◌-◌, ◌*◌, ◌/◌, ◌%◌, ◌≤◌, arith, length}
+use mathlib.Core.Path.{◌≡◌, ◌∙◌, refl, sym, ap}
+use Prim.Native.Nat.{ℕ, suc, ◌-◌, ◌*◌, ◌/◌, ◌%◌, ◌≤◌}
+use native.Mathlib.Omega.{arith}
+use lib.ListN.{length}
 use Rattle.gate_words.proofs.Writing.{room_less, wrote_as}
 use Rattle.ranked_circuit.specs.Stages.{stays}
 use Rattle.ranked_blocks.proofs.Entering.{square_small}
@@ -80,12 +83,18 @@ path_entry_requires c κs =
               (start_from_round c.before.before).pre.ready.kept.below;
         };
         number = t.few;
-        room = room_less (omega (arith, ap length same))
+        room = room_less l.next _ _ (omega (arith, ap length same))
             (table_room a.w a.table.now k block l.e l.table l.next t.few
             (start_from_round c.before.before).pre.ready.room l.invariant.2);
       };
       stage = (start_from_round c.before.before).pre.stage;
     }
+
+add_e : tie.Need-overflow-add-e invariant_loop decreases_loop
+add_e c = omega (arith, (now (round_from_words c.before)).small)
+
+loop_less : tie.Need-loop-smaller invariant_loop decreases_loop
+loop_less c = omega (arith, (now (round_from_words c.before)).few)
 
 loop_again : tie.Need-loop-preserved invariant_loop decreases_loop
 loop_again c =
@@ -98,7 +107,7 @@ loop_again c =
     let same = now_agree a.w a.table.now k a.p.digits a.m a.links.now a.words.now l.e
     l.words l.inv.3 (start_from_words c.before).pre.stage t.few l.next.wire in
     let more = table_next a.w a.table.now k block l.e l.table l.next h.new.1.0 h.result
-    l.inv.2 (wrote_as same h.ensures.wrote) in (
+    l.inv.2 (wrote_as l.next l.table _ _ h.new.1.0 h.result same h.ensures.wrote) in (
       l.inv.0,
       omega (arith, t.few),
       more,
@@ -109,6 +118,9 @@ loop_again c =
           (end_here a.w a.table.now k block l.e (l.e / k) (l.e % k) h.new.1.0 h.result
           t.number more)),
     )
+
+same_length : tie.Need-same-length invariant_loop decreases_loop
+same_length c = c.before.loop.invariant.2.long
 
 same_length_2 : tie.Need-same-length-2 invariant_loop decreases_loop
 same_length_2 c = c.before.loop.invariant.3.long ∙ sym (start_from_loop_done c).pre.ready.kept.words_long
@@ -129,7 +141,5 @@ returns c =
     }
 
 pub path_table_spec : {M : Type 1} → statement M
-path_table_spec = tie.close (tie.spec invariant_loop decreases_loop loop_holds mul_loop path_entry_requires
-    (λ c. omega (arith, (now (round_from_words c.before)).small))
-    (λ c. omega (arith, (now (round_from_words c.before)).few)) loop_again (λ c. c.before.loop.invariant.2.long)
-    same_length_2 returns)
+path_table_spec = tie.close (tie.spec invariant_loop decreases_loop loop_holds mul_loop path_entry_requires add_e loop_less
+    loop_again same_length same_length_2 returns)

@@ -1,7 +1,12 @@
 -- `ranked_writer::tables::votes_table` meets its contract: a counter for each pair of candidates.
 -- Assumes nothing.
-use Rattle.basics.proofs.Common.{◌≡◌, ◌∙◌, refl, sym, ap, Bool, cond, List, ℕ, suc, ◌-◌, ◌*◌, ◌/◌, ◌%◌, ◌≤◌, arith}
-use Rattle.basics.proofs.Common.{ne_eqb, eqb}
+use mathlib.Core.Path.{◌≡◌, ◌∙◌, refl, sym, ap}
+use mathlib.Core.Bool.{Bool, cond}
+use mathlib.Core.List.{List}
+use Prim.Native.Nat.{ℕ, suc, ◌-◌, ◌*◌, ◌/◌, ◌%◌, ◌≤◌}
+use native.Mathlib.Omega.{arith}
+use borrow.Author.Tests.{ne_eqb}
+use lib.Dec.{eqb}
 use Rattle.gates.specs.Gate.{Gate}
 use Rattle.ranked_circuit.specs.Table.{entry_end}
 use Rattle.ranked_circuit.specs.Stages.{votes_block}
@@ -40,7 +45,8 @@ loop_holds c =
 mul_loop : tie.Need-overflow-mul-loop invariant_loop decreases_loop
 mul_loop c = omega (
   arith,
-  square_small c.before.before.before.args.p.candidates c.before.before.before.requires.ranked.k_most,
+  square_small c.before.before.before.args.p.candidates
+      c.before.before.before.requires.ranked.k_most,
   same_square c.loop.invariant.0,
 )
 
@@ -75,11 +81,18 @@ votes_entry_requires c κs =
       number = t.few;
       ballots_below = omega (
         arith,
-        table_from a.w a.table.now a.p.candidates (block a.p) l.e l.table l.next l.invariant.2,
+        table_from a.w a.table.now a.p.candidates (block a.p) l.e
+            l.table l.next l.invariant.2,
         (start_from_votes_entry_arg2 c).pre.ballots_below,
       );
       words_long = l.invariant.3.long;
     }
+
+add_e : tie.Need-overflow-add-e invariant_loop decreases_loop
+add_e c = omega (arith, (now (round_from_words c.before)).small)
+
+loop_less : tie.Need-loop-smaller invariant_loop decreases_loop
+loop_less c = omega (arith, (now (round_from_words c.before)).few)
 
 loop_again : tie.Need-loop-preserved invariant_loop decreases_loop
 loop_again c =
@@ -99,6 +112,9 @@ loop_again c =
           (end_here a.w a.table.now k (block a.p) l.e (l.e / k) (l.e % k) h.new.1.0
           h.result t.number more)),
     )
+
+same_length : tie.Need-same-length invariant_loop decreases_loop
+same_length c = c.before.loop.invariant.2.long
 
 same_length_2 : tie.Need-same-length-2 invariant_loop decreases_loop
 same_length_2 c = c.before.loop.invariant.3.long ∙ sym c.before.before.before.before.requires.words_long
@@ -120,7 +136,5 @@ returns c =
     }
 
 pub votes_table_spec : {M : Type 1} → statement M
-votes_table_spec = tie.close (tie.spec invariant_loop decreases_loop loop_holds mul_loop votes_entry_requires
-    (λ c. omega (arith, (now (round_from_words c.before)).small))
-    (λ c. omega (arith, (now (round_from_words c.before)).few)) loop_again (λ c. c.before.loop.invariant.2.long)
-    same_length_2 returns)
+votes_table_spec = tie.close (tie.spec invariant_loop decreases_loop loop_holds mul_loop votes_entry_requires add_e loop_less
+    loop_again same_length same_length_2 returns)

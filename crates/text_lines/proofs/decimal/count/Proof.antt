@@ -1,39 +1,62 @@
--- `text_lines::decimal::count` meets its contract: the digits found so far and those of the rest are those of the
--- number, and one more.
+-- `text_lines::decimal::count` meets its contract: the number has more than `more` digits, and the bound is the
+-- next power of ten.
 -- Assumes nothing.
-use mathlib.Core.Path.{◌≡◌, ap}
-use Prim.Native.Nat.{suc, ◌+◌, ◌≤◌}
+use mathlib.Core.Path.{subst}
+use Prim.Native.Nat.{ℕ, ◌*◌, ◌≤◌}
+use mathlib.Core.Path.{◌≡◌, ◌∙◌, refl, sym, ap}
+use Prim.Native.Nat.{suc, ◌-◌, ◌^◌, ◌<◌}
+use native.Mathlib.Nat.{pow-suc}
+use native.Mathlib.Numerals.{add-one}
+use Rattle.text_lines.proofs.DecimalLaws.{Least, count_is}
 use native.Mathlib.Omega.{arith}
-use lib.ListN.{length}
-use Rattle.text_lines.specs.Decimal.{decimal}
-use Rattle.text_lines.proofs.DecimalLaws.{decimal_one, decimal_most}
-use Rattle.text_lines.proofs.Storing.{length_tenth}
 use Rattle.text_lines.proofs.decimal.count.Statement.{statement}
 use Rattle.text_lines.proofs.decimal.count.Tie as tie
 
 abbrev invariant_loop : tie.invariant-loop
-invariant_loop n rest₀ found₀ rest found =
-    (rest ≤ 18446744073709551615) × (found + length (decimal rest) ≡ suc (length (decimal n)))
+invariant_loop n number more₀ bound₀ more bound = (bound ≡ 10 ^ suc more) × Least more n × (more < bound) × (more ≤ number)
 
 abbrev decreases_loop : tie.decreases-loop
-decreases_loop n rest₀ found₀ rest found = rest
+decreases_loop n number more₀ bound₀ more bound = suc number - bound
 
 loop_holds : tie.Need-loop-init invariant_loop decreases_loop
-loop_holds c = (omega arith, omega arith)
+loop_holds c = (refl, tt, omega arith, omega arith)
 
-add_found : tie.Need-overflow-add-found invariant_loop decreases_loop
-add_found c = omega (arith, decimal_most c.before.before.args.n)
+mul_bound : tie.Need-overflow-mul-bound invariant_loop decreases_loop
+mul_bound c = omega arith
+
+add_more : tie.Need-overflow-add-more invariant_loop decreases_loop
+add_more c = omega arith
 
 loop_less : tie.Need-loop-smaller invariant_loop decreases_loop
 loop_less c = omega arith
 
 loop_again : tie.Need-loop-preserved invariant_loop decreases_loop
 loop_again c =
-    let l = c.before.loop in
-    (omega arith, omega (arith, length_tenth l.rest c.loop-test.true l.invariant.0))
+    let l = c.before.loop in (
+      ap (λ (b : ℕ). b * 10) l.invariant.0 ∙ sym (pow-suc 10 (suc l.more)) ∙ ap (λ (m : ℕ). 10 ^ suc m) (sym (add-one l.more)),
+      subst (λ (m : ℕ). Least m c.before.before.args.n) (sym (add-one l.more)) (omega arith),
+      omega arith,
+      omega arith,
+    )
+
+add_result : tie.Need-overflow-add-result invariant_loop decreases_loop
+add_result c = omega arith
 
 returns : tie.Need-returns invariant_loop decreases_loop
-returns c = omega (arith, ap length (decimal_one c.before.loop.rest c.loop-test.false))
+returns c = add-one c.before.loop.more
+    ∙ sym (count_is c.before.loop.more c.before.before.args.n (omega arith) (omega arith)
+    c.before.loop.invariant.1)
 
 pub count_spec : {M : Type 1} → statement M
-count_spec = tie.close (tie.spec invariant_loop decreases_loop loop_holds add_found loop_less loop_again returns)
+count_spec =
+    tie.close
+    (tie.spec
+    invariant_loop
+    decreases_loop
+    loop_holds
+    mul_bound
+    add_more
+    loop_less
+    loop_again
+    add_result
+    returns)

@@ -16,7 +16,7 @@ use Rattle.text_lines.proofs.decimal.put.Tie as tie
 
 abbrev invariant_loop : tie.invariant-loop
 invariant_loop n at output₀ end rest₀ i₀ output rest i =
-    (rest ≤ 18446744073709551615) × (suc i ≡ at + length (decimal rest)) × (suc i ≤ length output)
+    (rest ≤ 4294967295) × (suc i ≡ at + length (decimal rest)) × (suc i ≤ length output)
     × (length output ≡ length output₀) × (sets output at (decimal rest) ≡ sets output₀ at (decimal n))
 
 abbrev decreases_loop : tie.decreases-loop

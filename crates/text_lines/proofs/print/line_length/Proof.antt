@@ -2,8 +2,7 @@
 -- Assumes nothing.
 use Prim.Native.Nat.{◌≤◌}
 use lib.Dec.{ltb}
-use Rattle.text_lines.proofs.DecimalLaws.{decimal_short}
-use Rattle.text_lines.proofs.Storing.{operand_most, line_long}
+use Rattle.text_lines.proofs.Storing.{decimal_most, operand_most, line_long}
 use native.Mathlib.Omega.{arith}
 use borrow.Author.Rules.{rules}
 use Rattle.text_lines.proofs.print.line_length.Statement.{statement}
@@ -40,10 +39,10 @@ short c =
     let s = (start_from_operand_length3 c).args in
     let m = c.before.before.before.before.operands.result in
     record {
-      kind = omega (arith, c.before.before.before.count.ensures, decimal_short s.kind (omega arith));
-      a = omega (arith, c.before.before.operand-length.ensures, operand_most (ltb 0 m) s.a (omega arith));
-      b = omega (arith, c.before.operand-length2.ensures, operand_most (ltb 1 m) s.b (omega arith));
-      c' = omega (arith, c.operand-length3.ensures, operand_most (ltb 2 m) s.c (omega arith));
+      kind = omega (arith, c.before.before.before.count.ensures, decimal_most s.kind);
+      a = omega (arith, c.before.before.operand-length.ensures, operand_most (ltb 0 m) s.a);
+      b = omega (arith, c.before.operand-length2.ensures, operand_most (ltb 1 m) s.b);
+      c' = omega (arith, c.operand-length3.ensures, operand_most (ltb 2 m) s.c);
     }
 
 add_result : tie.Need-overflow-add-result

@@ -2,8 +2,7 @@
 -- Assumes nothing.
 use mathlib.Core.Path.{sym, ap}
 use lib.ListN.{length}
-use Rattle.text_lines.proofs.DecimalLaws.{decimal_short}
-use Rattle.text_lines.proofs.Storing.{text_used, text_unused}
+use Rattle.text_lines.proofs.Storing.{decimal_most, text_used, text_unused}
 use native.Mathlib.Omega.{arith}
 use borrow.Author.Rules.{rules}
 use Rattle.text_lines.proofs.print.operand_length.Statement.{statement}
@@ -13,7 +12,7 @@ count_requires : tie.Need-count-requires
 count_requires c κs = search rules
 
 add_result : tie.Need-overflow-add-result
-add_result c = omega (arith, c.count.ensures, decimal_short c.before.before.args.n (omega arith))
+add_result c = omega (arith, c.count.ensures, decimal_most c.before.before.args.n)
 
 returns : tie.Need-returns
 returns c = omega (

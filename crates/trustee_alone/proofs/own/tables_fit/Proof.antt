@@ -1,7 +1,6 @@
--- `trustee_alone::own::tables_fit` meets its contract: the triples first, then the others.
+-- `trustee_alone::own::tables_fit` meets its contract, one length after another.
 -- Assumes nothing.
-use mathlib.Core.Path.{◌∙◌, sym}
-use Prim.Native.Nat.{◌*◌}
+use Prim.Native.Nat.{◌+◌, ◌*◌}
 use native.Mathlib.Omega.{arith}
 use lib.ListN.{length}
 use borrow.Author.Tests.{eq-eqb, ne_eqb}
@@ -10,20 +9,45 @@ use Rattle.trustee_alone.proofs.own.tables_fit.Statement.{statement}
 use Rattle.trustee_alone.proofs.own.tables_fit.Tie as tie
 
 mul_if1 : tie.Need-overflow-mul-if1
-mul_if1 c = omega (arith, c.before.before.before.requires)
+mul_if1 c = omega (arith, c.requires)
 
 returns : tie.Need-returns
 unfolding own_tables_fit
-returns c = let a = c.before.before.before.before.args in rw (ne_eqb (length a.triples.now) (3 * a.conditional) c.if1.true)
+returns c = let a = c.before.args in rw (ne_eqb (length a.triples.now) (3 * a.conditional) c.if1.true)
 
-wires_fit_requires : tie.Need-wires-fit-requires
-wires_fit_requires c κs = c.before.before.before.before.requires
+add_if2 : tie.Need-overflow-add-if2
+add_if2 c = omega (arith, c.before.requires)
 
 returns_2 : tie.Need-returns-2
 unfolding own_tables_fit
-returns_2 c = let a = c.before.before.before.before.before.args in
-    let e = eq-eqb (length a.triples.now) (3 * a.conditional) c.before.if1.false in
-    c.wires-fit.ensures ∙ sym (rw e)
+returns_2 c = let a = c.before.before.args in
+    rw (
+      eq-eqb (length a.triples.now) (3 * a.conditional) c.before.if1.false,
+      ne_eqb (length a.wires.now) (a.inputs + a.gates) c.if2.true,
+    )
+
+mul_result : tie.Need-overflow-mul-result
+mul_result c = omega (arith, c.before.before.requires)
+
+add_result : tie.Need-overflow-add-result
+add_result c = omega (arith, c.before.before.requires)
+
+returns_3 : tie.Need-returns-3
+unfolding own_tables_fit
+returns_3 c = let a = c.before.before.args in
+    rw (
+      eq-eqb (length a.triples.now) (3 * a.conditional) c.before.if1.false,
+      eq-eqb (length a.wires.now) (a.inputs + a.gates) c.if2.false,
+    )
 
 pub tables_fit_spec : {M : Type 1} → statement M
-tables_fit_spec = tie.close (tie.spec mul_if1 returns wires_fit_requires returns_2)
+tables_fit_spec =
+    tie.close
+    (tie.spec
+    mul_if1
+    returns
+    add_if2
+    returns_2
+    mul_result
+    add_result
+    returns_3)

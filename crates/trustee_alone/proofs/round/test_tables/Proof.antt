@@ -3,8 +3,8 @@
 -- Assumes nothing.
 use borrow.Author.Rules.{rules}
 use mathlib.Core.Path.{◌≡◌, ◌∙◌, sym, ap}
-use mathlib.Core.Bool.{true, false, ◌&&◌}
-use mathlib.Core.List.{[], ◌∷◌}
+use mathlib.Core.Bool.{true, false}
+use mathlib.Core.List.{[]}
 use Prim.Native.Nat.{ℕ, ◌*◌}
 use native.Mathlib.Omega.{arith}
 use lib.Dec.{eqb, leb}
@@ -15,18 +15,15 @@ use Rattle.gates.specs.Gate.{gates_of}
 use Rattle.gates.specs.Board.{conditional_count}
 use Rattle.gates.proofs.Counting.{count_most}
 use Rattle.gate_levels.specs.Levels.{levels_of, rounds_of}
-use Rattle.jury.specs.Reason.{reason_at, reason_of, found_at, first_of}
+use Rattle.jury.specs.Reason.{reason_at, reason_of, first_of}
 use Rattle.tally.specs.Answer.{Size, size_of}
 use Rattle.levels.specs.Answer.{depths_of, depths_outcome, level_reason_of}
 use Rattle.levels.proofs.Reasons.{depths_are}
-use Rattle.gate_levels.proofs.Laws.{length_levels}
-use Rattle.basics.proofs.Same.{same_true}
 use Rattle.trustee_gates.specs.Dealing.{only_bits}
-use Rattle.trustee_rounds.specs.Turns.{first_out_of_turn}
 use Rattle.trustee_alone.specs.Own.{is_trustee, own_tables_fit}
 use Rattle.trustee_alone.specs.Rounds.{table_reasons}
-use Rattle.trustee_alone.proofs.Tests.{pass, fail, nowhere, found, end, and_both, outcome_some, outcome_none}
-use Rattle.trustee_alone.proofs.Sizes.{small_sizes, size_is, fit, own_same, other_same, other_long}
+use Rattle.trustee_alone.proofs.Tests.{pass, fail, end, and_both, outcome_some, outcome_none}
+use Rattle.trustee_alone.proofs.Sizes.{small_sizes, size_is, own_same, other_same, other_long}
 use Rattle.trustee_alone.proofs.round.test_tables.Statement.{statement}
 use Rattle.basics.specs.Lists.{same_numbers}
 use Rattle.trustee_alone.proofs.round.test_tables.Tie as tie
@@ -50,11 +47,11 @@ else1_from_else2 c = c.before.before
 abbrev start_from_then2 : tie.Then2 → tie.Start
 start_from_then2 c = start_from_else1 c.before.before
 
-abbrev else1_from_both_bits : tie.After-both-bits → tie.Else1
-else1_from_both_bits c = c.before.before.before
+abbrev else1_from_only_bits : tie.After-only-bits → tie.Else1
+else1_from_only_bits c = c.before.before.before
 
-abbrev else2_from_both_bits : tie.After-both-bits → tie.Else2
-else2_from_both_bits c = c.before
+abbrev else2_from_only_bits : tie.After-only-bits → tie.Else2
+else2_from_only_bits c = c.before
 
 abbrev start_from_else3 : tie.Else3 → tie.Start
 start_from_else3 c = start_from_else1 c.before.before.before.before
@@ -114,10 +111,10 @@ abbrev start_from_then6 : tie.Then6 → tie.Start
 start_from_then6 c = start_from_else3 c.before.before.before.before.before.before.before
 
 abbrev else1_from_then6 : tie.Then6 → tie.Else1
-else1_from_then6 c = else1_from_both_bits c.before.before.before.before.before.before.before.before
+else1_from_then6 c = else1_from_only_bits c.before.before.before.before.before.before.before.before
 
 abbrev else2_from_then6 : tie.Then6 → tie.Else2
-else2_from_then6 c = else2_from_both_bits c.before.before.before.before.before.before.before.before
+else2_from_then6 c = else2_from_only_bits c.before.before.before.before.before.before.before.before
 
 abbrev else3_from_then6 : tie.Then6 → tie.Else3
 else3_from_then6 c = c.before.before.before.before.before.before.before
@@ -171,8 +168,8 @@ fits : (c : tie.Else2) → let a = (start_from_else2 c).args in
     a.published.now ≡ true
 fits c = sym (fit_is c.before) ∙ not-false c.before.tables-fit.result c.if2.false
 
-bits : (c : tie.Else3) → let a = (start_from_else3 c).args in (only_bits a.triples.now && only_bits a.wires.now) ≡ true
-bits c = sym c.before.both_bits.ensures ∙ not-false c.before.both_bits.result c.if3.false
+bits : (c : tie.Else3) → let a = (start_from_else3 c).args in only_bits a.triples.now ≡ true
+bits c = sym c.before.only-bits.ensures ∙ not-false c.before.only-bits.result c.if3.false
 
 same : (c : tie.After-rounds) → let a = (start_from_rounds c).args in
     (same_numbers a.levels.now (levels_of a.inputs (gates_of a.table.now)) ≡ true)
@@ -225,8 +222,8 @@ returns_2 c =
     (pass _ 16 _ (trustee c.before.before)
     ∙ fail _ 17 _ (sym (fit_is c.before) ∙ not-true c.before.tables-fit.result c.if2.true))
 
-both_bits_requires : tie.Need-both-bits-requires
-both_bits_requires c κs = search rules
+only_bits_requires : tie.Need-only-bits-requires
+only_bits_requires c κs = search rules
 
 returns_3 : tie.Need-returns-3
 unfolding depths_outcome level_reason_of reason_of table_reasons
@@ -238,7 +235,7 @@ returns_3 c =
     a.triples.now a.heard.now a.wires.now a.published.now))
     (depths_of a.inputs (gates_of a.table.now)) (reason_at 18 0)
     (pass _ 16 _ (trustee c.before.before.before.before) ∙ pass _ 17 _ (fits c.before.before)
-    ∙ fail _ 18 _ (sym c.before.both_bits.ensures ∙ not-true c.before.both_bits.result c.if3.true))
+    ∙ fail _ 18 _ (sym c.before.only-bits.ensures ∙ not-true c.before.only-bits.result c.if3.true))
 
 returns_4 : tie.Need-returns-4
 unfolding depths_outcome level_reason_of reason_of table_reasons
@@ -308,12 +305,12 @@ returns_7 c =
     (pass _ 16 _ (trustee (else1_from_then6 c)) ∙ pass _ 17 _ (fits (else2_from_then6 c))
     ∙ pass _ 18 _ (bits (else3_from_then6 c)) ∙ pass _ 200 _ (same c.before.before.before).0
     ∙ pass _ 201 _ (early c.before)
-    ∙ fail _ 202 _ (and_first_fails _ _
+    ∙ fail _ 202 [] (and_first_fails _ _
     (ne_eqb (length a.heard.now) (2 * conditional_count (gates_of a.table.now))
     (λ e. c.if6.true (e ∙ ap (λ (n : ℕ). 2 * n) (sym s.pre.conditional_are))))))
 
-only_bits_requires : tie.Need-only-bits-requires
-only_bits_requires c κs = search rules
+only_bits_requires_2 : tie.Need-only-bits-requires-2
+only_bits_requires_2 c κs = search rules
 
 returns_8 : tie.Need-returns-8
 unfolding depths_outcome level_reason_of reason_of table_reasons
@@ -327,67 +324,24 @@ returns_8 c =
     (pass _ 16 _ (trustee (else1_from_then7 c)) ∙ pass _ 17 _ (fits (else2_from_then7 c))
     ∙ pass _ 18 _ (bits (else3_from_then7 c)) ∙ pass _ 200 _ (same (rounds_from_then7 c)).0
     ∙ pass _ 201 _ (early c.before.before.before)
-    ∙ fail _ 202 _ (and_both _ _ false (long c.before.before)
-    (sym c.before.only-bits.ensures ∙ not-true c.before.only-bits.result c.if7.true)))
-
--- all tests but the last have passed
-passed_before : (c : tie.Else7) → let a = (start_from_else7 c).args in
-    first_of (table_reasons a.inputs a.k (gates_of a.table.now) a.t a.p a.round a.levels.now
-    a.triples.now a.heard.now a.wires.now a.published.now)
-    ≡ first_of (found_at 203 (first_out_of_turn a.round a.levels.now (gates_of a.table.now) a.k a.published.now) ∷ [])
-unfolding table_reasons
-passed_before c =
-    pass _ 16 _ (trustee (else1_from_else7 c)) ∙ pass _ 17 _ (fits (else2_from_else7 c))
-    ∙ pass _ 18 _ (bits (else3_from_else7 c)) ∙ pass _ 200 _ (same (rounds_from_else7 c)).0
-    ∙ pass _ 201 _ (early c.before.before.before)
-    ∙ pass _ 202 _ (and_both _ _ true (long c.before.before)
-    (sym c.before.only-bits.ensures ∙ not-false c.before.only-bits.result c.if7.false))
-
-first_out_of_turn_requires : tie.Need-first-out-of-turn-requires
-first_out_of_turn_requires c κs =
-    let s = (start_from_else7 c) in
-    let a = s.args in
-    let own = (same (rounds_from_else7 c)).0 in
-    record {
-      some_input = s.pre.some_input;
-      few = omega (arith, s.pre.inputs_most, s.pre.few);
-      good = s.pre.good;
-      levels_length = ap length (same_true a.levels.now (levels_of a.inputs (gates_of a.table.now)) own)
-          ∙ length_levels a.inputs (gates_of a.table.now);
-      published_length = (fit a.inputs a.k (gates_of a.table.now) a.triples.now a.wires.now a.published.now
-          (fits (else2_from_else7 c))).published_length;
-    }
-
-enum_known_place : tie.Need-enum-known-place
-enum_known_place c = search rules
-
-enum_told_2 : tie.Need-enum-told-2
-enum_told_2 c = search rules
+    ∙ fail _ 202 [] (and_both _ _ false (long c.before.before)
+    (sym c.before.only-bits2.ensures ∙ not-true c.before.only-bits2.result c.if7.true)))
 
 returns_9 : tie.Need-returns-9
-unfolding depths_outcome level_reason_of
+unfolding depths_outcome level_reason_of reason_of table_reasons
 returns_9 c =
-    let turn = c.before.before.before in
-    let s = (start_from_else7 turn.before) in
-    let a = s.args in
-    outcome_some
-    (first_of (table_reasons a.inputs a.k (gates_of a.table.now) a.t a.p a.round a.levels.now
-    a.triples.now a.heard.now a.wires.now a.published.now))
-    (depths_of a.inputs (gates_of a.table.now)) (reason_at 203 c.before.place.given.0.0)
-    (passed_before turn.before ∙ found _ 203 _ [] (sym turn.first-out-of-turn.ensures ∙ c.before.place.given.1))
-
-returns_10 : tie.Need-returns-10
-unfolding depths_outcome level_reason_of
-returns_10 c =
-    let turn = c.before.before in
-    let s = (start_from_else7 turn.before) in
+    let s = (start_from_else7 c) in
     let a = s.args in
     outcome_none
     (first_of (table_reasons a.inputs a.k (gates_of a.table.now) a.t a.p a.round a.levels.now
     a.triples.now a.heard.now a.wires.now a.published.now))
     (depths_of a.inputs (gates_of a.table.now)) _
-    (passed_before turn.before ∙ nowhere _ 203 [] (sym turn.first-out-of-turn.ensures ∙ c.enum-told2.given.1) ∙ end)
-    (depths_are a.inputs a.table.now _ _ _ s.pre.gates_are s.pre.conditional_are (same (rounds_from_else7 turn.before)).1)
+    (pass _ 16 _ (trustee (else1_from_else7 c)) ∙ pass _ 17 _ (fits (else2_from_else7 c))
+    ∙ pass _ 18 _ (bits (else3_from_else7 c)) ∙ pass _ 200 _ (same (rounds_from_else7 c)).0
+    ∙ pass _ 201 _ (early c.before.before.before)
+    ∙ pass _ 202 [] (and_both _ _ true (long c.before.before)
+    (sym c.before.only-bits2.ensures ∙ not-false c.before.only-bits2.result c.if7.false)) ∙ end)
+    (depths_are a.inputs a.table.now _ _ _ s.pre.gates_are s.pre.conditional_are (same (rounds_from_else7 c)).1)
 
 pub test_tables_spec : {M : Type 1} → statement M
 test_tables_spec =
@@ -397,7 +351,7 @@ test_tables_spec =
     returns
     tables_fit_requires
     returns_2
-    both_bits_requires
+    only_bits_requires
     returns_3
     returns_4
     compare_requires
@@ -407,10 +361,6 @@ test_tables_spec =
     returns_6
     mul_if6
     returns_7
-    only_bits_requires
+    only_bits_requires_2
     returns_8
-    first_out_of_turn_requires
-    enum_known_place
-    enum_told_2
-    returns_9
-    returns_10)
+    returns_9)

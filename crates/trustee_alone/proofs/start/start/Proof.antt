@@ -223,8 +223,8 @@ copy_requires c κs =
       length-replicate {A = ℕ} (length (start_from_enum_told2 told).args.wires.now) 0,
     )
 
-clear_requires : tie.Need-clear-requires
-clear_requires c κs = search rules
+empty_requires_2 : tie.Need-empty-requires-2
+empty_requires_2 c κs = search rules
 
 same_length_3 : tie.Need-same-length-3
 same_length_3 c = search rules
@@ -252,7 +252,7 @@ returns_3 c =
     l.1.wires_length ∙ left_new
     (first_of (start_reasons a.shape a.table.now a.t a.p a.shares.now a.triples.now a.wires.now
     a.published.now)) (start_wires (length (gates_of a.table.now)) a.shares.now) a.wires.now why)
-    (c.before.before.clear.ensures
+    (c.before.before.empty2.ensures
     ∙ started_published_lem a.published.now (conditional_count (gates_of a.table.now)) a.shape.candidates
     l.1.published_length ∙ left_new
     (first_of (start_reasons a.shape a.table.now a.t a.p a.shares.now a.triples.now a.wires.now
@@ -276,7 +276,7 @@ start_spec =
     enum_told_2
     empty_requires
     copy_requires
-    clear_requires
+    empty_requires_2
     same_length_3
     same_length_4
     returns_3)

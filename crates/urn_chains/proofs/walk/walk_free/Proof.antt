@@ -25,7 +25,7 @@ decreases_loop urn bytes slots marks₀ count₀ slot₀ marks count slot =
 
 -- there are 256 marks
 met_size : (s : tie.Start invariant_loop decreases_loop) → length s.args.met ≡ 256
-met_size s = s.well_formed.1.1.1.0.1.0.1
+met_size s = s.well-formed.1.1.1.0.1.0.1
 
 -- what the look at a turn's slot found
 well : (c : tie.After-known-told invariant_loop decreases_loop) →

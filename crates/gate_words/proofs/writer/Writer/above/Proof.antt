@@ -1,7 +1,10 @@
 -- `gate_words::writer::Writer::above` meets its contract: after i digits, writing the rest of the chain completes
 -- it.
 -- Assumes nothing.
-use Rattle.basics.proofs.Common.{◌∙◌, sym, ap, ℕ, ◌+◌, ◌-◌, ◌≤◌, add-zero, sub-zero, arith}
+use mathlib.Core.Path.{◌∙◌, sym, ap}
+use Prim.Native.Nat.{ℕ, ◌+◌, ◌-◌, ◌≤◌}
+use native.Mathlib.Nat.{add-zero, sub-zero}
+use native.Mathlib.Omega.{arith}
 use Rattle.gate_words.specs.Comparison.{above}
 use Rattle.gate_words.proofs.Emitting.{mux_wrote}
 use Rattle.gate_words.proofs.WordSteps.{above_step, above_none, length_above}
@@ -20,20 +23,37 @@ loop_holds : tie.Need-loop-init invariant_loop decreases_loop
 loop_holds c =
     let a = c.before.args in (
       omega arith,
-      goes_as (sym (ap (λ (n : ℕ). above a.self.wire n (a.x + 0) a.s (a.digits - 0)) (add-zero a.differ)
+      goes_as a.self a.table.now (above a.self.wire a.differ a.x a.s a.digits) a.self
+          a.table.now _ _
+          (sym (ap (λ (n : ℕ). above a.self.wire n (a.x + 0) a.s (a.digits - 0)) (add-zero a.differ)
           ∙ ap (λ (n : ℕ). above a.self.wire a.differ n a.s (a.digits - 0)) (add-zero a.x)
           ∙ ap (above a.self.wire a.differ a.x a.s) (sub-zero a.digits)))
-          (goes_start c.before.requires.room),
+          (goes_start a.self a.table.now (above a.self.wire a.differ a.x a.s a.digits)
+          a.digits c.before.requires.room),
     )
+
+add_emit : tie.Need-overflow-add-emit invariant_loop decreases_loop
+add_emit c = omega arith
+
+add_emit_2 : tie.Need-overflow-add-emit-2 invariant_loop decreases_loop
+add_emit_2 c = omega arith
 
 emit_requires : tie.Need-emit-requires invariant_loop decreases_loop
 emit_requires c κs =
     let s = c.before.before.before.before in
     let a = s.args in
     let l = c.before.before.loop in
-    goes_room l.invariant.1
+    goes_room a.self a.table.now (above a.self.wire a.differ a.x a.s a.digits) l.w
+    l.table (above l.w.wire (a.differ + l.i) (a.x + l.i) l.last (a.digits - l.i)) 1 a.digits
+    l.invariant.1
     (omega (arith, length_above l.w.wire (a.differ + l.i) (a.x + l.i) l.last (a.digits - l.i)))
     (omega (arith, length_above a.self.wire a.differ a.x a.s a.digits)) s.requires.room
+
+add_i : tie.Need-overflow-add-i invariant_loop decreases_loop
+add_i c = omega arith
+
+loop_less : tie.Need-loop-smaller invariant_loop decreases_loop
+loop_less c = omega arith
 
 -- The stages of the function, seen from later ones.
 abbrev start_from_emit : tie.After-emit invariant_loop decreases_loop → tie.Start invariant_loop decreases_loop
@@ -49,21 +69,30 @@ loop_again c =
     let l = (loop_reached_from_slice_known2 c).loop in
     let e = c.before.before.emit in
     let t = c.before.before.before.before.loop-test.true in
-    let wrote = mux_wrote e.ensures in (
+    let wrote = mux_wrote l.w l.table e.new.1.0 e.result (a.differ + l.i) (a.x + l.i) l.last e.ensures in (
       omega arith,
-      goes_as (ap (λ (n : ℕ). above n (a.differ + (l.i + 1)) (a.x + (l.i + 1)) l.w.wire
-          (a.digits - (l.i + 1))) (sym wrote.wires)) (goes_on
-          (goes_as (above_step l.w.wire a.differ a.x l.last l.i a.digits t) l.inv.1)
+      goes_as a.self a.table.now (above a.self.wire a.differ a.x a.s a.digits) e.result
+          e.new.1.0 _ _
+          (ap (λ (n : ℕ). above n (a.differ + (l.i + 1)) (a.x + (l.i + 1)) l.w.wire
+          (a.digits - (l.i + 1))) (sym wrote.wires))
+          (goes_on a.self a.table.now (above a.self.wire a.differ a.x a.s a.digits) l.w
+          l.table _ _ e.new.1.0 e.result
+          (goes_as a.self a.table.now (above a.self.wire a.differ a.x a.s a.digits) l.w
+          l.table _ _ (above_step l.w.wire a.differ a.x l.last l.i a.digits t) l.inv.1)
           wrote),
     )
+
+same_length : tie.Need-same-length invariant_loop decreases_loop
+same_length c = c.before.loop.invariant.1.long
 
 returns : tie.Need-returns invariant_loop decreases_loop
 returns c =
     let a = c.before.before.before.args in
     let l = c.before.loop in
-    goes_end (above_none l.w.wire (a.differ + l.i) (a.x + l.i) l.last l.i a.digits
+    goes_end a.self a.table.now (above a.self.wire a.differ a.x a.s a.digits) l.w
+    l.table _ (above_none l.w.wire (a.differ + l.i) (a.x + l.i) l.last l.i a.digits
     c.loop-test.false) l.invariant.1
 
 pub above_spec : {M : Type 1} → statement M
-above_spec = tie.close (tie.spec invariant_loop decreases_loop loop_holds (λ c. omega arith) (λ c. omega arith) emit_requires
-    (λ c. omega arith) (λ c. omega arith) loop_again (λ c. c.before.loop.invariant.1.long) returns)
+above_spec = tie.close (tie.spec invariant_loop decreases_loop loop_holds add_emit add_emit_2 emit_requires add_i loop_less
+    loop_again same_length returns)

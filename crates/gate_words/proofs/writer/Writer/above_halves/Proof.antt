@@ -1,6 +1,9 @@
 -- `gate_words::writer::Writer::above_halves` meets its contract: two chains, and the gate that joins them.
 -- Assumes nothing.
-use Rattle.basics.proofs.Common.{refl, ap, ℕ, ◌+◌, ◌-◌, arith, needs}
+use mathlib.Core.Path.{refl, ap}
+use Prim.Native.Nat.{ℕ, ◌+◌, ◌-◌}
+use native.Mathlib.Omega.{arith}
+use borrow.Author.Rules.{rules}
 use Rattle.gate_words.specs.Comparison.{above}
 use Rattle.gate_words.proofs.WordSteps.{length_above}
 use Rattle.gate_words.proofs.Writing.{wrote_as, room_less}
@@ -22,7 +25,7 @@ above_requires : tie.Need-above-requires
 above_requires c κs =
     let s = c.before.before in
     record {
-      room = room_less (omega arith) s.requires.room;
+      room = room_less s.args.self _ _ (omega arith) s.requires.room;
       first_below = omega (arith, s.requires);
       second_below = omega (arith, s.requires);
     }
@@ -35,12 +38,13 @@ lower : (c : tie.After-above) → Stands c.above.result
 lower c =
     let s = c.before.before.before in
     let a = s.args in
-    stands_after c.above.ensures (length_above a.self.wire (a.f + 1) (a.x + 1) a.x a.low)
-    (stands refl (omega arith) s.requires.room)
+    stands_after a.self a.table.now _ c.above.new.1.0 c.above.result _ _ _ c.above.ensures
+    (length_above a.self.wire (a.f + 1) (a.x + 1) a.x a.low)
+    (stands a.self a.self.wire _ _ refl (omega arith) s.requires.room)
 
 same_length : tie.Need-same-length
 same_length c =
-    search needs
+    search rules
 
 -- The stages of the function, seen from later ones.
 abbrev start_from_else1 : tie.Else1 → tie.Start
@@ -79,7 +83,8 @@ above2_from_emit c = c.before.before.before.before.before
 returns : tie.Need-returns
 returns c =
     let a = (start_from_then1 c).args in
-    wrote_as (above_halves_none a.self.wire a.f a.x a.e a.low a.high c.if1.true)
+    wrote_as a.self a.table.now _ _ _ _
+    (above_halves_none a.self.wire a.f a.x a.e a.low a.high c.if1.true)
     c.before.before.before.above.ensures
 
 add_start : tie.Need-overflow-add-start
@@ -127,7 +132,7 @@ above_requires_2 c κs =
     let more = c.before.before.if1.false in
     let l = lower (above_from_above_arg2 c) in
     record {
-      room = room_of l (omega arith);
+      room = room_of (above_from_above_arg2 c).above.result _ _ _ l (omega arith);
       first_below = omega (arith, l.place, (start_from_chain_end c.before).pre);
       second_below = omega (arith, l.place, (start_from_chain_end c.before).pre);
     }
@@ -141,9 +146,11 @@ upper c =
     let a = (start_from_above2 c).args in
     let more = c.before.before.before.if1.false in
     let l = lower (above_from_above2 c) in
-    stands_after c.above2.ensures
+    stands_after (above_from_above2 c).above.result (above_from_above2 c).above.last.1.0 _
+    c.above2.new.1.0 c.above2.result _ _ _ c.above2.ensures
     (length_above (above_from_above2 c).above.result.wire (a.f + 1 + a.low + 1) (a.x + 1 + a.low + 1)
-    (a.x + 1 + a.low) (a.high - 1)) (stands l.place (omega arith) l.left)
+    (a.x + 1 + a.low) (a.high - 1))
+    (stands (above_from_above2 c).above.result (a.self.wire + a.low) _ _ l.place (omega arith) l.left)
 
 chain_end_requires_2 : tie.Need-chain-end-requires-2
 chain_end_requires_2 c κs =
@@ -155,7 +162,7 @@ emit_requires c κs =
 
 same_length_2 : tie.Need-same-length-2
 same_length_2 c =
-    search needs
+    search rules
 
 returns_2 : tie.Need-returns-2
 returns_2 c =
@@ -165,11 +172,16 @@ returns_2 c =
     let t₁ = (above_from_emit c.before.before).above.last.1.0 in
     let w₂ = (above2_from_emit c.before.before).above2.result in
     let t₂ = (above2_from_emit c.before.before).above2.last.1.0 in
-    wrote_as (above_halves_some a.self.wire a.f a.x a.e a.low a.high (omega arith))
-    (wrote_then (wrote_then (above_from_emit c.before.before).above.ensures
+    wrote_as a.self a.table.now _ _ _ _ (above_halves_some a.self.wire a.f a.x a.e a.low a.high (omega arith))
+    (wrote_then a.self a.table.now _ t₂ w₂ _ _ _ _
+    (wrote_then a.self a.table.now _ t₁ w₁ _ _ t₂ w₂
+    (above_from_emit c.before.before).above.ensures
     (above2_from_emit c.before.before).above2.ensures
     (ap (λ (k : ℕ). above k (a.f + 1 + a.low + 1) (a.x + 1 + a.low + 1) (a.x + 1 + a.low) (a.high - 1))
-    (lower (above_from_emit c.before.before)).place)) (mux_wrote c.before.before.emit.ensures)
+    (lower (above_from_emit c.before.before)).place))
+    (mux_wrote w₂ t₂ c.before.before.emit.new.1.0 c.before.before.emit.result a.e
+    (chain_end_from_emit c.before.before).chain-end.result
+    c.before.before.before.chain-end2.result c.before.before.emit.ensures)
     (one_gate 7 refl (chain_end_from_emit c.before.before).chain-end.ensures c.before.before.before.chain-end2.ensures))
 
 pub above_halves_spec : {M : Type 1} → statement M

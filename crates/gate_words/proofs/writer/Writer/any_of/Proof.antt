@@ -1,7 +1,8 @@
 -- `gate_words::writer::Writer::any_of` meets its contract: it is `chain` at kind 5.
 -- Assumes nothing.
-use Rattle.basics.proofs.Common.{arith, needs}
+use native.Mathlib.Omega.{arith}
 use Rattle.gates.proofs.Laws.{operand_counts_lem}
+use borrow.Author.Rules.{rules}
 use Rattle.gate_words.proofs.writer.Writer.any_of.Statement.{statement}
 use Rattle.gate_words.proofs.writer.Writer.any_of.Tie as tie
 
@@ -15,5 +16,11 @@ chain_requires c κs =
       two = omega (arith, operand_counts_lem);
     }
 
+same_length : tie.Need-same-length
+same_length c = omega arith
+
+returns : tie.Need-returns
+returns c = search rules
+
 pub any_of_spec : {M : Type 1} → statement M
-any_of_spec = tie.close (tie.spec chain_requires (λ c. omega arith) (λ c. search needs))
+any_of_spec = tie.close (tie.spec chain_requires same_length returns)

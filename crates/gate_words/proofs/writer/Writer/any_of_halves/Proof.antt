@@ -1,6 +1,9 @@
 -- `gate_words::writer::Writer::any_of_halves` meets its contract: two chains, and the gate that joins them.
 -- Assumes nothing.
-use Rattle.basics.proofs.Common.{refl, ap, ℕ, ◌+◌, ◌-◌, arith, needs}
+use mathlib.Core.Path.{refl, ap}
+use Prim.Native.Nat.{ℕ, ◌+◌, ◌-◌}
+use native.Mathlib.Omega.{arith}
+use borrow.Author.Rules.{rules}
 use Rattle.gate_words.specs.Choice.{any_of}
 use Rattle.gate_words.proofs.ChoiceSteps.{length_chain}
 use Rattle.gate_words.proofs.Writing.{wrote_as, room_less}
@@ -15,7 +18,7 @@ any_of_requires c κs =
     let s = c.before.before in
     let a = s.args in
     record {
-      room = room_less (omega arith) s.requires.room;
+      room = room_less a.self _ _ (omega arith) s.requires.room;
       below = beside a.self.wire a.first a.low (omega (arith, s.requires.below));
       near = omega arith;
     }
@@ -28,12 +31,13 @@ lower : (c : tie.After-any-of)
 lower c =
     let s = c.before.before.before in
     let a = s.args in
-    stands_after c.any_of.ensures (length_chain 5 a.self.wire a.s a.first 1 a.low)
-    (stands refl (omega arith) s.requires.room)
+    stands_after a.self a.table.now _ c.any_of.new.1.0 c.any_of.result _ _ _ c.any_of.ensures
+    (length_chain 5 a.self.wire a.s a.first 1 a.low)
+    (stands a.self a.self.wire _ _ refl (omega arith) s.requires.room)
 
 same_length : tie.Need-same-length
 same_length c =
-    search needs
+    search rules
 
 -- The stages of the function, seen from later ones.
 abbrev start_from_else1 : tie.Else1 → tie.Start
@@ -72,7 +76,8 @@ any_of2_from_emit c = c.before.before.before.before.before
 returns : tie.Need-returns
 returns c =
     let a = (start_from_then1 c).args in
-    wrote_as (any_halves_none a.self.wire a.s a.first a.low a.high c.if1.true)
+    wrote_as a.self a.table.now _ _ _ _
+    (any_halves_none a.self.wire a.s a.first a.low a.high c.if1.true)
     c.before.before.before.any_of.ensures
 
 add_start : tie.Need-overflow-add-start
@@ -115,7 +120,7 @@ any_of_requires_2 c κs =
     let more = c.before.before.if1.false in
     let l = lower (any_of_from_any_of_arg2 c) in
     record {
-      room = room_of l (omega arith);
+      room = room_of (any_of_from_any_of_arg2 c).any_of.result _ _ _ l (omega arith);
       below = beside (any_of_from_any_of_arg2 c).any_of.result.wire (a.first + a.low + 1) (a.high - 1)
           (omega (arith, l.place, (start_from_chain_end c.before).pre.below));
       near = omega arith;
@@ -130,9 +135,11 @@ upper c =
     let a = (start_from_any_of2 c).args in
     let more = c.before.before.before.if1.false in
     let l = lower (any_of_from_any_of2 c) in
-    stands_after c.any-of2.ensures
+    stands_after (any_of_from_any_of2 c).any_of.result (any_of_from_any_of2 c).any_of.last.1.0 _
+    c.any-of2.new.1.0 c.any-of2.result _ _ _ c.any-of2.ensures
     (length_chain 5 (any_of_from_any_of2 c).any_of.result.wire (a.first + a.low) (a.first + a.low + 1) 1
-    (a.high - 1)) (stands l.place (omega arith) l.left)
+    (a.high - 1))
+    (stands (any_of_from_any_of2 c).any_of.result (a.self.wire + a.low) _ _ l.place (omega arith) l.left)
 
 chain_end_requires_2 : tie.Need-chain-end-requires-2
 chain_end_requires_2 c κs =
@@ -148,7 +155,7 @@ emit_requires c κs =
 
 same_length_2 : tie.Need-same-length-2
 same_length_2 c =
-    search needs
+    search rules
 
 returns_2 : tie.Need-returns-2
 returns_2 c =
@@ -158,11 +165,16 @@ returns_2 c =
     let t₁ = (any_of_from_emit c.before.before).any_of.last.1.0 in
     let w₂ = (any_of2_from_emit c.before.before).any-of2.result in
     let t₂ = (any_of2_from_emit c.before.before).any-of2.last.1.0 in
-    wrote_as (any_halves_some a.self.wire a.s a.first a.low a.high (omega arith))
-    (wrote_then (wrote_then (any_of_from_emit c.before.before).any_of.ensures
+    wrote_as a.self a.table.now _ _ _ _ (any_halves_some a.self.wire a.s a.first a.low a.high (omega arith))
+    (wrote_then a.self a.table.now _ t₂ w₂ _ _ _ _
+    (wrote_then a.self a.table.now _ t₁ w₁ _ _ t₂ w₂
+    (any_of_from_emit c.before.before).any_of.ensures
     (any_of2_from_emit c.before.before).any-of2.ensures
     (ap (λ (k : ℕ). any_of k (a.first + a.low) (a.first + a.low + 1) 1 (a.high - 1))
-    (lower (any_of_from_emit c.before.before)).place)) (or_wrote 0 c.before.before.emit.ensures)
+    (lower (any_of_from_emit c.before.before)).place))
+    (or_wrote w₂ t₂ c.before.before.emit.new.1.0 c.before.before.emit.result
+    (chain_end_from_emit c.before.before).chain-end.result
+    c.before.before.before.chain-end2.result 0 c.before.before.emit.ensures)
     (one_gate 5 (chain_end_from_emit c.before.before).chain-end.ensures c.before.before.before.chain-end2.ensures refl))
 
 pub any_of_halves_spec : {M : Type 1} → statement M

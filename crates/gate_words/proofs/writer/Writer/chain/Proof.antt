@@ -1,7 +1,9 @@
 -- `gate_words::writer::Writer::chain` meets its contract: after each gate, writing the rest of the chain completes
 -- it.
 -- Assumes nothing.
-use Rattle.basics.proofs.Common.{sym, ap, ℕ, ◌+◌, ◌-◌, arith}
+use mathlib.Core.Path.{sym, ap}
+use Prim.Native.Nat.{ℕ, ◌+◌, ◌-◌}
+use native.Mathlib.Omega.{arith}
 use Rattle.gate_words.specs.Word.{Below}
 use Rattle.gate_words.specs.Choice.{chain_of}
 use Rattle.gate_words.proofs.Emitting.{two_wrote}
@@ -22,7 +24,8 @@ decreases_loop table₀ kind s first stride count w₀ last₀ at₀ left₀ tab
 loop_holds : tie.Need-loop-init invariant_loop decreases_loop
 loop_holds c =
     let a = c.before.args in (
-      goes_start c.before.requires.room,
+      goes_start a.self a.table.now (chain_of a.kind a.self.wire a.s a.first a.stride a.count)
+          a.count c.before.requires.room,
       c.before.requires.below,
     )
 
@@ -31,7 +34,9 @@ emit_requires c κs =
     let s = c.before.before.before.before in
     let a = s.args in
     let l = c.before.before.loop in
-    goes_room l.invariant.0 (omega (arith, length_chain a.kind l.w.wire l.last l.at a.stride l.left))
+    goes_room a.self a.table.now (chain_of a.kind a.self.wire a.s a.first a.stride a.count)
+    l.w l.table (chain_of a.kind l.w.wire l.last l.at a.stride l.left) 1 a.count l.invariant.0
+    (omega (arith, length_chain a.kind l.w.wire l.last l.at a.stride l.left))
     (omega (arith, length_chain a.kind a.self.wire a.s a.first a.stride a.count)) s.requires.room
 
 -- The stages of the function, seen from later ones.
@@ -53,6 +58,12 @@ add_at c =
           c.before.before.before.before.loop-test.true l.inv.1,
     )
 
+sub_left : tie.Need-overflow-sub-left invariant_loop decreases_loop
+sub_left c = omega arith
+
+loop_less : tie.Need-loop-smaller invariant_loop decreases_loop
+loop_less c = omega arith
+
 loop_again : tie.Need-loop-preserved invariant_loop decreases_loop
 loop_again c =
     let s = (start_from_emit c.before.before) in
@@ -60,21 +71,30 @@ loop_again c =
     let l = (loop_reached_from_slice_known2 c).loop in
     let e = c.before.before.emit in
     let t = c.before.before.before.before.loop-test.true in
-    let wrote = two_wrote 0 a.kind s.pre.two e.ensures in (
-      goes_as
+    let wrote = two_wrote l.w l.table e.new.1.0 e.result l.last l.at 0 a.kind s.pre.two e.ensures in (
+      goes_as a.self a.table.now (chain_of a.kind a.self.wire a.s a.first a.stride a.count)
+          e.result e.new.1.0 _ _
           (ap (λ (n : ℕ). chain_of a.kind n l.w.wire (l.at + a.stride) a.stride (l.left - 1)) (sym wrote.wires))
-          (goes_on (goes_as (chain_step a.kind l.w.wire l.last l.at a.stride l.left t) l.inv.0)
+          (goes_on a.self a.table.now
+          (chain_of a.kind a.self.wire a.s a.first a.stride a.count) l.w l.table _ _
+          e.new.1.0 e.result
+          (goes_as a.self a.table.now
+          (chain_of a.kind a.self.wire a.s a.first a.stride a.count) l.w l.table _ _
+          (chain_step a.kind l.w.wire l.last l.at a.stride l.left t) l.inv.0)
           wrote),
       below_rest a.self.wire l.at a.stride l.left t l.inv.1,
     )
+
+same_length : tie.Need-same-length invariant_loop decreases_loop
+same_length c = c.before.loop.invariant.0.long
 
 returns : tie.Need-returns invariant_loop decreases_loop
 returns c =
     let a = c.before.before.before.args in
     let l = c.before.loop in
-    goes_end (chain_none a.kind l.w.wire l.last l.at a.stride l.left
+    goes_end a.self a.table.now (chain_of a.kind a.self.wire a.s a.first a.stride a.count)
+    l.w l.table _ (chain_none a.kind l.w.wire l.last l.at a.stride l.left
     c.loop-test.false) l.invariant.0
 
 pub chain_spec : {M : Type 1} → statement M
-chain_spec = tie.close (tie.spec invariant_loop decreases_loop loop_holds emit_requires add_at (λ c. omega arith) (λ c. omega arith)
-    loop_again (λ c. c.before.loop.invariant.0.long) returns)
+chain_spec = tie.close (tie.spec invariant_loop decreases_loop loop_holds emit_requires add_at sub_left loop_less loop_again same_length returns)

@@ -1,7 +1,10 @@
 -- `gate_words::writer::Writer::choose` meets its contract: after i gates, writing the digits left completes the
 -- block.
 -- Assumes nothing.
-use Rattle.basics.proofs.Common.{◌∙◌, sym, ap, ℕ, ◌+◌, ◌-◌, ◌≤◌, add-zero, sub-zero, arith}
+use mathlib.Core.Path.{◌∙◌, sym, ap}
+use Prim.Native.Nat.{ℕ, ◌+◌, ◌-◌, ◌≤◌}
+use native.Mathlib.Nat.{add-zero, sub-zero}
+use native.Mathlib.Omega.{arith}
 use Rattle.gate_words.specs.Choice.{choose}
 use Rattle.gate_words.proofs.Emitting.{mux_wrote}
 use Rattle.gate_words.proofs.Going.{Goes, goes_start, goes_as, goes_on, goes_room, goes_end}
@@ -21,18 +24,34 @@ loop_holds c =
     let s = c.before in
     let a = s.args in (
       omega arith,
-      goes_as (sym (ap (λ (n : ℕ). choose a.f n (a.y + 0) (a.digits - 0)) (add-zero a.x)
+      goes_as a.self a.table.now (choose a.f a.x a.y a.digits) a.self a.table.now _ _
+          (sym (ap (λ (n : ℕ). choose a.f n (a.y + 0) (a.digits - 0)) (add-zero a.x)
           ∙ ap (λ (n : ℕ). choose a.f a.x n (a.digits - 0)) (add-zero a.y)
-          ∙ ap (choose a.f a.x a.y) (sub-zero a.digits))) (goes_start s.requires.room),
+          ∙ ap (choose a.f a.x a.y) (sub-zero a.digits)))
+          (goes_start a.self a.table.now (choose a.f a.x a.y a.digits) a.digits s.requires.room),
     )
+
+add_emit : tie.Need-overflow-add-emit invariant_loop decreases_loop
+add_emit c = omega arith
+
+add_emit_2 : tie.Need-overflow-add-emit-2 invariant_loop decreases_loop
+add_emit_2 c = omega arith
 
 emit_requires : tie.Need-emit-requires invariant_loop decreases_loop
 emit_requires c κs =
     let s = c.before.before.before.before in
     let a = s.args in
     let l = c.before.before.loop in
-    goes_room l.invariant.1 (omega (arith, length_choose a.f (a.x + l.i) (a.y + l.i) (a.digits - l.i)))
+    goes_room a.self a.table.now (choose a.f a.x a.y a.digits) l.w l.table
+    (choose a.f (a.x + l.i) (a.y + l.i) (a.digits - l.i)) 1 a.digits l.invariant.1
+    (omega (arith, length_choose a.f (a.x + l.i) (a.y + l.i) (a.digits - l.i)))
     (omega (arith, length_choose a.f a.x a.y a.digits)) s.requires.room
+
+add_i : tie.Need-overflow-add-i invariant_loop decreases_loop
+add_i c = omega arith
+
+loop_less : tie.Need-loop-smaller invariant_loop decreases_loop
+loop_less c = omega arith
 
 -- The stages of the function, seen from later ones.
 abbrev start_from_emit : tie.After-emit invariant_loop decreases_loop → tie.Start invariant_loop decreases_loop
@@ -48,16 +67,23 @@ loop_again c =
     let l = (loop_reached_from_slice_known2 c).loop in
     let e = c.before.before.emit in (
       omega arith,
-      goes_on (goes_as (choose_step a.f a.x a.y l.i a.digits
-          c.before.before.before.before.loop-test.true) l.inv.1) (mux_wrote e.ensures),
+      goes_on a.self a.table.now (choose a.f a.x a.y a.digits) l.w l.table _ _ e.new.1.0 e.result
+          (goes_as a.self a.table.now (choose a.f a.x a.y a.digits) l.w l.table _ _
+          (choose_step a.f a.x a.y l.i a.digits
+          c.before.before.before.before.loop-test.true) l.inv.1)
+          (mux_wrote l.w l.table e.new.1.0 e.result a.f (a.x + l.i) (a.y + l.i) e.ensures),
     )
+
+same_length : tie.Need-same-length invariant_loop decreases_loop
+same_length c = c.before.loop.invariant.1.long
 
 returns : tie.Need-returns invariant_loop decreases_loop
 returns c =
     let a = c.before.before.before.args in
     let l = c.before.loop in
-    goes_end (choose_none a.f (a.x + l.i) (a.y + l.i) l.i a.digits c.loop-test.false) l.invariant.1
+    goes_end a.self a.table.now (choose a.f a.x a.y a.digits) l.w l.table _
+    (choose_none a.f (a.x + l.i) (a.y + l.i) l.i a.digits c.loop-test.false) l.invariant.1
 
 pub choose_spec : {M : Type 1} → statement M
-choose_spec = tie.close (tie.spec invariant_loop decreases_loop loop_holds (λ c. omega arith) (λ c. omega arith) emit_requires
-    (λ c. omega arith) (λ c. omega arith) loop_again (λ c. c.before.loop.invariant.1.long) returns)
+choose_spec = tie.close (tie.spec invariant_loop decreases_loop loop_holds add_emit add_emit_2 emit_requires add_i loop_less
+    loop_again same_length returns)

@@ -1,6 +1,9 @@
 -- `gate_words::writer::Writer::compare_halves` meets its contract: whether the words differ, then which is above.
 -- Assumes nothing.
-use Rattle.basics.proofs.Common.{◌∙◌, refl, ap, ℕ, ◌+◌, ◌-◌, arith, needs}
+use mathlib.Core.Path.{◌∙◌, refl, ap}
+use Prim.Native.Nat.{ℕ, ◌+◌, ◌-◌}
+use native.Mathlib.Omega.{arith}
+use borrow.Author.Rules.{rules}
 use Rattle.gate_words.specs.Halves.{unequal_span, above_halves, compare_halves}
 use Rattle.gate_words.proofs.Writing.{room_less}
 use Rattle.gate_words.proofs.HalvesLaws.{length_unequal_halves}
@@ -16,7 +19,7 @@ unequal_halves_requires : tie.Need-unequal-halves-requires
 unequal_halves_requires c κs =
     let s = c.before.before.before in
     record {
-      room = room_less (omega arith) s.requires.room;
+      room = room_less s.args.self _ _ (omega arith) s.requires.room;
       first_below = s.requires.first_below;
       second_below = s.requires.second_below;
     }
@@ -24,15 +27,17 @@ unequal_halves_requires c κs =
 -- after the part that says whether the words differ
 
 differ : (c : tie.After-unequal-halves)
-    → Stands c.unequal-halves.result (c.before.before.before.before.args.self.wire
+    → Stands c.unequal-halves.result
+    (c.before.before.before.before.args.self.wire
     + unequal_span (c.before.before.before.before.args.low
     + c.before.before.before.before.args.high))
     (c.before.before.before.before.args.low + c.before.before.before.before.args.high)
 differ c =
     let s = c.before.before.before.before in
     let a = s.args in
-    stands_after c.unequal-halves.ensures (length_unequal_halves a.self.wire a.x a.y a.low a.high)
-    (stands refl (omega arith) s.requires.room)
+    stands_after a.self a.table.now _ c.unequal-halves.new.1.0 c.unequal-halves.result _ _ _
+    c.unequal-halves.ensures (length_unequal_halves a.self.wire a.x a.y a.low a.high)
+    (stands a.self a.self.wire _ _ refl (omega arith) s.requires.room)
 
 -- The stages of the function, seen from later ones.
 abbrev start_from_above_halves_arg : tie.After-above-halves-arg → tie.Start
@@ -58,13 +63,14 @@ above_halves_requires c κs =
 
 same_length : tie.Need-same-length
 same_length c =
-    search needs
+    search rules
 
 returns : tie.Need-returns
 unfolding compare_halves
 returns c =
     let a = (start_from_above_halves c.before.before).args in
-    wrote_then
+    wrote_then a.self a.table.now _ (unequal_halves_from_slice_known3 c).unequal-halves.last.1.0
+    (unequal_halves_from_slice_known3 c).unequal-halves.result _ _ _ _
     (unequal_halves_from_slice_known3 c).unequal-halves.ensures c.before.before.above-halves.ensures
     (ap (λ (k : ℕ). above_halves k a.self.wire a.x
     (high_unequal_at_from_above_halves c.before.before).high-unequal-at.result a.low a.high)

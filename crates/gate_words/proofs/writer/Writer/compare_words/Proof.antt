@@ -1,7 +1,11 @@
 -- `gate_words::writer::Writer::compare_words` meets its contract: after i digits, writing the digits left completes
 -- the block.
 -- Assumes nothing.
-use Rattle.basics.proofs.Common.{◌∙◌, sym, ap, ℕ, ◌+◌, ◌-◌, ◌≤◌, add-zero, sub-zero, arith}
+use mathlib.Core.Path.{◌∙◌, sym, ap}
+use Prim.Native.Nat.{ℕ, ◌+◌, ◌-◌, ◌≤◌}
+use native.Mathlib.Nat.{add-zero, sub-zero}
+use native.Mathlib.Omega.{arith}
+use lib.ListN.{length}
 use Rattle.gate_words.specs.Comparison.{compare_words}
 use Rattle.gate_words.proofs.WordSteps.{compare_step, compare_none, length_compare}
 use Rattle.gate_words.proofs.Going.{Goes, goes_start, goes_as, goes_on, goes_room, goes_end}
@@ -20,22 +24,38 @@ loop_holds : tie.Need-loop-init invariant_loop decreases_loop
 loop_holds c =
     let a = c.before.args in (
       omega arith,
-      goes_as (sym (ap (λ (n : ℕ). compare_words a.self.wire n (a.y + 0) a.up a.down (a.digits - 0))
+      goes_as a.self a.table.now (compare_words a.self.wire a.x a.y a.up a.down a.digits)
+          a.self a.table.now _ _
+          (sym (ap (λ (n : ℕ). compare_words a.self.wire n (a.y + 0) a.up a.down (a.digits - 0))
           (add-zero a.x) ∙ ap (λ (n : ℕ). compare_words a.self.wire a.x n a.up a.down
           (a.digits - 0)) (add-zero a.y)
           ∙ ap (compare_words a.self.wire a.x a.y a.up a.down) (sub-zero a.digits)))
-          (goes_start c.before.requires.room),
+          (goes_start a.self a.table.now
+          (compare_words a.self.wire a.x a.y a.up a.down a.digits)
+          (length (compare_words a.self.wire a.x a.y a.up a.down a.digits)) c.before.requires.room),
     )
+
+add_compare_next : tie.Need-overflow-add-compare-next invariant_loop decreases_loop
+add_compare_next c = omega arith
+
+add_compare_next_2 : tie.Need-overflow-add-compare-next-2 invariant_loop decreases_loop
+add_compare_next_2 c = omega arith
 
 compare_next_requires : tie.Need-compare-next-requires invariant_loop decreases_loop
 compare_next_requires c κs =
     let s = c.before.before.before.before in
     let a = s.args in
     let l = c.before.before.loop in
-    goes_room l.invariant.1 (omega (
+    goes_room a.self a.table.now (compare_words a.self.wire a.x a.y a.up a.down a.digits)
+    l.w l.table (compare_words l.w.wire (a.x + l.i) (a.y + l.i) l.above l.below
+    (a.digits - l.i)) 3 (length (compare_words a.self.wire a.x a.y a.up a.down a.digits))
+    l.invariant.1
+    (omega (
       arith,
-      length_compare l.w.wire (a.x + l.i) (a.y + l.i) l.above l.below (a.digits - l.i),
-    )) (omega (arith, length_compare a.self.wire a.x a.y a.up a.down a.digits)) s.requires.room
+      length_compare l.w.wire (a.x + l.i) (a.y + l.i) l.above l.below
+          (a.digits - l.i),
+    )) (omega (arith, length_compare a.self.wire a.x a.y a.up a.down a.digits))
+    s.requires.room
 
 -- The stages of the function, seen from later ones.
 abbrev start_from_compare_next : tie.After-compare-next invariant_loop decreases_loop → tie.Start invariant_loop decreases_loop
@@ -66,6 +86,12 @@ add_below c = let l = (loop_reached_from_slice_known2 c).loop in
           ((start_from_compare_next c.before.before).args.digits - l.i),
     )
 
+add_i : tie.Need-overflow-add-i invariant_loop decreases_loop
+add_i c = omega arith
+
+loop_less : tie.Need-loop-smaller invariant_loop decreases_loop
+loop_less c = omega arith
+
 loop_again : tie.Need-loop-preserved invariant_loop decreases_loop
 loop_again c =
     let s = (start_from_compare_next c.before.before) in
@@ -75,21 +101,33 @@ loop_again c =
     let t = c.before.before.before.before.loop-test.true in
     let wrote = e.ensures in (
       omega arith,
-      goes_as (ap (λ (n : ℕ). compare_words n (a.x + (l.i + 1)) (a.y + (l.i + 1)) (l.w.wire + 1) (l.w.wire + 2)
-          (a.digits - (l.i + 1))) (sym (wrote.wires ∙ ap (λ (n : ℕ). l.w.wire + n)
-          (length_compare l.w.wire (a.x + l.i) (a.y + l.i) l.above l.below 1)))) (goes_on (goes_as
+      goes_as a.self a.table.now (compare_words a.self.wire a.x a.y a.up a.down a.digits)
+          e.result e.new.1.0 _ _
+          (ap (λ (n : ℕ). compare_words n (a.x + (l.i + 1)) (a.y + (l.i + 1)) (l.w.wire + 1) (l.w.wire + 2)
+          (a.digits - (l.i + 1)))
+          (sym (wrote.wires ∙ ap (λ (n : ℕ). l.w.wire + n)
+          (length_compare l.w.wire (a.x + l.i) (a.y + l.i) l.above l.below 1))))
+          (goes_on a.self a.table.now
+          (compare_words a.self.wire a.x a.y a.up a.down a.digits) l.w l.table _ _
+          e.new.1.0 e.result
+          (goes_as a.self a.table.now
+          (compare_words a.self.wire a.x a.y a.up a.down a.digits) l.w l.table _ _
           (compare_step l.w.wire a.x a.y l.above l.below l.i a.digits t) l.inv.1)
           wrote),
     )
+
+same_length : tie.Need-same-length invariant_loop decreases_loop
+same_length c = c.before.loop.invariant.1.long
 
 returns : tie.Need-returns invariant_loop decreases_loop
 returns c =
     let a = c.before.before.before.args in
     let l = c.before.loop in
-    goes_end (compare_none l.w.wire (a.x + l.i) (a.y + l.i) l.above l.below l.i
+    goes_end a.self a.table.now (compare_words a.self.wire a.x a.y a.up a.down a.digits)
+    l.w l.table _ (compare_none l.w.wire (a.x + l.i) (a.y + l.i) l.above l.below l.i
     a.digits c.loop-test.false) l.invariant.1
 
 pub compare_words_spec : {M : Type 1} → statement M
 compare_words_spec = tie.close
-    (tie.spec invariant_loop decreases_loop loop_holds (λ c. omega arith) (λ c. omega arith) compare_next_requires add_above add_below
-    (λ c. omega arith) (λ c. omega arith) loop_again (λ c. c.before.loop.invariant.1.long) returns)
+    (tie.spec invariant_loop decreases_loop loop_holds add_compare_next add_compare_next_2 compare_next_requires add_above
+    add_below add_i loop_less loop_again same_length returns)

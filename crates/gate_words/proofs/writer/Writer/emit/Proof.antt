@@ -1,10 +1,38 @@
 -- `gate_words::writer::Writer::emit` meets its contract: the four numbers are the gate's, and its mark is counted.
 -- Assumes nothing.
-use Rattle.basics.proofs.Common.{arith, needs}
+use native.Mathlib.Omega.{arith}
 use Rattle.gates.proofs.Counting.{mark_at_most_one}
 use Rattle.gate_words.proofs.Writing.{wrote_gate}
+use borrow.Author.Rules.{rules}
 use Rattle.gate_words.proofs.writer.Writer.emit.Statement.{statement}
 use Rattle.gate_words.proofs.writer.Writer.emit.Tie as tie
+
+operands_requires : tie.Need-operands-requires
+operands_requires c κs = search rules
+
+mul_store : tie.Need-overflow-mul-store
+mul_store c = search rules
+
+operand_requires : tie.Need-operand-requires
+operand_requires c κs = search rules
+
+operand_requires_2 : tie.Need-operand-requires-2
+operand_requires_2 c κs = search rules
+
+operand_requires_3 : tie.Need-operand-requires-3
+operand_requires_3 c κs = search rules
+
+store_requires : tie.Need-store-requires
+store_requires c κs = search rules
+
+add_t16 : tie.Need-overflow-add-t16
+add_t16 c = search rules
+
+add_t19 : tie.Need-overflow-add-t19
+add_t19 c = search rules
+
+mark_requires : tie.Need-mark-requires
+mark_requires c κs = search rules
 
 -- The stages of the function, seen from later ones.
 abbrev start_from_operand2 : tie.After-operand2 → tie.Start
@@ -23,6 +51,9 @@ add_t22 : tie.Need-overflow-add-t22
 add_t22 c = let s = (start_from_mark c.before) in
     omega (arith, c.before.mark.ensures, mark_at_most_one s.args.kind, s.pre.counted, s.pre.few)
 
+same_length : tie.Need-same-length
+same_length c = search rules
+
 returns : tie.Need-returns
 returns c =
     let stored = (store_from_mark c.before) in
@@ -34,6 +65,17 @@ returns c =
 
 pub emit_spec : {M : Type 1} → statement M
 emit_spec =
-    tie.close (tie.spec (λ c κs. search needs) (λ c. search needs) (λ c κs. search needs) (λ c κs. search needs)
-    (λ c κs. search needs) (λ c κs. search needs) (λ c. search needs) (λ c. search needs) (λ c κs. search needs) add_t22
-    (λ c. search needs) returns)
+    tie.close
+    (tie.spec
+    operands_requires
+    mul_store
+    operand_requires
+    operand_requires_2
+    operand_requires_3
+    store_requires
+    add_t16
+    add_t19
+    mark_requires
+    add_t22
+    same_length
+    returns)

@@ -1,6 +1,10 @@
 -- `gate_words::writer::Writer::unequal_halves` meets its contract: the differences, and whether one of them is 1.
 -- Assumes nothing.
-use Rattle.basics.proofs.Common.{◌≡◌, refl, ap, ℕ, suc, ◌+◌, ◌-◌, arith, needs, add-one}
+use mathlib.Core.Path.{◌≡◌, refl, ap}
+use Prim.Native.Nat.{ℕ, suc, ◌+◌, ◌-◌}
+use native.Mathlib.Omega.{arith}
+use borrow.Author.Rules.{rules}
+use native.Mathlib.Numerals.{add-one}
 use Rattle.gate_words.specs.Comparison.{differences}
 use Rattle.gate_words.specs.Halves.{any_of_halves, unequal_halves}
 use Rattle.gate_words.proofs.WordSteps.{length_differences}
@@ -21,7 +25,7 @@ differences_requires : tie.Need-differences-requires
 differences_requires c κs =
     let s = c.before.before in
     record {
-      room = room_less (omega arith) s.requires.room;
+      room = room_less s.args.self _ _ (omega arith) s.requires.room;
       first_below = omega (arith, s.requires);
       second_below = omega (arith, s.requires);
     }
@@ -29,14 +33,16 @@ differences_requires c κs =
 -- after the differences
 
 differ : (c : tie.After-differences)
-    → Stands c.differences.result (c.before.before.before.args.self.wire
+    → Stands c.differences.result
+    (c.before.before.before.args.self.wire
     + (c.before.before.before.args.low + c.before.before.before.args.high + 1))
     (c.before.before.before.args.low + c.before.before.before.args.high)
 differ c =
     let s = c.before.before.before in
     let a = s.args in
-    stands_after c.differences.ensures (length_differences a.x a.y (a.low + a.high + 1))
-    (stands refl (omega arith) s.requires.room)
+    stands_after a.self a.table.now _ c.differences.new.1.0 c.differences.result _ _ _
+    c.differences.ensures (length_differences a.x a.y (a.low + a.high + 1))
+    (stands a.self a.self.wire _ _ refl (omega arith) s.requires.room)
 
 -- The stages of the function, seen from later ones.
 abbrev start_from_any_of_halves_arg : tie.After-any-of-halves-arg → tie.Start
@@ -59,7 +65,7 @@ any_of_halves_requires c κs =
 
 same_length : tie.Need-same-length
 same_length c =
-    search needs
+    search rules
 
 returns : tie.Need-returns
 unfolding unequal_halves
@@ -67,7 +73,9 @@ returns c =
     let a = (start_from_any_of_halves c.before.before).args in
     let e : (differences_from_slice_known3 c).differences.result.wire ≡ a.self.wire
     + suc (a.low + a.high) = omega (arith, (differ (differences_from_slice_known3 c)).place) in
-    wrote_then (wrote_as (ap (differences a.x a.y) (add-one (a.low + a.high)))
+    wrote_then a.self a.table.now _ (differences_from_slice_known3 c).differences.last.1.0
+    (differences_from_slice_known3 c).differences.result _ _ _ _
+    (wrote_as a.self a.table.now _ _ _ _ (ap (differences a.x a.y) (add-one (a.low + a.high)))
     (differences_from_slice_known3 c).differences.ensures)
     c.before.before.any-of-halves.ensures (ap (λ (k : ℕ). any_of_halves k a.self.wire (a.self.wire + 1) a.low a.high) e)
 

@@ -1,7 +1,8 @@
 -- `gate_words::writer::Writer::xor_rows` meets its contract: after each gate, writing the sums left completes the
 -- rows.
 -- Assumes nothing.
-use Rattle.basics.proofs.Common.{◌-◌, arith}
+use Prim.Native.Nat.{◌-◌}
+use native.Mathlib.Omega.{arith}
 use Rattle.gate_words.specs.Word.{Below}
 use Rattle.gate_words.specs.Rows.{xor_rows}
 use Rattle.gate_words.proofs.Emitting.{xor_wrote}
@@ -23,7 +24,7 @@ loop_holds : tie.Need-loop-init invariant_loop decreases_loop
 loop_holds c =
     let a = c.before.args in
     let p = c.before.requires in (
-      goes_start p.room,
+      goes_start a.self a.table.now (xor_rows a.x a.dx a.y a.dy a.count) a.count p.room,
       p.first_below,
       p.second_below,
     )
@@ -33,7 +34,9 @@ emit_requires c κs =
     let s = c.before.before.before.before in
     let a = s.args in
     let l = c.before.before.loop in
-    goes_room l.invariant.0 (omega (arith, length_rows l.first a.dx l.second a.dy l.left))
+    goes_room a.self a.table.now (xor_rows a.x a.dx a.y a.dy a.count) l.w l.table
+    (xor_rows l.first a.dx l.second a.dy l.left) 1 a.count l.invariant.0
+    (omega (arith, length_rows l.first a.dx l.second a.dy l.left))
     (omega (arith, length_rows a.x a.dx a.y a.dy a.count)) s.requires.room
 
 -- The stages of the function, seen from later ones.
@@ -67,6 +70,12 @@ add_second c =
           c.before.before.before.before.loop-test.true l.inv.2,
     )
 
+sub_left : tie.Need-overflow-sub-left invariant_loop decreases_loop
+sub_left c = omega arith
+
+loop_less : tie.Need-loop-smaller invariant_loop decreases_loop
+loop_less c = omega arith
+
 loop_again : tie.Need-loop-preserved invariant_loop decreases_loop
 loop_again c =
     let s = (start_from_emit c.before.before) in
@@ -75,18 +84,24 @@ loop_again c =
     let e = c.before.before.emit in
     let t = c.before.before.before.before.loop-test.true in
     let whole = xor_rows a.x a.dx a.y a.dy a.count in (
-      goes_on (goes_as (rows_step l.first a.dx l.second a.dy l.left t) l.inv.0)
-          (xor_wrote 0 e.ensures),
+      goes_on a.self a.table.now whole l.w l.table _ _ e.new.1.0 e.result
+          (goes_as a.self a.table.now whole l.w l.table _ _
+          (rows_step l.first a.dx l.second a.dy l.left t) l.inv.0)
+          (xor_wrote l.w l.table e.new.1.0 e.result l.first l.second 0 e.ensures),
       below_rest a.self.wire l.first a.dx l.left t l.inv.1,
       below_rest a.self.wire l.second a.dy l.left t l.inv.2,
     )
+
+same_length : tie.Need-same-length invariant_loop decreases_loop
+same_length c = c.before.loop.invariant.0.long
 
 returns : tie.Need-returns invariant_loop decreases_loop
 returns c =
     let a = c.before.before.before.args in
     let l = c.before.loop in
-    goes_end (rows_none l.first a.dx l.second a.dy l.left c.loop-test.false) l.invariant.0
+    goes_end a.self a.table.now (xor_rows a.x a.dx a.y a.dy a.count) l.w l.table _
+    (rows_none l.first a.dx l.second a.dy l.left c.loop-test.false) l.invariant.0
 
 pub xor_rows_spec : {M : Type 1} → statement M
-xor_rows_spec = tie.close (tie.spec invariant_loop decreases_loop loop_holds emit_requires add_first add_second (λ c. omega arith)
-    (λ c. omega arith) loop_again (λ c. c.before.loop.invariant.0.long) returns)
+xor_rows_spec = tie.close (tie.spec invariant_loop decreases_loop loop_holds emit_requires add_first add_second sub_left loop_less
+    loop_again same_length returns)

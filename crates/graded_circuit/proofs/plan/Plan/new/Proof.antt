@@ -1,6 +1,10 @@
 -- `graded_circuit::plan::Plan::new` meets its contract: within the limits every number fits, and it computes the definition.
 -- Assumes nothing.
-use Rattle.basics.proofs.Common.{◌≡◌, ◌∙◌, ap, ℕ, ◌+◌, ◌-◌, ◌/◌, ◌^◌, ◌≤◌, arith, T, needs}
+use mathlib.Core.Path.{◌≡◌, ◌∙◌, ap}
+use Prim.Native.Nat.{ℕ, ◌+◌, ◌-◌, ◌/◌, ◌^◌, ◌≤◌}
+use native.Mathlib.Omega.{arith}
+use lib.Dec.{T}
+use borrow.Author.Rules.{rules}
 use Rattle.jury.specs.declared.shape.Shape.{Shape}
 use Rattle.jury.specs.Shape.{graded_limits, ballot_bytes}
 use Rattle.jury.specs.Width.{width_of}
@@ -24,6 +28,9 @@ halves s t =
 
 cast_ballots : tie.Need-overflow-cast-ballots
 cast_ballots c = omega (arith, (within_T c.before.args.shape c.before.requires).n_most)
+
+width_requires : tie.Need-width-requires
+width_requires c κs = search rules
 
 cast_digits : tie.Need-overflow-cast-digits
 cast_digits c = let a = c.before.before in omega (arith, c.width.ensures, widths a.args.shape a.requires)
@@ -82,6 +89,9 @@ sub_width : tie.Need-overflow-sub-width
 sub_width c = let a = c.before.before.before.before.before.before.before in
     omega (arith, (within_T a.args.shape a.requires).d_least)
 
+width_requires_2 : tie.Need-width-requires-2
+width_requires_2 c κs = search rules
+
 cast_t17 : tie.Need-overflow-cast-t17
 cast_t17 c = let a = c.before.before.before.before.before.before.before.before in
     omega (arith, c.width2.ensures, grade_widths a.args.shape a.requires)
@@ -124,6 +134,23 @@ returns c =
 
 pub new_spec : {M : Type 1} → statement M
 new_spec =
-    tie.close (tie.spec cast_ballots (λ c κs. search needs) cast_digits sub_digits power_requires cast_t6 cast_t7
-    ballot_bytes_requires cast_t8 add_t9 sub_t11 sub_t12 sub_t14 sub_width (λ c κs. search needs) cast_t17 sub_t18
+    tie.close
+    (tie.spec
+    cast_ballots
+    width_requires
+    cast_digits
+    sub_digits
+    power_requires
+    cast_t6
+    cast_t7
+    ballot_bytes_requires
+    cast_t8
+    add_t9
+    sub_t11
+    sub_t12
+    sub_t14
+    sub_width
+    width_requires_2
+    cast_t17
+    sub_t18
     returns)

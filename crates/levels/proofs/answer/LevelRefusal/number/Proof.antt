@@ -24,12 +24,6 @@ enum_told_2 c = search rules
 enum_told_3 : tie.Need-enum-told-3
 enum_told_3 c = search rules
 
-enum_told_4 : tie.Need-enum-told-4
-enum_told_4 c = search rules
-
-enum_told_5 : tie.Need-enum-told-5
-enum_told_5 c = search rules
-
 returns : tie.Need-returns
 unfolding level_reason_of reason_at
 returns c = c.number.ensures ∙ sym (ap (λ (r : LevelRefusal). (level_reason_of r).number) c.before.before.self.given.1)
@@ -46,14 +40,6 @@ returns_4 : tie.Need-returns-4
 unfolding level_reason_of reason_at
 returns_4 c = sym (ap (λ (r : LevelRefusal). (level_reason_of r).number) c.enum-told3.given.1)
 
-returns_5 : tie.Need-returns-5
-unfolding level_reason_of reason_at
-returns_5 c = sym (ap (λ (r : LevelRefusal). (level_reason_of r).number) c.enum-told4.given.1)
-
-returns_6 : tie.Need-returns-6
-unfolding level_reason_of reason_at
-returns_6 c = sym (ap (λ (r : LevelRefusal). (level_reason_of r).number) c.enum-told5.given.1)
-
 pub number_spec : {M : Type 1} → statement M
 number_spec =
     tie.close
@@ -63,11 +49,7 @@ number_spec =
     enum_told
     enum_told_2
     enum_told_3
-    enum_told_4
-    enum_told_5
     returns
     returns_2
     returns_3
-    returns_4
-    returns_5
-    returns_6)
+    returns_4)

@@ -24,12 +24,6 @@ enum_told_2 c = search rules
 enum_told_3 : tie.Need-enum-told-3
 enum_told_3 c = search rules
 
-enum_known_self_2 : tie.Need-enum-known-self-2
-enum_known_self_2 c = search rules
-
-enum_known_self_3 : tie.Need-enum-known-self-3
-enum_known_self_3 c = search rules
-
 returns : tie.Need-returns
 unfolding level_reason_of reason_at
 returns c = c.place.ensures ∙ sym (ap (λ (r : LevelRefusal). (level_reason_of r).place) c.before.before.self.given.1)
@@ -46,14 +40,6 @@ returns_4 : tie.Need-returns-4
 unfolding level_reason_of reason_at
 returns_4 c = sym (ap (λ (r : LevelRefusal). (level_reason_of r).place) c.enum-told3.given.1)
 
-returns_5 : tie.Need-returns-5
-unfolding level_reason_of reason_at
-returns_5 c = sym (ap (λ (r : LevelRefusal). (level_reason_of r).place) c.before.self2.given.1)
-
-returns_6 : tie.Need-returns-6
-unfolding level_reason_of reason_at
-returns_6 c = sym (ap (λ (r : LevelRefusal). (level_reason_of r).place) c.before.self3.given.1)
-
 pub place_spec : {M : Type 1} → statement M
 place_spec =
     tie.close
@@ -63,11 +49,7 @@ place_spec =
     enum_told
     enum_told_2
     enum_told_3
-    enum_known_self_2
-    enum_known_self_3
     returns
     returns_2
     returns_3
-    returns_4
-    returns_5
-    returns_6)
+    returns_4)

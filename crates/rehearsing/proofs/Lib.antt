@@ -1,4 +1,0 @@
-pub mod Rehearsing
-pub mod Texts
-pub mod Theorems
-pub mod Examples

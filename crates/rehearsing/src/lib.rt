@@ -1,3 +1,0 @@
-// The rehearsal of a jury, and the text that it prints.
-pub mod rehearse;
-pub mod text;
