@@ -1,11 +1,11 @@
 -- Tables that are filled from the front.
 -- Assumes nothing.
-use mathlib.Core.Path.{◌≡◌, ◌∙◌, refl, ap}
+use mathlib.Core.Path.{◌≡◌, ◌∙◌, refl, sym, ap}
 use mathlib.Core.List.{List, [], ◌∷◌, ◌++◌, append-nil}
 use Prim.Native.Nat.{ℕ, zero, suc, ◌+◌}
 use native.Mathlib.Omega.{arith}
-use lib.ListN.{length, get_or, set, drop, replicate, drop_of_length-le}
-use lib.Seq.{sets}
+use lib.ListN.{length, get_or, set, take, drop, replicate, drop_of_length-le}
+use lib.Seq.{sets, take-length}
 
 -- storing two lists one after the other
 pub sets_append : (xs ys t : List ℕ) (i j : ℕ) → j ≡ i + length xs → sets (sets t i xs) j ys ≡ sets t i (xs ++ ys)
@@ -19,9 +19,9 @@ all_emptied n xs e =
     ∙ append-nil (replicate n 0)
     ∙ ap (λ (k : ℕ). replicate k 0) e
 
--- what the toolchain's `bytes::copy` leaves: the second of its two clauses, which have no names
-pub copied : {count left : Type 0} → count × left → left
-copied clauses = clauses.1
+-- what `basics::byte::copy` leaves, with its bytes as the whole of what it copied
+pub copied : (from to last : List ℕ) → last ≡ from ++ drop (length from) to → last ≡ take (length from) from ++ drop (length from) to
+copied from to last e = e ∙ ap (λ (r : List ℕ). r ++ drop (length from) to) (sym (take-length from))
 
 -- every entry of a table of zeros is 0
 pub zeros_at : (n i : ℕ) → ◌≡◌ {A = ℕ} (get_or (replicate n 0) i 0) 0

@@ -16,7 +16,7 @@ fn load(given: usize, ballots: &[u8], wires: &mut [u8])
         wires.old }
 {
     if given == 0 {
-        bytes::copy(ballots, wires);
+        basics::byte::copy(ballots, wires);
     }
 }
 

@@ -79,7 +79,7 @@ pub fn close(outputs: usize, wires: &[u8], shown: usize, board: &mut [u8])
     ensures { board.new ≡ take shown board.old ++ outputs_of outputs wires.now }
 {
     let first = wires.len() - outputs;
-    bytes::copy(&wires[first..], &mut board[shown..]);
+    basics::byte::copy(&wires[first..], &mut board[shown..]);
 }
 
 // Evaluates a list whose inputs are already at the front of the wire table: all gates, then the outputs at the end
@@ -113,6 +113,6 @@ pub fn run(
     ensures { Evaluated inputs.now table.now outputs tape.now wires.new
         board.new }
 {
-    bytes::copy(inputs, wires);
+    basics::byte::copy(inputs, wires);
     finish(inputs.len(), table, outputs, tape, wires, board);
 }

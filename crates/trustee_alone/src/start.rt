@@ -84,7 +84,7 @@ pub fn start(
         return Answer::Refused(reason);
     }
     basics::table::empty(wires);
-    bytes::copy(shares, wires);
+    basics::byte::copy(shares, wires);
     basics::table::empty(published);
     answer
 }

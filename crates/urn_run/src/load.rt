@@ -20,7 +20,7 @@ pub(crate) fn load(k: usize, d: usize, urn: &[u8], wires: &mut [u8])
         let from = at + 2;
         let end = at + size;
         let to = count * bytes;
-        bytes::copy(&urn[from..end], &mut wires[to..]);
+        basics::byte::copy(&urn[from..end], &mut wires[to..]);
         slot = wide(urn[at]);
         count += 1;
     }

@@ -23,50 +23,50 @@ more from to i h l =
 all : (from to : List ℕ) (i : ℕ) → i ≡ length from → take i from ++ drop i to ≡ from ++ drop (length from) to
 all from to i e = ap (λ (r : List ℕ). r ++ drop i to) (take_all i from (omega arith)) ∙ ap (λ (n : ℕ). from ++ drop n to) e
 
-abbrev invariant_loop : tie.invariant-loop
+abbrev invariant_loop : tie.invariant-loop-i
 invariant_loop from to₀ i₀ to i = (i ≤ length from) × (length to ≡ length to₀) × (to ≡ take i from ++ drop i to₀)
 
-abbrev decreases_loop : tie.decreases-loop
+abbrev decreases_loop : tie.decreases-loop-i
 decreases_loop from to₀ i₀ to i = length from - i
 
-loop_holds : tie.Need-loop-init invariant_loop decreases_loop
+loop_holds : tie.Need-loop-i-init invariant_loop decreases_loop
 loop_holds c = (omega arith, refl, refl)
 
-mul_to : tie.Need-overflow-mul-to invariant_loop decreases_loop
+mul_to : tie.Need-offset_bounds-from-i invariant_loop decreases_loop
 mul_to c = omega arith
 
-shared_slice_read_to : tie.Need-shared-slice-read-to invariant_loop decreases_loop
+shared_slice_read_to : tie.Need-bounds-from-i invariant_loop decreases_loop
 shared_slice_read_to c = omega arith
 
-mul_to_2 : tie.Need-overflow-mul-to-2 invariant_loop decreases_loop
+mul_to_2 : tie.Need-offset_bounds-to-i invariant_loop decreases_loop
 mul_to_2 c = omega arith
 
-slice_write_to : tie.Need-slice-write-to invariant_loop decreases_loop
+slice_write_to : tie.Need-bounds-to-i invariant_loop decreases_loop
 slice_write_to c = omega arith
 
-add_i : tie.Need-overflow-add-i invariant_loop decreases_loop
+add_i : tie.Need-overflow_add-i invariant_loop decreases_loop
 add_i c = omega arith
 
-loop_less : tie.Need-loop-smaller invariant_loop decreases_loop
+loop_less : tie.Need-loop-i-smaller invariant_loop decreases_loop
 loop_less c = omega arith
 
-loop_again : tie.Need-loop-preserved invariant_loop decreases_loop
+loop_again : tie.Need-loop-i-preserved invariant_loop decreases_loop
 loop_again c =
-    let at = c.before.before in
-    let from = at.before.args.from.now in
-    let to = at.before.args.to.now in
-    let l = at.loop in (
+    let at = c in
+    let from = at.args.from.now in
+    let to = at.args.to.now in
+    let l = at.loop-i in (
       omega arith,
       length-set l.to l.i (get_or from l.i 0) ∙ l.invariant.1,
       ap (λ (r : List ℕ). set r l.i (get_or from l.i 0)) l.invariant.2 ∙ more from to l.i (omega arith) (omega arith)
           ∙ ap (λ (n : ℕ). take n from ++ drop n to) (sym (add-one l.i)),
     )
 
-same_length : tie.Need-same-length invariant_loop decreases_loop
-same_length c = c.before.loop.invariant.1
+same_length : tie.Need-shape_of-to invariant_loop decreases_loop
+same_length c = c.loop-i.invariant.1
 
 returns : tie.Need-returns invariant_loop decreases_loop
-returns c = let l = c.before.loop in l.invariant.2 ∙ all _ _ l.i (omega arith)
+returns c = let l = c.loop-i in l.invariant.2 ∙ all _ _ l.i (omega arith)
 
 pub copy_words_spec : {M : Type 1} → statement M
 copy_words_spec =

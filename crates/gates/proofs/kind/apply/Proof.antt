@@ -11,63 +11,63 @@ use Rattle.gates.proofs.kind.apply.Tie as tie
 use Rattle.basics.proofs.Arithmetic.{above_3}
 use Rattle.basics.proofs.Arithmetic.{above_7}
 
-returns : tie.Need-returns
+returns : tie.Need-returns-in-0
 unfolding applied value_of
-returns c = rw c.match.keys1
+returns c = rw c.in-0.is
 
-returns_2 : tie.Need-returns-2
+returns_2 : tie.Need-returns-in-1
 unfolding applied value_of
-returns_2 c = rw c.match.keys2
+returns_2 c = rw c.in-1.is
 
-returns_3 : tie.Need-returns-3
+returns_3 : tie.Need-returns-in-2
 unfolding applied value_of
-returns_3 c = rw c.match.keys3
+returns_3 c = rw c.in-2.is
 
-returns_4 : tie.Need-returns-4
+returns_4 : tie.Need-returns-then-a-eq0
 unfolding applied value_of
-returns_4 c = rw c.before.match.keys4 (ap Value (omega arith))
+returns_4 c = rw c.in-3.is (ap Value (omega arith))
 
-returns_5 : tie.Need-returns-5
+returns_5 : tie.Need-returns-else-a-eq0
 unfolding applied value_of
-returns_5 c = rw c.before.match.keys4 (ap Value (omega arith))
+returns_5 c = rw c.in-3.is (ap Value (omega arith))
 
-returns_6 : tie.Need-returns-6
+returns_6 : tie.Need-returns-then-a-b
 unfolding applied value_of
-returns_6 c = rw c.before.match.keys5 (ap Value (omega arith))
+returns_6 c = rw c.in-4.is (ap Value (omega arith))
 
-returns_7 : tie.Need-returns-7
+returns_7 : tie.Need-returns-else-a-b
 unfolding applied value_of
-returns_7 c = rw c.before.match.keys5 (ap Value (omega arith))
+returns_7 c = rw c.in-4.is (ap Value (omega arith))
 
-returns_8 : tie.Need-returns-8
+returns_8 : tie.Need-returns-then-a-b-2
 unfolding applied value_of
-returns_8 c = rw c.before.match.keys6 (ap Value (omega arith))
+returns_8 c = rw c.in-5.is (ap Value (omega arith))
 
-returns_9 : tie.Need-returns-9
+returns_9 : tie.Need-returns-else-a-b-2
 unfolding applied value_of
-returns_9 c = rw c.before.match.keys6 (ap Value (omega arith))
+returns_9 c = rw c.in-5.is (ap Value (omega arith))
 
-returns_10 : tie.Need-returns-10
+returns_10 : tie.Need-returns-then-a-b-3
 unfolding applied value_of differ
-returns_10 c = rw c.before.match.keys7 (simp (eq-eqb _ _ c.if4.true))
+returns_10 c = rw c.in-6.is (simp (eq-eqb _ _ c.if-a-b-3.true))
 
-returns_11 : tie.Need-returns-11
+returns_11 : tie.Need-returns-else-a-b-3
 unfolding applied value_of differ
-returns_11 c = rw c.before.match.keys7 (simp (ne_eqb _ _ c.if4.false))
+returns_11 c = rw c.in-6.is (simp (ne_eqb _ _ c.if-a-b-3.false))
 
-returns_12 : tie.Need-returns-12
+returns_12 : tie.Need-returns-then-a-eq0-2
 unfolding applied value_of chosen
-returns_12 c = rw c.before.match.keys8 (simp (eq-eqb _ _ c.if5.true))
+returns_12 c = rw c.in-7.is (simp (eq-eqb _ _ c.if-a-eq0-2.true))
 
-returns_13 : tie.Need-returns-13
+returns_13 : tie.Need-returns-else-a-eq0-2
 unfolding applied value_of chosen
-returns_13 c = rw c.before.match.keys8 (simp (ne_eqb _ _ c.if5.false))
+returns_13 c = rw c.in-7.is (simp (ne_eqb _ _ c.if-a-eq0-2.false))
 
-returns_14 : tie.Need-returns-14
+returns_14 : tie.Need-returns-in-8-to-4294967295
 unfolding applied
 returns_14 c =
-    let r = c.match.rest in
-    let k = c.before.args.kind in
+    let r = c.in-8-to-4294967295.in-8-to-4294967295-own.rest in
+    let k = c.args.kind in
     let l : 8 ≤ k =
     above_7 k (above_3 k r.0.0.0.0.0.0.0.1 r.0.0.0.0.0.0.1 r.0.0.0.0.0.1 r.0.0.0.0.1)
     r.0.0.0.1 r.0.0.1 r.0.1 r.1 in

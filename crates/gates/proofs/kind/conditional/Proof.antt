@@ -9,16 +9,16 @@ use borrow.Author.Rules.{rules}
 use Rattle.gates.proofs.kind.conditional.Statement.{statement}
 use Rattle.gates.proofs.kind.conditional.Tie as tie
 
-element_copy_out_result : tie.Need-element-copy-out-result
+element_copy_out_result : tie.Need-bounds-marks-kind
 element_copy_out_result c = search rules
 
-returns : tie.Need-returns
+returns : tie.Need-returns-then-kind-lt-KINDS
 unfolding conditional_of
-returns c = ap (λ (m : List Bool). get_or m c.before.before.args.kind false) c.before.before.requires
+returns c = ap (λ (m : List Bool). get_or m c.args.kind false) c.requires
 
-returns_2 : tie.Need-returns-2
+returns_2 : tie.Need-returns-else-kind-lt-KINDS
 unfolding conditional_of
-returns_2 c = sym (get_or-eq_default conditional_marks _ c.if1.false)
+returns_2 c = sym (get_or-eq_default conditional_marks _ c.if-kind-lt-KINDS.false)
 
 pub conditional_spec : {M : Type 1} → statement M
 conditional_spec = tie.close (tie.spec element_copy_out_result returns returns_2)

@@ -32,21 +32,21 @@ taken_applied k a b c = go (ltb k kind_count) refl
 apply_requires : tie.Need-apply-requires
 apply_requires c κs = search rules
 
-enum_known_v : tie.Need-enum-known-v
+enum_known_v : tie.Need-enum_known-v
 enum_known_v c = search rules
 
-enum_told : tie.Need-enum-told
+enum_told : tie.Need-enum_told-1
 enum_told c = search rules
 
-returns : tie.Need-returns
+returns : tie.Need-returns-in-Value
 unfolding taken
 returns c =
-    ap taken (sym c.before.v.given.1 ∙ c.before.before.before.apply.ensures)
+    ap taken (sym c.in-Value.is ∙ c.apply.ensures)
     ∙ taken_applied _ _ _ _
 
-returns_2 : tie.Need-returns-2
+returns_2 : tie.Need-returns-in-NoSuchKind
 unfolding taken
-returns_2 c = ap taken (sym c.enum_told.given.1 ∙ c.before.before.apply.ensures) ∙ taken_applied _ _ _ _
+returns_2 c = ap taken (sym c.in-NoSuchKind.is ∙ c.apply.ensures) ∙ taken_applied _ _ _ _
 
 pub value_spec : {M : Type 1} → statement M
 value_spec = tie.close (tie.spec apply_requires enum_known_v enum_told returns returns_2)

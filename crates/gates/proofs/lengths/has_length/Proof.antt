@@ -11,15 +11,15 @@ use borrow.Author.Rules.{rules}
 use Rattle.gates.proofs.lengths.has_length.Statement.{statement}
 use Rattle.gates.proofs.lengths.has_length.Tie as tie
 
-sub_result : tie.Need-overflow-sub-result
+sub_result : tie.Need-overflow_sub-result
 sub_result c = search rules
 
-returns : tie.Need-returns
-returns c = let a = c.before.args in rest_eqb (length a.bytes.now) a.first a.second (omega arith)
+returns : tie.Need-returns-then-first-bytes
+returns c = let a = c.args in rest_eqb (length a.bytes.now) a.first a.second (omega arith)
 
-returns_2 : tie.Need-returns-2
+returns_2 : tie.Need-returns-else-first-bytes
 returns_2 c =
-    let a = c.before.args in
+    let a = c.args in
     sym (ne_eqb (length a.bytes.now) (a.first + a.second) (λ (h : length a.bytes.now ≡ a.first + a.second). omega arith))
 
 pub has_length_spec : {M : Type 1} → statement M

@@ -7,7 +7,6 @@ use Prim.Native.Nat.{ℕ, ◌+◌, ◌-◌, ◌*◌, ◌≤◌}
 use native.Mathlib.Nat.{zero-add}
 use native.Mathlib.Numerals.{add-one}
 use lib.ListN.{length, get_or, drop}
-use borrow.Author.Tests.{not-true, not-false}
 use Rattle.gates.specs.Open.Gate.{gates_of, gate_at}
 use Rattle.gates.specs.Open.Board.{conditional_count}
 use Rattle.gates.specs.Open.Test.{judged, first_bad}
@@ -23,120 +22,112 @@ use Rattle.gates.proofs.list.test_gates.Tie as tie
 abbrev answer : ℕ → List ℕ → ListCheck
 answer inputs table = judged (first_bad inputs 0 (gates_of table)) (length (gates_of table)) (conditional_count (gates_of table))
 
-abbrev invariant_loop : tie.invariant-loop
+abbrev invariant_loop : tie.invariant-loop-g
 invariant_loop inputs table gates counts marks conditional₀ g₀ conditional g =
     (g ≤ gates) × (conditional ≤ g) × Judges inputs table g conditional (answer inputs table)
 
-abbrev decreases_loop : tie.decreases-loop
+abbrev decreases_loop : tie.decreases-loop-g
 decreases_loop inputs table gates counts marks conditional₀ g₀ conditional g = gates - g
 
 -- The stages of the function, seen from later ones.
-abbrev loop_reached_from_counts : tie.After-counts invariant_loop decreases_loop → tie.At-loop invariant_loop decreases_loop
-loop_reached_from_counts c = c.before.before.before
 
-abbrev loop_reached_from_then1 : tie.Then1 invariant_loop decreases_loop → tie.At-loop invariant_loop decreases_loop
-loop_reached_from_then1 c = c.before.before.before.before.before.before.before.before
-
-abbrev loop_reached_from_mark : tie.After-mark invariant_loop decreases_loop → tie.At-loop invariant_loop decreases_loop
-loop_reached_from_mark c = loop_reached_from_counts c.before.before.before.before.before.before.before
-
-mark_small : (c : tie.After-mark invariant_loop decreases_loop) → c.mark.result ≤ 1
+mark_small : (c : tie.After-mark-conditional invariant_loop decreases_loop) → c.mark-conditional.result ≤ 1
 mark_small c =
-    let at = (loop_reached_from_mark c) in
-    omega (arith, c.mark.ensures, mark_at_most_one (get_or at.before.before.args.table.now (4 * at.loop.g) 0))
+    let at = c in
+    omega (arith, c.mark-conditional.ensures, mark_at_most_one (get_or at.args.table.now (4 * at.loop-g.g) 0))
 
-loop_holds : tie.Need-loop-init invariant_loop decreases_loop
+loop_holds : tie.Need-loop-g-init invariant_loop decreases_loop
 loop_holds c =
-    let t = c.before.args.table.now in (
+    let t = c.args.table.now in (
       omega arith,
       omega arith,
-      ap (judged (first_bad c.before.args.inputs 0 (gates_of t)) (length (gates_of t)))
+      ap (judged (first_bad c.args.inputs 0 (gates_of t)) (length (gates_of t)))
           (zero-add (conditional_count (gates_of t))),
     )
 
-mul_at : tie.Need-overflow-mul-at invariant_loop decreases_loop
+mul_at : tie.Need-overflow_mul-at invariant_loop decreases_loop
 mul_at c = omega arith
 
-mul_kind : tie.Need-overflow-mul-kind invariant_loop decreases_loop
+mul_kind : tie.Need-offset_bounds-table-at invariant_loop decreases_loop
 mul_kind c = omega arith
 
-shared_slice_read_kind : tie.Need-shared-slice-read-kind invariant_loop decreases_loop
+shared_slice_read_kind : tie.Need-bounds-table-at invariant_loop decreases_loop
 shared_slice_read_kind c = omega arith
 
-add_gate_is_good : tie.Need-overflow-add-gate-is-good invariant_loop decreases_loop
+add_gate_is_good : tie.Need-overflow_add-at invariant_loop decreases_loop
 add_gate_is_good c = omega arith
 
-mul_gate_is_good : tie.Need-overflow-mul-gate-is-good invariant_loop decreases_loop
+mul_gate_is_good : tie.Need-offset_bounds-table-at-in-loop-g invariant_loop decreases_loop
 mul_gate_is_good c = omega arith
 
-shared_slice_read_gate_is_good : tie.Need-shared-slice-read-gate-is-good invariant_loop decreases_loop
+shared_slice_read_gate_is_good : tie.Need-bounds-table-at-in-loop-g invariant_loop decreases_loop
 shared_slice_read_gate_is_good c = omega arith
 
-add_gate_is_good_2 : tie.Need-overflow-add-gate-is-good-2 invariant_loop decreases_loop
+add_gate_is_good_2 : tie.Need-overflow_add-at-in-loop-g invariant_loop decreases_loop
 add_gate_is_good_2 c = omega arith
 
-mul_gate_is_good_2 : tie.Need-overflow-mul-gate-is-good-2 invariant_loop decreases_loop
+mul_gate_is_good_2 : tie.Need-offset_bounds-table-at-in-loop-g-2 invariant_loop decreases_loop
 mul_gate_is_good_2 c = omega arith
 
-shared_slice_read_gate_is_good_2 : tie.Need-shared-slice-read-gate-is-good-2 invariant_loop decreases_loop
+shared_slice_read_gate_is_good_2 : tie.Need-bounds-table-at-in-loop-g-2 invariant_loop decreases_loop
 shared_slice_read_gate_is_good_2 c = omega arith
 
-add_gate_is_good_3 : tie.Need-overflow-add-gate-is-good-3 invariant_loop decreases_loop
+add_gate_is_good_3 : tie.Need-overflow_add-at-in-loop-g-2 invariant_loop decreases_loop
 add_gate_is_good_3 c = omega arith
 
-mul_gate_is_good_3 : tie.Need-overflow-mul-gate-is-good-3 invariant_loop decreases_loop
+mul_gate_is_good_3 : tie.Need-offset_bounds-table-at-in-loop-g-3 invariant_loop decreases_loop
 mul_gate_is_good_3 c = omega arith
 
-shared_slice_read_gate_is_good_3 : tie.Need-shared-slice-read-gate-is-good-3 invariant_loop decreases_loop
+shared_slice_read_gate_is_good_3 : tie.Need-bounds-table-at-in-loop-g-3 invariant_loop decreases_loop
 shared_slice_read_gate_is_good_3 c = omega arith
 
-gate_is_good_requires : tie.Need-gate-is-good-requires invariant_loop decreases_loop
+gate_is_good_requires : tie.Need-gate_is_good-requires invariant_loop decreases_loop
 gate_is_good_requires c κs = record { few = omega arith; counted = refl }
 
-returns : tie.Need-returns invariant_loop decreases_loop
+returns : tie.Need-returns-then-not-gate_is_good invariant_loop decreases_loop
 unfolding gate_at
 returns c =
-    let at = (loop_reached_from_then1 c) in
-    let a = at.before.before.args in
-    judges_bad a.inputs a.table.now at.loop.g at.loop.conditional
+    let at = c in
+    let a = at.args in
+    judges_bad a.inputs a.table.now at.loop-g.g at.loop-g.conditional
     (answer a.inputs a.table.now) (omega (arith, length_gates a.table.now))
-    (sym (not-true _ c.if1.true) ∙ c.before.gate-is-good.ensures) at.loop.inv.2
+    (sym (c.if-not-gate_is_good.true) ∙ c.gate_is_good.ensures) at.loop-g.invariant.2
 
-mark_requires : tie.Need-mark-requires invariant_loop decreases_loop
+mark_requires : tie.Need-mark-conditional-requires invariant_loop decreases_loop
 mark_requires c κs = refl
 
-add_conditional : tie.Need-overflow-add-conditional invariant_loop decreases_loop
+add_conditional : tie.Need-overflow_add-conditional invariant_loop decreases_loop
 add_conditional c = omega (arith, mark_small c)
 
-add_g : tie.Need-overflow-add-g invariant_loop decreases_loop
+add_g : tie.Need-overflow_add-g invariant_loop decreases_loop
 add_g c = omega arith
 
-loop_less : tie.Need-loop-smaller invariant_loop decreases_loop
+loop_less : tie.Need-loop-g-smaller invariant_loop decreases_loop
 loop_less c = omega arith
 
-loop_again : tie.Need-loop-preserved invariant_loop decreases_loop
+loop_again : tie.Need-loop-g-preserved invariant_loop decreases_loop
 unfolding gate_at
 loop_again c =
-    let at = (loop_reached_from_mark c) in
-    let a = at.before.before.args in (
+    let at = c in
+    let a = at.args in (
       omega arith,
       omega (arith, mark_small c),
       ap (λ (k : ℕ). judged (first_bad a.inputs k (drop k (gates_of a.table.now)))
           (length (gates_of a.table.now))
-          (at.loop.conditional + c.mark.result + conditional_count (drop k (gates_of a.table.now))))
-          (add-one at.loop.g)
-          ∙ judges_good a.inputs a.table.now at.loop.g at.loop.conditional c.mark.result
+          (at.loop-g.conditional + c.mark-conditional.result + conditional_count (drop k (gates_of a.table.now))))
+          (add-one at.loop-g.g)
+          ∙ judges_good a.inputs a.table.now at.loop-g.g at.loop-g.conditional c.mark-conditional.result
           (answer a.inputs a.table.now) (omega (arith, length_gates a.table.now))
-          (sym (not-false _ c.before.before.if1.false) ∙ c.before.before.before.gate-is-good.ensures)
-          c.mark.ensures at.loop.inv.2,
+          (sym (c.if-not-gate_is_good.false) ∙ c.gate_is_good.ensures)
+          c.mark-conditional.ensures at.loop-g.invariant.2,
     )
 
-returns_2 : tie.Need-returns-2 invariant_loop decreases_loop
+returns_2 : tie.Need-returns invariant_loop decreases_loop
 returns_2 c =
-    let at = c.before in
-    let a = at.before.before.args in
-    judges_all a.inputs a.table.now at.loop.g at.loop.conditional _
-    (answer a.inputs a.table.now) (sym (length_gates a.table.now)) c.loop-test.false at.loop.invariant.2
+    let at = c in
+    let a = at.args in
+    judges_all a.inputs a.table.now at.loop-g.g at.loop-g.conditional _
+    (answer a.inputs a.table.now) (sym (length_gates a.table.now)) c.loop-g-test.false at.loop-g.invariant.2
 
 pub test_gates_spec : {M : Type 1} → statement M
 test_gates_spec =

@@ -48,43 +48,41 @@ module _ (ws board last : List ℕ) (outputs shown : ℕ) (fits : outputs ≤ le
       (append-nil last ∙ e ∙ ap (λ (l : List ℕ). take (length from) from ++ l) none
       ∙ append-nil (take (length from) from) ∙ take-length from ∙ from_is)
 
-sub_first : tie.Need-overflow-sub-first
+sub_first : tie.Need-overflow_sub-first
 sub_first c = search rules
 
-sub_copy : tie.Need-overflow-sub-copy
+sub_copy : tie.Need-slice_bounds-copy-count
 sub_copy c = search rules
 
-part_copy_start : tie.Need-slice-bounds-copy-start
+part_copy_start : tie.Need-slice_bounds-copy-start
 part_copy_start c = search rules
 
-part_copy_end : tie.Need-slice-bounds-copy-end
+part_copy_end : tie.Need-slice_bounds-copy-end
 part_copy_end c = search rules
 
-sub_copy_2 : tie.Need-overflow-sub-copy-2
+sub_copy_2 : tie.Need-slice_bounds-copy-count-2
 sub_copy_2 c = search rules
 
-part_copy_start_2 : tie.Need-slice-bounds-copy-start-2
+part_copy_start_2 : tie.Need-slice_bounds-copy-start-2
 part_copy_start_2 c = search rules
 
-part_copy_end_2 : tie.Need-slice-bounds-copy-end-2
+part_copy_end_2 : tie.Need-slice_bounds-copy-end-2
 part_copy_end_2 c = search rules
 
 copy_requires : tie.Need-copy-requires
 copy_requires c κs = search rules
 
-same_length : tie.Need-same-length
+same_length : tie.Need-shape_of-board
 same_length c = search rules
 
 -- The stages of the function, seen from later ones.
-abbrev start_from_board : tie.After-board → tie.Start
-start_from_board c = c.before.before.before.before.before.before
 
 returns : tie.Need-returns
 unfolding from to
 returns c =
-    let s = (start_from_board c.before) in
-    closed s.args.wires.now s.args.board.now c.before.before.copy.new.1.0 s.args.outputs
-    s.args.shown s.pre.enough s.pre.board_length (copied c.before.before.copy.ensures)
+    let s = c in
+    closed s.args.wires.now s.args.board.now c.copy.new.to s.args.outputs
+    s.args.shown s.requires.enough s.requires.board_length (copied _ (take (length s.args.board.now - s.args.shown) (drop s.args.shown s.args.board.now)) _ c.copy.ensures)
 
 pub close_spec : {M : Type 1} → statement M
 close_spec =

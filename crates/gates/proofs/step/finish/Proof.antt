@@ -10,54 +10,40 @@ use Rattle.gates.proofs.step.finish.Statement.{statement}
 use Rattle.gates.proofs.step.finish.Tie as tie
 
 -- The stages of the function, seen from later ones.
-abbrev start_from_step_arg2 : tie.After-step-arg2 → tie.Start
-start_from_step_arg2 c = c.before.before.before.before.before.before
 
-abbrev start_from_board : tie.After-board → tie.Start
-start_from_board c = start_from_step_arg2 c.before.before.before.before
-
-abbrev step_from_close_arg2 : tie.After-close-arg2 → tie.After-step
-step_from_close_arg2 c = c.before.before.before.before.before.before
-
-abbrev start_from_board2 : tie.After-board2 → tie.Start
-start_from_board2 c = start_from_board c.before.before.before.before.before
-
-abbrev step_from_board2 : tie.After-board2 → tie.After-step
-step_from_board2 c = c.before.before.before.before.before.before.before.before
-
-step_requires : tie.Need-step-requires
+step_requires : tie.Need-step-shown-requires
 step_requires c κs =
-    let s = (start_from_step_arg2 c) in
+    let s = c in
     let a = s.args in
-    let p = s.pre in
+    let p = s.requires in
     let e = sym (length_gates a.table.now) in
     ready a.inputs a.table.now _ a.outputs a.tape.now a.wires.now a.board.now e
     (omega (arith, e, p.wires_length)) (omega (arith, e, p.enough)) p.good p.tape_length p.board_length
 
 close_requires : tie.Need-close-requires
 close_requires c κs =
-    let s = (start_from_board c.before.before.before) in
+    let s = c in
     let a = s.args in
-    let p = s.pre in
+    let p = s.requires in
     let e = sym (length_gates a.table.now) in
-    let r = (step_from_close_arg2 c).step in
+    let r = c.step-shown in
     can_close a.inputs a.table.now _ a.outputs a.tape.now a.wires.now a.board.now e
     (omega (arith, e, p.wires_length)) (omega (arith, e, p.enough)) p.good p.tape_length p.board_length
     r.result _ _ r.ensures.next r.ensures.wires r.ensures.board
 
-same_length : tie.Need-same-length
+same_length : tie.Need-shape_of-wires
 same_length c = search rules
 
-same_length_2 : tie.Need-same-length-2
+same_length_2 : tie.Need-shape_of-board
 same_length_2 c = search rules
 
 returns : tie.Need-returns
 returns c =
-    let s = (start_from_board2 c.before) in
+    let s = c in
     let a = s.args in
-    let p = s.pre in
+    let p = s.requires in
     let e = sym (length_gates a.table.now) in
-    let r = (step_from_board2 c.before).step in
+    let r = c.step-shown in
     record {
       wires = final_wires a.inputs a.table.now _ a.outputs a.tape.now a.wires.now a.board.now
           e (omega (arith, e, p.wires_length)) (omega (arith, e, p.enough)) p.good p.tape_length
@@ -65,7 +51,7 @@ returns c =
       board = final_board a.inputs a.table.now _ a.outputs a.tape.now a.wires.now a.board.now
           e (omega (arith, e, p.wires_length)) (omega (arith, e, p.enough)) p.good p.tape_length
           p.board_length r.result _ _ r.ensures.next r.ensures.wires r.ensures.board _
-          c.before.before.close.ensures;
+          c.close.ensures;
     }
 
 pub finish_spec : {M : Type 1} → statement M

@@ -29,102 +29,73 @@ unmarked : (kind : ℕ) (t : Bool) (g : Gate) → t ≡ false → t ≡ conditio
 unmarked kind t g e m k = count_one g ∙ ap (λ (x : ℕ). cond {A = ℕ} (conditional_of x) 1 0) k
     ∙ ap (λ (u : Bool). cond {A = ℕ} u 1 0) (sym m ∙ e)
 
-mul_at : tie.Need-overflow-mul-at
+mul_at : tie.Need-overflow_mul-at
 mul_at c = search rules
 
-mul_kind : tie.Need-overflow-mul-kind
+mul_kind : tie.Need-offset_bounds-table-at
 mul_kind c = search rules
 
-shared_slice_read_kind : tie.Need-shared-slice-read-kind
+shared_slice_read_kind : tie.Need-bounds-table-at
 shared_slice_read_kind c = search rules
 
-add_a_wire : tie.Need-overflow-add-a-wire
+add_a_wire : tie.Need-overflow_add-a_wire
 add_a_wire c = search rules
 
-mul_a_wire : tie.Need-overflow-mul-a-wire
+mul_a_wire : tie.Need-offset_bounds-table-at-2
 mul_a_wire c = search rules
 
-shared_slice_read_a_wire : tie.Need-shared-slice-read-a-wire
+shared_slice_read_a_wire : tie.Need-bounds-table-at-2
 shared_slice_read_a_wire c = search rules
 
 -- The stages of the function, seen from later ones.
-abbrev start_from_shared_slice_known4 : tie.After-shared-slice-known4 → tie.Start
-start_from_shared_slice_known4 c = c.before.before.before.before.before.before
 
-abbrev start_from_shared_slice_known5 : tie.After-shared-slice-known5 → tie.Start
-start_from_shared_slice_known5 c = c.before.before.before.before.before.before.before
+cast_a_wire : tie.Need-overflow_cast-a_wire
+cast_a_wire c = omega (arith, c.shared_slice_known-4-1.given (4 * c.args.g + 1))
 
-abbrev start_from_shared_slice_known6 : tie.After-shared-slice-known6 → tie.Start
-start_from_shared_slice_known6 c = c.before.before.before.before.before.before.before.before
-
-abbrev start_from_slice_known3 : tie.After-slice-known3 → tie.Start
-start_from_slice_known3 c = start_from_shared_slice_known4 c.before.before.before
-
-abbrev start_from_slice_known4 : tie.After-slice-known4 → tie.Start
-start_from_slice_known4 c = start_from_shared_slice_known4 c.before.before.before.before
-
-abbrev start_from_slice_known5 : tie.After-slice-known5 → tie.Start
-start_from_slice_known5 c = start_from_shared_slice_known4 c.before.before.before.before.before
-
-abbrev start_from_value : tie.After-value → tie.Start
-start_from_value c = start_from_shared_slice_known4 c.before.before.before.before.before.before
-
-abbrev start_from_else1 : tie.Else1 → tie.Start
-start_from_else1 c = start_from_shared_slice_known4 c.before.before.before.before.before.before.before.before
-
-abbrev start_from_then1 : tie.Then1 → tie.Start
-start_from_then1 c = start_from_shared_slice_known4 c.before.before.before.before.before.before.before.before
-
-abbrev start_from_masked : tie.After-masked → tie.Start
-start_from_masked c = start_from_shared_slice_known6 c.before.before.before.before.before.before.before.before
-
-cast_a_wire : tie.Need-overflow-cast-a-wire
-cast_a_wire c = omega (arith, c.shared-slice-known4.given (4 * (start_from_shared_slice_known4 c).args.g + 1))
-
-add_b_wire : tie.Need-overflow-add-b-wire
+add_b_wire : tie.Need-overflow_add-b_wire
 add_b_wire c = search rules
 
-mul_b_wire : tie.Need-overflow-mul-b-wire
+mul_b_wire : tie.Need-offset_bounds-table-at-3
 mul_b_wire c = search rules
 
-shared_slice_read_b_wire : tie.Need-shared-slice-read-b-wire
+shared_slice_read_b_wire : tie.Need-bounds-table-at-3
 shared_slice_read_b_wire c = search rules
 
-cast_b_wire : tie.Need-overflow-cast-b-wire
-cast_b_wire c = omega (arith, c.shared-slice-known5.given (4 * (start_from_shared_slice_known5 c).args.g + 2))
+cast_b_wire : tie.Need-overflow_cast-b_wire
+cast_b_wire c = omega (arith, c.shared_slice_known-5-1.given (4 * c.args.g + 2))
 
-add_c_wire : tie.Need-overflow-add-c-wire
+add_c_wire : tie.Need-overflow_add-c_wire
 add_c_wire c = search rules
 
-mul_c_wire : tie.Need-overflow-mul-c-wire
+mul_c_wire : tie.Need-offset_bounds-table-at-4
 mul_c_wire c = search rules
 
-shared_slice_read_c_wire : tie.Need-shared-slice-read-c-wire
+shared_slice_read_c_wire : tie.Need-bounds-table-at-4
 shared_slice_read_c_wire c = search rules
 
-cast_c_wire : tie.Need-overflow-cast-c-wire
-cast_c_wire c = omega (arith, c.shared-slice-known6.given (4 * (start_from_shared_slice_known6 c).args.g + 3))
+cast_c_wire : tie.Need-overflow_cast-c_wire
+cast_c_wire c = omega (arith, c.shared_slice_known-6-1.given (4 * c.args.g + 3))
 
-slice_read_a : tie.Need-slice-read-a
+slice_read_a : tie.Need-bounds-wires-a_wire
 unfolding gate_at
-slice_read_a c = let s = (start_from_slice_known3 c) in omega (arith, (good s).a_most, s.pre.gate.in_wires)
+slice_read_a c = let s = c in omega (arith, (good s.before.before.before.before.before.before.before.before.before).a_most, s.requires.gate.in_wires)
 
-slice_read_b : tie.Need-slice-read-b
+slice_read_b : tie.Need-bounds-wires-b_wire
 unfolding gate_at
-slice_read_b c = let s = (start_from_slice_known4 c) in omega (arith, (good s).b_most, s.pre.gate.in_wires)
+slice_read_b c = let s = c in omega (arith, (good s.before.before.before.before.before.before.before.before.before.before).b_most, s.requires.gate.in_wires)
 
-slice_read_c : tie.Need-slice-read-c
+slice_read_c : tie.Need-bounds-wires-c_wire
 unfolding gate_at
-slice_read_c c = let s = (start_from_slice_known5 c) in omega (arith, (good s).c_most, s.pre.gate.in_wires)
+slice_read_c c = let s = c in omega (arith, (good s.before.before.before.before.before.before.before.before.before.before.before).c_most, s.requires.gate.in_wires)
 
 value_requires : tie.Need-value-requires
 value_requires c κs = search rules
 
-slice_write_wires : tie.Need-slice-write-wires
+slice_write_wires : tie.Need-bounds-wires-own
 slice_write_wires c = search rules
 
 conditional_requires : tie.Need-conditional-requires
-conditional_requires c κs = (start_from_value c).pre.marked
+conditional_requires c κs = c.requires.marked
 
 -- the board with a shown bit, and without one
 with_bit : (kind : ℕ) (t : Bool) (x y z : List ℕ) → t ≡ true → t ≡ conditional_of kind → z ≡ x → z ≡ cond (conditional_of kind) x y
@@ -134,58 +105,58 @@ without_bit : (kind : ℕ) (t : Bool) (x y : List ℕ) → t ≡ false → t ≡
 without_bit kind t x y e m = ap (λ (u : Bool). cond u x y) (sym e ∙ m)
 
 -- in the branch that shows a bit
-shows : (c : tie.Then1) → conditional_count (gate_at (start_from_then1 c).args.table.now (start_from_then1 c).args.g ∷ []) ≡ 1
+shows : (c : tie.Then-conditional) → conditional_count (gate_at c.args.table.now c.args.g ∷ []) ≡ 1
 unfolding gate_at
-shows c = let s = (start_from_then1 c) in
-    marked (get_or s.args.table.now (4 * s.args.g) 0) c.before.conditional.result
-    (gate_at s.args.table.now s.args.g) c.if1.true c.before.conditional.ensures refl
+shows c = let s = c in
+    marked (get_or s.args.table.now (4 * s.args.g) 0) c.conditional.result
+    (gate_at s.args.table.now s.args.g) c.if-conditional.true c.conditional.ensures refl
 
-shared_slice_read_masked : tie.Need-shared-slice-read-masked
-shared_slice_read_masked c = omega (arith, shows c.before, (start_from_then1 c.before).pre.gate.in_tape)
+shared_slice_read_masked : tie.Need-bounds-tape-shown
+shared_slice_read_masked c = omega (arith, shows c.before, c.requires.gate.in_tape)
 
 masked_requires : tie.Need-masked-requires
 masked_requires c κs = search rules
 
-slice_write_board : tie.Need-slice-write-board
-slice_write_board c = omega (arith, shows c.before.before, (start_from_masked c).pre.gate.in_board)
+slice_write_board : tie.Need-bounds-board-shown
+slice_write_board c = omega (arith, shows c.before.before, c.requires.gate.in_board)
 
-add_result : tie.Need-overflow-add-result
+add_result : tie.Need-overflow_add-result
 add_result c = search rules
 
-same_length : tie.Need-same-length
+same_length : tie.Need-shape_of-wires-then-conditional
 same_length c = search rules
 
-same_length_2 : tie.Need-same-length-2
+same_length_2 : tie.Need-shape_of-board-then-conditional
 same_length_2 c = search rules
 
-returns : tie.Need-returns
+returns : tie.Need-returns-then-conditional
 unfolding gate_at value wire shown_bit
 returns c =
-    let s = (start_from_masked c) in
-    let w = c.before.before.before.before in
+    let s = c in
+    let w = c in
     record {
       next = omega (arith, shows c.before.before);
       wires = ap (set s.args.wires.now s.args.own) w.value.ensures;
       board = with_bit (get_or s.args.table.now (4 * s.args.g) 0)
-          c.before.before.before.conditional.result _ s.args.board.now _ c.before.before.if1.true
-          c.before.before.before.conditional.ensures
+          c.conditional.result _ s.args.board.now _ c.if-conditional.true
+          c.conditional.ensures
           (ap (set s.args.board.now s.args.shown) c.masked.ensures);
     }
 
-same_length_3 : tie.Need-same-length-3
+same_length_3 : tie.Need-shape_of-wires
 same_length_3 c = search rules
 
-returns_2 : tie.Need-returns-2
+returns_2 : tie.Need-returns
 unfolding gate_at value wire shown_bit
 returns_2 c =
-    let s = (start_from_else1 c) in
-    let n = unmarked (get_or s.args.table.now (4 * s.args.g) 0) c.before.conditional.result
-    (gate_at s.args.table.now s.args.g) c.if1.false c.before.conditional.ensures refl in
+    let s = c in
+    let n = unmarked (get_or s.args.table.now (4 * s.args.g) 0) c.conditional.result
+    (gate_at s.args.table.now s.args.g) c.if-conditional.false c.conditional.ensures refl in
     record {
       next = omega (arith, n);
-      wires = ap (set s.args.wires.now s.args.own) c.before.before.value.ensures;
-      board = without_bit (get_or s.args.table.now (4 * s.args.g) 0) c.before.conditional.result _
-          s.args.board.now c.if1.false c.before.conditional.ensures;
+      wires = ap (set s.args.wires.now s.args.own) c.value.ensures;
+      board = without_bit (get_or s.args.table.now (4 * s.args.g) 0) c.conditional.result _
+          s.args.board.now c.if-conditional.false c.conditional.ensures;
     }
 
 pub run_gate_spec : {M : Type 1} → statement M
