@@ -10,23 +10,23 @@ use Rattle.gate_levels.specs.Levels.{wire_level}
 use Rattle.gate_levels.proofs.level.wire_level.Statement.{statement}
 use Rattle.gate_levels.proofs.level.wire_level.Tie as tie
 
-mul_result : tie.Need-overflow-mul-result
+mul_result : tie.Need-offset_bounds-levels-wire
 mul_result c = search rules
 
-shared_slice_read_result : tie.Need-shared-slice-read-result
+shared_slice_read_result : tie.Need-bounds-levels-wire
 shared_slice_read_result c = search rules
 
-returns : tie.Need-returns
+returns : tie.Need-returns-then-wire-inputs
 unfolding wire_level
-returns c = let a = c.before.args in
+returns c = let a = c.args in
     sym (ap (λ (b : Bool). cond b 0 (get_or a.levels.now (a.x - a.inputs) 0))
-    (lt-ltb a.x a.inputs c.if1.true))
+    (lt-ltb a.x a.inputs c.if-wire-inputs.true))
 
-returns_2 : tie.Need-returns-2
+returns_2 : tie.Need-returns-else-wire-inputs
 unfolding wire_level
-returns_2 c = let a = c.before.before.args in
+returns_2 c = let a = c.args in
     sym (ap (λ (b : Bool). cond b 0 (get_or a.levels.now (a.x - a.inputs) 0))
-    (le-ltb a.x a.inputs c.before.if1.false))
+    (le-ltb a.x a.inputs c.if-wire-inputs.false))
 
 pub wire_level_spec : {M : Type 1} → statement M
 wire_level_spec = tie.close (tie.spec mul_result shared_slice_read_result returns returns_2)
