@@ -1,7 +1,10 @@
-// The functions with which the two programs print.
-ghost use Rattle.std.specs.Prelude.{◌<◌};
+// The functions with which the two programs read and print.
+#![tactic(auto)]
 
-use libc::STDOUT_FILENO;
+ghost use Rattle.std.specs.Prelude.{◌<◌, ◌≤◌, length, IfOk};
+
+use std::io;
+use std::io::Read;
 
 // A byte as a wider number. The contract says that it is still below 256.
 fn wide(x: u8) -> u32
@@ -10,31 +13,45 @@ fn wide(x: u8) -> u32
     x as u32
 }
 
-pub fn print_text(text: &[u8]) {
-    io::write_all(STDOUT_FILENO, text);
+// Reads until the buffer is full or the input ends, and returns how many bytes it put at the start of the buffer.
+pub fn read_full<R: Read>(reader: &mut R, buffer: &mut [u8]) -> io::Result<usize>
+    ensures { IfOk result (λ n. n ≤ length buffer.new) }
+{
+    let mut done = 0;
+    while done < buffer.len() {
+        let got = reader.read(&mut buffer[done..])?;
+        if got == 0 {
+            break;
+        }
+        done += got;
+    }
+    Ok(done)
+}
+
+pub fn print_text(rt: &impl Print, text: &[u8]) -> io::Result<()> {
+    rt.write_all(text)
 }
 
 // Prints a space and a number.
-pub fn print_number(n: usize) {
-    io::write_all(STDOUT_FILENO, b" ");
-    io::print_decimal(STDOUT_FILENO, n as u64);
+pub fn print_number(rt: &impl Print, n: usize) -> io::Result<()> {
+    print!(rt; " {n}")
 }
 
 // Prints the line of a refusal: the number and the place.
-pub fn print_refused(number: usize, place: usize) {
-    print_text(b"refused");
-    print_number(number);
-    print_number(place);
-    print_text(b"\n");
+pub fn print_refused(rt: &impl Print, number: usize, place: usize) -> io::Result<()> {
+    print_text(rt, b"refused")?;
+    print_number(rt, number)?;
+    print_number(rt, place)?;
+    print_text(rt, b"\n")
 }
 
 // Prints a line: the text, the bytes as numbers, each with a space before it, and a line feed.
-pub fn print_bytes(text: &[u8], bytes: &[u8]) {
-    io::write_all(STDOUT_FILENO, text);
+pub fn print_bytes(rt: &impl Print, text: &[u8], bytes: &[u8]) -> io::Result<()> {
+    print_text(rt, text)?;
     let mut i = 0;
     while i < bytes.len() {
-        print_number(wide(bytes[i]) as usize);
+        print_number(rt, wide(bytes[i]) as usize)?;
         i += 1;
     }
-    io::write_all(STDOUT_FILENO, b"\n");
+    print_text(rt, b"\n")
 }
