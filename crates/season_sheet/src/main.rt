@@ -1,27 +1,29 @@
 // Prints the season sheet of the runs on standard input.
-use libc::STDIN_FILENO;
-use season::sheet::{Answer, Totals};
+#![tactic(auto)]
 
-fn print_line(word: &[u8], number: usize) {
-    printing::print_text(word);
-    printing::print_number(number);
-    printing::print_text(b"\n");
+use season::sheet::{Answer, Totals};
+use std::io;
+
+fn print_line(rt: &impl Print, word: &[u8], number: usize) -> io::Result<()> {
+    printing::print_text(rt, word)?;
+    printing::print_number(rt, number)?;
+    printing::print_text(rt, b"\n")
 }
 
-fn print_totals(totals: Totals) {
-    print_line(b"runs", totals.runs);
-    print_line(b"gates", totals.gates);
-    print_line(b"conditional", totals.conditional);
-    print_line(b"ballots", totals.ballots);
-    print_line(b"shared", totals.shared);
+fn print_totals(rt: &impl Print, totals: Totals) -> io::Result<()> {
+    print_line(rt, b"runs", totals.runs)?;
+    print_line(rt, b"gates", totals.gates)?;
+    print_line(rt, b"conditional", totals.conditional)?;
+    print_line(rt, b"ballots", totals.ballots)?;
+    print_line(rt, b"shared", totals.shared)
 }
 
 // Keeps one byte more than a sheet may have, so that a longer input is refused and not cut.
-fn main() {
+fn main(rt: HostRuntime) -> io::Result<()> {
     let mut input = [0u8; 49153];
-    let got = io::read_full(STDIN_FILENO, &mut input);
+    let got = printing::read_full(&mut rt.stdin(), &mut input)?;
     match season::sheet::sheet(&input[..got]) {
-        Answer::Accepted(totals) => print_totals(totals),
-        Answer::Refused(reason) => printing::print_refused(reason.number(), reason.place()),
+        Answer::Accepted(totals) => print_totals(&rt, totals),
+        Answer::Refused(reason) => printing::print_refused(&rt, reason.number(), reason.place()),
     }
 }
