@@ -3,6 +3,8 @@
 //
 // Each method of Writer writes the gates of one block of specs/ and returns the next writer. Its `requires` asks for
 // `Room`, which bounds what the writer counts and not the table, and for operands that are wires already.
+#![tactic(auto)]
+
 pub mod choice;
 pub mod comparison;
 pub mod halves;

@@ -13,17 +13,17 @@ use Rattle.gate_words.proofs.HalvesLaws.{above_halves_none, above_halves_some}
 use Rattle.gate_words.proofs.writer.Writer.above_halves.Statement.{statement}
 use Rattle.gate_words.proofs.writer.Writer.above_halves.Tie as tie
 
-add_above : tie.Need-overflow-add-above
+add_above : tie.Need-overflow_add-f
 add_above c =
-    omega (arith, c.before.before.requires)
+    omega (arith, c.requires)
 
-add_above_2 : tie.Need-overflow-add-above-2
+add_above_2 : tie.Need-overflow_add-x
 add_above_2 c =
-    omega (arith, c.before.before.requires)
+    omega (arith, c.requires)
 
-above_requires : tie.Need-above-requires
+above_requires : tie.Need-above-lower-requires
 above_requires c κs =
-    let s = c.before.before in
+    let s = c in
     record {
       room = room_less s.args.self _ _ (omega arith) s.requires.room;
       first_below = omega (arith, s.requires);
@@ -32,157 +32,123 @@ above_requires c κs =
 
 -- after the low half
 
-lower : (c : tie.After-above) → Stands c.above.result
-    (c.before.before.before.args.self.wire + c.before.before.before.args.low)
-    c.before.before.before.args.high
+lower : (c : tie.After-above-lower) → Stands c.above-lower.result
+    (c.args.self.wire + c.args.low)
+    c.args.high
 lower c =
-    let s = c.before.before.before in
+    let s = c in
     let a = s.args in
-    stands_after a.self a.table.now _ c.above.new.1.0 c.above.result _ _ _ c.above.ensures
+    stands_after a.self a.table.now _ c.above-lower.new.table c.above-lower.result _ _ _ c.above-lower.ensures
     (length_above a.self.wire (a.f + 1) (a.x + 1) a.x a.low)
     (stands a.self a.self.wire _ _ refl (omega arith) s.requires.room)
 
-same_length : tie.Need-same-length
+same_length : tie.Need-shape_of-table-then-high-eq0
 same_length c =
     search rules
 
--- The stages of the function, seen from later ones.
-abbrev start_from_else1 : tie.Else1 → tie.Start
-start_from_else1 c = c.before.before.before.before.before.before
-
-abbrev start_from_then1 : tie.Then1 → tie.Start
-start_from_then1 c = c.before.before.before.before.before.before
-
-abbrev start_from_chain_end : tie.After-chain-end → tie.Start
-start_from_chain_end c = c.before.before.before.before.before.before.before
-
-abbrev above_from_above_arg2 : tie.After-above-arg2 → tie.After-above
-above_from_above_arg2 c = c.before.before.before.before.before
-
-abbrev start_from_above2 : tie.After-above2 → tie.Start
-start_from_above2 c = start_from_else1 c.before.before.before
-
-abbrev above_from_above2 : tie.After-above2 → tie.After-above
-above_from_above2 c = c.before.before.before.before.before.before
-
-abbrev start_from_emit : tie.After-emit → tie.Start
-start_from_emit c = start_from_else1 c.before.before.before.before.before.before.before.before
-
-abbrev above_from_emit : tie.After-emit → tie.After-above
-above_from_emit c = above_from_above_arg2 c.before.before.before.before.before.before
-
-abbrev else1_from_emit : tie.After-emit → tie.Else1
-else1_from_emit c = c.before.before.before.before.before.before.before.before
-
-abbrev chain_end_from_emit : tie.After-emit → tie.After-chain-end
-chain_end_from_emit c = c.before.before.before.before.before.before.before
-
-abbrev above2_from_emit : tie.After-emit → tie.After-above2
-above2_from_emit c = c.before.before.before.before.before
-
-returns : tie.Need-returns
+returns : tie.Need-returns-then-high-eq0
 returns c =
-    let a = (start_from_then1 c).args in
+    let a = c.args in
     wrote_as a.self a.table.now _ _ _ _
-    (above_halves_none a.self.wire a.f a.x a.e a.low a.high c.if1.true)
-    c.before.before.before.above.ensures
+    (above_halves_none a.self.wire a.f a.x a.e a.low a.high c.if-high-eq0.true)
+    c.above-lower.ensures
 
-add_start : tie.Need-overflow-add-start
+add_start : tie.Need-overflow_add-start
 add_start c =
-    omega (arith, (start_from_else1 c).pre, c.if1.false)
+    omega (arith, c.requires, c.if-high-eq0.false)
 
-add_start_2 : tie.Need-overflow-add-start-2
+add_start_2 : tie.Need-overflow_add-start-2
 add_start_2 c =
-    omega (arith, (start_from_else1 c).pre, c.if1.false)
+    omega (arith, c.requires, c.if-high-eq0.false)
 
-add_chain_end : tie.Need-overflow-add-chain-end
+add_chain_end : tie.Need-overflow_add-n
 add_chain_end c =
-    omega (arith, (start_from_else1 c).pre, c.if1.false)
+    omega (arith, c.requires, c.if-high-eq0.false)
 
-sub_chain_end : tie.Need-overflow-sub-chain-end
+sub_chain_end : tie.Need-overflow_sub-high
 sub_chain_end c =
-    omega (arith, (start_from_else1 c).pre, c.if1.false)
+    omega (arith, c.requires, c.if-high-eq0.false)
 
-chain_end_requires : tie.Need-chain-end-requires
+chain_end_requires : tie.Need-chain_end-end-requires
 chain_end_requires c κs =
-    omega (arith, (start_from_else1 c).pre, c.if1.false)
+    omega (arith, c.requires, c.if-high-eq0.false)
 
-add_above_3 : tie.Need-overflow-add-above-3
+add_above_3 : tie.Need-overflow_add-f-2
 add_above_3 c =
-    omega (arith, (start_from_chain_end c.before).pre, c.before.before.if1.false)
+    omega (arith, c.requires, c.if-high-eq0.false)
 
-add_above_4 : tie.Need-overflow-add-above-4
+add_above_4 : tie.Need-overflow_add-f-3
 add_above_4 c =
-    omega (arith, (start_from_chain_end c.before).pre, c.before.before.if1.false)
+    omega (arith, c.requires, c.if-high-eq0.false)
 
-add_above_5 : tie.Need-overflow-add-above-5
+add_above_5 : tie.Need-overflow_add-f-4
 add_above_5 c =
-    omega (arith, (start_from_chain_end c.before).pre, c.before.before.if1.false)
+    omega (arith, c.requires, c.if-high-eq0.false)
 
-add_above_6 : tie.Need-overflow-add-above-6
+add_above_6 : tie.Need-overflow_add-start-3
 add_above_6 c =
-    omega (arith, (start_from_chain_end c.before).pre, c.before.before.if1.false)
+    omega (arith, c.requires, c.if-high-eq0.false)
 
-sub_above : tie.Need-overflow-sub-above
+sub_above : tie.Need-overflow_sub-high-2
 sub_above c =
-    omega (arith, (start_from_chain_end c.before).pre, c.before.before.if1.false)
+    omega (arith, c.requires, c.if-high-eq0.false)
 
-above_requires_2 : tie.Need-above-requires-2
+above_requires_2 : tie.Need-above-upper-requires
 above_requires_2 c κs =
-    let more = c.before.before.if1.false in
-    let l = lower (above_from_above_arg2 c) in
+    let more = c.if-high-eq0.false in
+    let l = lower c.before.before.before.before.before in
     record {
-      room = room_of (above_from_above_arg2 c).above.result _ _ _ l (omega arith);
-      first_below = omega (arith, l.place, (start_from_chain_end c.before).pre);
-      second_below = omega (arith, l.place, (start_from_chain_end c.before).pre);
+      room = room_of c.above-lower.result _ _ _ l (omega arith);
+      first_below = omega (arith, l.place, c.requires);
+      second_below = omega (arith, l.place, c.requires);
     }
 
 -- after the high half
 
-upper : (c : tie.After-above2)
-    → Stands c.above2.result ((start_from_above2 c).args.self.wire + (start_from_above2 c).args.low
-    + ((start_from_above2 c).args.high - 1)) 1
+upper : (c : tie.After-above-upper)
+    → Stands c.above-upper.result (c.args.self.wire + c.args.low
+    + (c.args.high - 1)) 1
 upper c =
-    let a = (start_from_above2 c).args in
-    let more = c.before.before.before.if1.false in
-    let l = lower (above_from_above2 c) in
-    stands_after (above_from_above2 c).above.result (above_from_above2 c).above.last.1.0 _
-    c.above2.new.1.0 c.above2.result _ _ _ c.above2.ensures
-    (length_above (above_from_above2 c).above.result.wire (a.f + 1 + a.low + 1) (a.x + 1 + a.low + 1)
+    let a = c.args in
+    let more = c.if-high-eq0.false in
+    let l = lower c.before.before.before.before.before.before in
+    stands_after c.above-lower.result c.above-lower.new.table _
+    c.above-upper.new.table c.above-upper.result _ _ _ c.above-upper.ensures
+    (length_above c.above-lower.result.wire (a.f + 1 + a.low + 1) (a.x + 1 + a.low + 1)
     (a.x + 1 + a.low) (a.high - 1))
-    (stands (above_from_above2 c).above.result (a.self.wire + a.low) _ _ l.place (omega arith) l.left)
+    (stands c.above-lower.result (a.self.wire + a.low) _ _ l.place (omega arith) l.left)
 
-chain_end_requires_2 : tie.Need-chain-end-requires-2
+chain_end_requires_2 : tie.Need-chain_end-requires
 chain_end_requires_2 c κs =
-    omega (arith, (start_from_above2 c.before.before.before).pre)
+    omega (arith, c.requires)
 
 emit_requires : tie.Need-emit-requires
 emit_requires c κs =
     (upper c.before.before.before.before).left
 
-same_length_2 : tie.Need-same-length-2
+same_length_2 : tie.Need-shape_of-table
 same_length_2 c =
     search rules
 
-returns_2 : tie.Need-returns-2
+returns_2 : tie.Need-returns
 returns_2 c =
-    let a = (start_from_emit c.before.before).args in
-    let more = (else1_from_emit c.before.before).if1.left in
-    let w₁ = (above_from_emit c.before.before).above.result in
-    let t₁ = (above_from_emit c.before.before).above.last.1.0 in
-    let w₂ = (above2_from_emit c.before.before).above2.result in
-    let t₂ = (above2_from_emit c.before.before).above2.last.1.0 in
+    let a = c.args in
+    let more = c.if-high-eq0.false in
+    let w₁ = c.above-lower.result in
+    let t₁ = c.above-lower.new.table in
+    let w₂ = c.above-upper.result in
+    let t₂ = c.above-upper.new.table in
     wrote_as a.self a.table.now _ _ _ _ (above_halves_some a.self.wire a.f a.x a.e a.low a.high (omega arith))
     (wrote_then a.self a.table.now _ t₂ w₂ _ _ _ _
     (wrote_then a.self a.table.now _ t₁ w₁ _ _ t₂ w₂
-    (above_from_emit c.before.before).above.ensures
-    (above2_from_emit c.before.before).above2.ensures
+    c.above-lower.ensures
+    c.above-upper.ensures
     (ap (λ (k : ℕ). above k (a.f + 1 + a.low + 1) (a.x + 1 + a.low + 1) (a.x + 1 + a.low) (a.high - 1))
-    (lower (above_from_emit c.before.before)).place))
-    (mux_wrote w₂ t₂ c.before.before.emit.new.1.0 c.before.before.emit.result a.e
-    (chain_end_from_emit c.before.before).chain-end.result
-    c.before.before.before.chain-end2.result c.before.before.emit.ensures)
-    (one_gate 7 refl (chain_end_from_emit c.before.before).chain-end.ensures c.before.before.before.chain-end2.ensures))
+    (lower c.before.before.before.before.before.before.before.before.before.before.before.before.before).place))
+    (mux_wrote w₂ t₂ c.emit.new.table c.emit.result a.e
+    c.chain_end-end.result
+    c.chain_end.result c.emit.ensures)
+    (one_gate 7 refl c.chain_end-end.ensures c.chain_end.ensures))
 
 pub above_halves_spec : {M : Type 1} → statement M
 above_halves_spec = tie.close (tie.spec add_above add_above_2 above_requires same_length returns add_start

@@ -7,10 +7,10 @@ use borrow.Author.Rules.{rules}
 use Rattle.gate_words.proofs.writer.Writer.emit.Statement.{statement}
 use Rattle.gate_words.proofs.writer.Writer.emit.Tie as tie
 
-operands_requires : tie.Need-operands-requires
+operands_requires : tie.Need-operands-count-requires
 operands_requires c κs = search rules
 
-mul_store : tie.Need-overflow-mul-store
+mul_store : tie.Need-overflow_mul-self
 mul_store c = search rules
 
 operand_requires : tie.Need-operand-requires
@@ -25,43 +25,30 @@ operand_requires_3 c κs = search rules
 store_requires : tie.Need-store-requires
 store_requires c κs = search rules
 
-add_t16 : tie.Need-overflow-add-t16
+add_t16 : tie.Need-overflow_add-result
 add_t16 c = search rules
 
-add_t19 : tie.Need-overflow-add-t19
+add_t19 : tie.Need-overflow_add-result-2
 add_t19 c = search rules
 
 mark_requires : tie.Need-mark-requires
 mark_requires c κs = search rules
 
--- The stages of the function, seen from later ones.
-abbrev start_from_operand2 : tie.After-operand2 → tie.Start
-start_from_operand2 c = c.before.before.before.before.before.before.before
+add_t22 : tie.Need-overflow_add-result-3
+add_t22 c = let s = c in
+    omega (arith, c.mark.ensures, mark_at_most_one s.args.kind, s.requires.counted, s.requires.few)
 
-abbrev operands_from_store : tie.After-store → tie.After-operands
-operands_from_store c = c.before.before.before.before.before.before
-
-abbrev start_from_mark : tie.After-mark → tie.Start
-start_from_mark c = start_from_operand2 c.before.before.before.before.before.before.before.before
-
-abbrev store_from_mark : tie.After-mark → tie.After-store
-store_from_mark c = c.before.before.before.before.before.before
-
-add_t22 : tie.Need-overflow-add-t22
-add_t22 c = let s = (start_from_mark c.before) in
-    omega (arith, c.before.mark.ensures, mark_at_most_one s.args.kind, s.pre.counted, s.pre.few)
-
-same_length : tie.Need-same-length
+same_length : tie.Need-shape_of-table
 same_length c = search rules
 
 returns : tie.Need-returns
 returns c =
-    let stored = (store_from_mark c.before) in
-    let counted = (operands_from_store stored) in
-    let a = counted.before.before.before.args in
-    wrote_gate a.self a.table.now a.kind a.a a.b a.c counted.operands.result _ _ _ _ _ counted.operands.ensures
-    stored.before.before.before.operand.ensures stored.before.before.operand2.ensures
-    stored.before.operand3.ensures c.before.mark.ensures stored.store.ensures
+    let stored = c in
+    let counted = stored in
+    let a = counted.args in
+    wrote_gate a.self a.table.now a.kind a.a a.b a.c counted.operands-count.result _ _ _ _ _ counted.operands-count.ensures
+    stored.operand.ensures stored.operand-2.ensures
+    stored.operand-3.ensures c.mark.ensures stored.store.ensures
 
 pub emit_spec : {M : Type 1} → statement M
 emit_spec =

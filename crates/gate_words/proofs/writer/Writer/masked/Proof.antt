@@ -12,15 +12,15 @@ use Rattle.gate_words.proofs.ChoiceSteps.{masked_step, masked_none, length_maske
 use Rattle.gate_words.proofs.writer.Writer.masked.Statement.{statement}
 use Rattle.gate_words.proofs.writer.Writer.masked.Tie as tie
 
-abbrev invariant_loop : tie.invariant-loop
+abbrev invariant_loop : tie.invariant-loop-i
 invariant_loop table₀ f x digits w₀ i₀ table w i = (i ≤ digits) × Goes w₀ table₀ (masked f x digits) w table (masked f (x + i) (digits - i))
 
-abbrev decreases_loop : tie.decreases-loop
+abbrev decreases_loop : tie.decreases-loop-i
 decreases_loop table₀ f x digits w₀ i₀ table w i = digits - i
 
-loop_holds : tie.Need-loop-init invariant_loop decreases_loop
+loop_holds : tie.Need-loop-i-init invariant_loop decreases_loop
 loop_holds c =
-    let s = c.before in
+    let s = c in
     let a = s.args in (
       omega arith,
       goes_as a.self a.table.now (masked a.f a.x a.digits) a.self a.table.now _ _
@@ -28,55 +28,48 @@ loop_holds c =
           (goes_start a.self a.table.now (masked a.f a.x a.digits) a.digits s.requires.room),
     )
 
-add_emit : tie.Need-overflow-add-emit invariant_loop decreases_loop
+add_emit : tie.Need-overflow_add-x invariant_loop decreases_loop
 add_emit c = omega arith
 
-emit_requires : tie.Need-emit-requires invariant_loop decreases_loop
+emit_requires : tie.Need-emit-w-requires invariant_loop decreases_loop
 emit_requires c κs =
-    let s = c.before.before.before.before in
+    let s = c in
     let a = s.args in
-    let l = c.before.before.loop in
+    let l = c.loop-i in
     goes_room a.self a.table.now (masked a.f a.x a.digits) l.w l.table
     (masked a.f (a.x + l.i) (a.digits - l.i)) 1 a.digits l.invariant.1
     (omega (arith, length_masked a.f (a.x + l.i) (a.digits - l.i)))
     (omega (arith, length_masked a.f a.x a.digits)) s.requires.room
 
-add_i : tie.Need-overflow-add-i invariant_loop decreases_loop
+add_i : tie.Need-overflow_add-i invariant_loop decreases_loop
 add_i c = omega arith
 
-loop_less : tie.Need-loop-smaller invariant_loop decreases_loop
+loop_less : tie.Need-loop-i-smaller invariant_loop decreases_loop
 loop_less c = omega arith
 
--- The stages of the function, seen from later ones.
-abbrev start_from_emit : tie.After-emit invariant_loop decreases_loop → tie.Start invariant_loop decreases_loop
-start_from_emit c = c.before.before.before.before.before
-
-abbrev loop_reached_from_slice_known2 : tie.After-slice-known2 invariant_loop decreases_loop → tie.At-loop invariant_loop decreases_loop
-loop_reached_from_slice_known2 c = c.before.before.before.before.before
-
-loop_again : tie.Need-loop-preserved invariant_loop decreases_loop
+loop_again : tie.Need-loop-i-preserved invariant_loop decreases_loop
 loop_again c =
-    let s = (start_from_emit c.before.before) in
+    let s = c in
     let a = s.args in
-    let l = (loop_reached_from_slice_known2 c).loop in
-    let e = c.before.before.emit in (
+    let l = c.loop-i in
+    let e = c.emit-w in (
       omega arith,
-      goes_on a.self a.table.now (masked a.f a.x a.digits) l.w l.table _ _ e.new.1.0 e.result
+      goes_on a.self a.table.now (masked a.f a.x a.digits) l.w l.table _ _ e.new.table e.result
           (goes_as a.self a.table.now (masked a.f a.x a.digits) l.w l.table _ _
-          (masked_step a.f a.x l.i a.digits c.before.before.before.before.loop-test.true)
-          l.inv.1)
-          (and_wrote l.w l.table e.new.1.0 e.result a.f (a.x + l.i) 0 e.ensures),
+          (masked_step a.f a.x l.i a.digits c.loop-i-test.true)
+          l.invariant.1)
+          (and_wrote l.w l.table e.new.table e.result a.f (a.x + l.i) 0 e.ensures),
     )
 
-same_length : tie.Need-same-length invariant_loop decreases_loop
-same_length c = c.before.loop.invariant.1.long
+same_length : tie.Need-shape_of-table invariant_loop decreases_loop
+same_length c = c.loop-i.invariant.1.long
 
 returns : tie.Need-returns invariant_loop decreases_loop
 returns c =
-    let a = c.before.before.before.args in
-    let l = c.before.loop in
+    let a = c.args in
+    let l = c.loop-i in
     goes_end a.self a.table.now (masked a.f a.x a.digits) l.w l.table _
-    (masked_none a.f (a.x + l.i) l.i a.digits c.loop-test.false) l.invariant.1
+    (masked_none a.f (a.x + l.i) l.i a.digits c.loop-i-test.false) l.invariant.1
 
 pub masked_spec : {M : Type 1} → statement M
 masked_spec = tie.close (tie.spec invariant_loop decreases_loop loop_holds add_emit emit_requires add_i loop_less loop_again same_length returns)

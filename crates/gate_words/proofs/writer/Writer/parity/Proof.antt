@@ -8,7 +8,7 @@ use Rattle.gate_words.proofs.writer.Writer.parity.Tie as tie
 
 chain_requires : tie.Need-chain-requires
 chain_requires c κs =
-    let p = c.before.before.requires in
+    let p = c.requires in
     record {
       room = p.room;
       below = p.below;
@@ -16,7 +16,7 @@ chain_requires c κs =
       two = omega (arith, operand_counts_lem);
     }
 
-same_length : tie.Need-same-length
+same_length : tie.Need-shape_of-table
 same_length c = omega arith
 
 returns : tie.Need-returns

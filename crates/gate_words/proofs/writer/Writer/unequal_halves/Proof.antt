@@ -1,7 +1,7 @@
 -- `gate_words::writer::Writer::unequal_halves` meets its contract: the differences, and whether one of them is 1.
 -- Assumes nothing.
 use mathlib.Core.Path.{◌≡◌, refl, ap}
-use Prim.Native.Nat.{ℕ, suc, ◌+◌, ◌-◌}
+use Prim.Native.Nat.{ℕ, suc, ◌+◌}
 use native.Mathlib.Omega.{arith}
 use borrow.Author.Rules.{rules}
 use native.Mathlib.Numerals.{add-one}
@@ -13,17 +13,17 @@ use Rattle.gate_words.proofs.Standing.{Stands, stands, stands_after, wrote_then}
 use Rattle.gate_words.proofs.writer.Writer.unequal_halves.Statement.{statement}
 use Rattle.gate_words.proofs.writer.Writer.unequal_halves.Tie as tie
 
-add_differences : tie.Need-overflow-add-differences
+add_differences : tie.Need-overflow_add-low
 add_differences c =
-    omega (arith, c.before.before.requires.room.small)
+    omega (arith, c.requires.room.small)
 
-add_differences_2 : tie.Need-overflow-add-differences-2
+add_differences_2 : tie.Need-overflow_add-low-2
 add_differences_2 c =
-    omega (arith, c.before.before.requires.room.small)
+    omega (arith, c.requires.room.small)
 
-differences_requires : tie.Need-differences-requires
+differences_requires : tie.Need-differences-differ-requires
 differences_requires c κs =
-    let s = c.before.before in
+    let s = c in
     record {
       room = room_less s.args.self _ _ (omega arith) s.requires.room;
       first_below = omega (arith, s.requires);
@@ -32,52 +32,42 @@ differences_requires c κs =
 
 -- after the differences
 
-differ : (c : tie.After-differences)
-    → Stands c.differences.result
-    (c.before.before.before.args.self.wire
-    + (c.before.before.before.args.low + c.before.before.before.args.high + 1))
-    (c.before.before.before.args.low + c.before.before.before.args.high)
+differ : (c : tie.After-differences-differ)
+    → Stands c.differences-differ.result
+    (c.args.self.wire
+    + (c.args.low + c.args.high + 1))
+    (c.args.low + c.args.high)
 differ c =
-    let s = c.before.before.before in
+    let s = c in
     let a = s.args in
-    stands_after a.self a.table.now _ c.differences.new.1.0 c.differences.result _ _ _
-    c.differences.ensures (length_differences a.x a.y (a.low + a.high + 1))
+    stands_after a.self a.table.now _ c.differences-differ.new.table c.differences-differ.result _ _ _
+    c.differences-differ.ensures (length_differences a.x a.y (a.low + a.high + 1))
     (stands a.self a.self.wire _ _ refl (omega arith) s.requires.room)
 
--- The stages of the function, seen from later ones.
-abbrev start_from_any_of_halves_arg : tie.After-any-of-halves-arg → tie.Start
-start_from_any_of_halves_arg c = c.before.before.before.before.before.before
-
-abbrev start_from_any_of_halves : tie.After-any-of-halves → tie.Start
-start_from_any_of_halves c = c.before.before.before.before.before.before.before
-
-abbrev differences_from_slice_known3 : tie.After-slice-known3 → tie.After-differences
-differences_from_slice_known3 c = c.before.before.before.before.before.before
-
-add_any_of_halves : tie.Need-overflow-add-any-of-halves
+add_any_of_halves : tie.Need-overflow_add-n
 add_any_of_halves c =
-    omega (arith, (start_from_any_of_halves_arg c).pre.room.small)
+    omega (arith, c.requires.room.small)
 
-any_of_halves_requires : tie.Need-any-of-halves-requires
+any_of_halves_requires : tie.Need-any_of_halves-requires
 any_of_halves_requires c κs =
     let d = differ c.before.before.before in
     record { room = d.left; below = omega (arith, d.place) }
 
-same_length : tie.Need-same-length
+same_length : tie.Need-shape_of-table
 same_length c =
     search rules
 
 returns : tie.Need-returns
 unfolding unequal_halves
 returns c =
-    let a = (start_from_any_of_halves c.before.before).args in
-    let e : (differences_from_slice_known3 c).differences.result.wire ≡ a.self.wire
-    + suc (a.low + a.high) = omega (arith, (differ (differences_from_slice_known3 c)).place) in
-    wrote_then a.self a.table.now _ (differences_from_slice_known3 c).differences.last.1.0
-    (differences_from_slice_known3 c).differences.result _ _ _ _
+    let a = c.args in
+    let e : c.differences-differ.result.wire ≡ a.self.wire
+    + suc (a.low + a.high) = omega (arith, (differ c.before.before.before.before.before.before).place) in
+    wrote_then a.self a.table.now _ c.differences-differ.new.table
+    c.differences-differ.result _ _ _ _
     (wrote_as a.self a.table.now _ _ _ _ (ap (differences a.x a.y) (add-one (a.low + a.high)))
-    (differences_from_slice_known3 c).differences.ensures)
-    c.before.before.any-of-halves.ensures (ap (λ (k : ℕ). any_of_halves k a.self.wire (a.self.wire + 1) a.low a.high) e)
+    c.differences-differ.ensures)
+    c.any_of_halves.ensures (ap (λ (k : ℕ). any_of_halves k a.self.wire (a.self.wire + 1) a.low a.high) e)
 
 pub unequal_halves_spec : {M : Type 1} → statement M
 unequal_halves_spec = tie.close
