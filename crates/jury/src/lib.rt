@@ -1,4 +1,6 @@
 // Tasting juries: shapes, ballots with their tests and counts, reasons.
+#![tactic(auto)]
+
 pub mod ballots;
 pub mod counts;
 pub mod rankings;

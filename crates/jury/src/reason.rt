@@ -4,7 +4,7 @@ ghost use Rattle.jury.specs.Reason.{reason_of};
 
 // First the reasons of a run, in the order of its tests; then those of the urn (13 to 15), of the trustees (16 to
 // 18) and of the dispatcher (19, 20). If a case holds a number, that is the place.
-#[derive(Drop)]
+#[derive(Clone, Copy)]
 pub enum Refusal {
     Shape,
     Table,
@@ -29,7 +29,7 @@ pub enum Refusal {
 }
 
 // The outcome of a test: it passed, or the reason why not.
-#[derive(Drop)]
+#[derive(Clone, Copy)]
 pub enum Verdict {
     Accepted,
     Refused(Refusal),

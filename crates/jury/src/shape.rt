@@ -7,7 +7,7 @@ ghost use Rattle.jury.specs.Shape as spec;
 
 // A candidate is a blend. The fields can also hold numbers outside the limits [limits], so that a call can refuse
 // them.
-#[derive(Drop)]
+#[derive(Clone, Copy)]
 pub struct Shape {
     pub candidates: usize,
     pub grades: usize,
@@ -18,7 +18,7 @@ pub struct Shape {
 pub type ClosingBytes = [u8; Shape::MOST_CANDIDATES];
 
 // What the constructor answers.
-#[derive(Drop)]
+#[derive(Clone, Copy)]
 pub enum ShapeResult {
     Within(Shape),
     Outside,

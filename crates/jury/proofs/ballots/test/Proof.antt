@@ -18,99 +18,99 @@ use Rattle.jury.proofs.BallotLaws.{judged, judged_by, judged_kind, graded_reason
 use Rattle.jury.proofs.ballots.test.Statement.{statement}
 use Rattle.jury.proofs.ballots.test.Tie as tie
 
-ballot_bytes_requires : tie.Need-ballot-bytes-requires
+ballot_bytes_requires : tie.Need-ballot_bytes-requires
 ballot_bytes_requires c κs = search rules
 
-returns : tie.Need-returns
+returns : tie.Need-returns-then-ballots-ballot_bytes
 unfolding judged refused_for reason_of unless first_of
 returns c =
-    let start = c.before.before.before in
+    let start = c in
     let s = start.args.shape in
     let xs = start.args.ballots.now in
     sym (judged_by s xs false (first_above_one 0 xs) (first_of (ballot_kind_reasons s xs))
-    (ne_eqb (length xs) (ballot_bytes s) (λ e. c.if1.true (e ∙ sym c.before.ballot-bytes.ensures))) refl refl)
+    (ne_eqb (length xs) (ballot_bytes s) (λ e. c.if-ballots-ballot_bytes.true (e ∙ sym c.ballot_bytes.ensures))) refl refl)
 
 -- the length is right
-size_known : (c : tie.Else1) → length c.before.before.before.args.ballots.now ≡ ballot_bytes c.before.before.before.args.shape
-size_known c = c.if1.false ∙ c.before.ballot-bytes.ensures
+size_known : (c : tie.Else-ballots-ballot_bytes) → length c.args.ballots.now ≡ ballot_bytes c.args.shape
+size_known c = c.if-ballots-ballot_bytes.false ∙ c.ballot_bytes.ensures
 
-first_above_one_requires : tie.Need-first-above-one-requires
+first_above_one_requires : tie.Need-first_above_one-requires
 first_above_one_requires c κs = search rules
 
-enum_known_i : tie.Need-enum-known-i
+enum_known_i : tie.Need-enum_known-i
 enum_known_i c = search rules
 
-returns_2 : tie.Need-returns-2
+returns_2 : tie.Need-returns-in-At
 unfolding judged refused_for reason_of unless found_at first_of
 returns_2 c =
-    let passed = c.before.before.before.before in
-    let start = passed.before.before.before in
+    let passed = c in
+    let start = passed in
     let s = start.args.shape in
     let xs = start.args.ballots.now in
-    sym (judged_by s xs true (At c.before.i.given.0.0) (first_of (ballot_kind_reasons s xs))
-    (eq-eqb (length xs) (ballot_bytes s) (size_known passed))
-    (sym c.before.before.before.first-above-one.ensures ∙ c.before.i.given.1) refl)
+    sym (judged_by s xs true (At c.in-At.i) (first_of (ballot_kind_reasons s xs))
+    (eq-eqb (length xs) (ballot_bytes s) (size_known passed.before.before))
+    (sym c.first_above_one.ensures ∙ c.in-At.is) refl)
 
-enum_told : tie.Need-enum-told
+enum_told : tie.Need-enum_told-1
 enum_told c = search rules
 
 -- no byte is above 1
-no_byte : (c : tie.After-enum-told) → first_above_one 0 c.before.before.before.before.before.before.args.ballots.now ≡ Nowhere
-no_byte c = sym c.before.before.first-above-one.ensures ∙ c.enum_told.given.1
+no_byte : (c : tie.In_default) → first_above_one 0 c.args.ballots.now ≡ Nowhere
+no_byte c = sym c.first_above_one.ensures ∙ c.in_default.is
 
 -- so the tests of the shape's kind decide
-by_kind : (c : tie.After-enum-told) → let a = c.before.before.before.before.before.before.args in
+by_kind : (c : tie.In_default) → let a = c.args in
     first_of (ballot_reasons a.shape a.ballots.now) ≡ first_of (ballot_kind_reasons a.shape a.ballots.now)
 by_kind c =
-    let passed = c.before.before.before in
-    let a = passed.before.before.before.args in
+    let passed = c in
+    let a = passed.args in
     judged_by a.shape a.ballots.now true Nowhere (first_of (ballot_kind_reasons a.shape a.ballots.now))
-    (eq-eqb (length a.ballots.now) (ballot_bytes a.shape) (size_known passed)) (no_byte c) refl
+    (eq-eqb (length a.ballots.now) (ballot_bytes a.shape) (size_known passed.before.before)) (no_byte c) refl
     ∙ judged_kind (first_of (ballot_kind_reasons a.shape a.ballots.now))
 
-is_ranking_requires : tie.Need-is-ranking-requires
+is_ranking_requires : tie.Need-is_ranking-requires
 is_ranking_requires c κs = search rules
 
-ranking : (c : tie.After-is-ranking)
-    → is_ranking c.before.before.before.before.before.before.before.args.shape ≡ c.is-ranking.result
-ranking c = sym c.is-ranking.ensures
+ranking : (c : tie.After-is_ranking)
+    → is_ranking c.args.shape ≡ c.is_ranking.result
+ranking c = sym c.is_ranking.ensures
 
-test_rankings_requires : tie.Need-test-rankings-requires
+test_rankings_requires : tie.Need-test_rankings-requires
 test_rankings_requires c κs =
-    let told = c.before.before in
-    let passed = told.before.before.before in
-    size_known passed ∙ ranked_bytes passed.before.before.before.args.shape (ranking c.before ∙ c.if2.true)
+    let told = c in
+    let passed = told in
+    size_known passed.before.before.before.before ∙ ranked_bytes passed.args.shape (ranking c.before ∙ c.if-is_ranking.true)
 
-test_grades_requires : tie.Need-test-grades-requires
+test_grades_requires : tie.Need-test_grades-requires
 test_grades_requires c κs =
-    let told = c.before.before in
-    let passed = told.before.before.before in
-    let start = passed.before.before.before in
+    let told = c in
+    let passed = told in
+    let start = passed in
     let s = start.args.shape in
-    let graded = ranking c.before ∙ c.if2.false in
+    let graded = ranking c.before ∙ c.if-is_ranking.false in
     record {
       sized = record {
         within = true_T (graded_limits s)
             (graded_kind s (T_true (within_limits s) start.requires) graded);
-        size = size_known passed
+        size = size_known passed.before.before.before.before
             ∙ grades_columns s graded;
       };
-      bits = all_bits 0 start.args.ballots.now (no_byte told);
+      bits = all_bits 0 start.args.ballots.now (no_byte told.before.before);
     }
 
-returns_3 : tie.Need-returns-3
+returns_3 : tie.Need-returns-then-is_ranking
 returns_3 c =
-    let told = c.before.before.before in
-    let a = told.before.before.before.before.before.before.args in
-    c.test-rankings.ensures ∙ sym (ap first_of (ranked_reasons_lem a.shape a.ballots.now
-    (ranking c.before.before ∙ c.before.if2.true))) ∙ sym (by_kind told)
+    let told = c in
+    let a = told.args in
+    c.test_rankings.ensures ∙ sym (ap first_of (ranked_reasons_lem a.shape a.ballots.now
+    (ranking c.before.before ∙ c.if-is_ranking.true))) ∙ sym (by_kind told.before.before.before)
 
-returns_4 : tie.Need-returns-4
+returns_4 : tie.Need-returns-else-is_ranking
 returns_4 c =
-    let told = c.before.before.before in
-    let a = told.before.before.before.before.before.before.args in
-    c.test-grades.ensures ∙ sym (ap first_of (graded_reasons_lem a.shape a.ballots.now
-    (ranking c.before.before ∙ c.before.if2.false))) ∙ sym (by_kind told)
+    let told = c in
+    let a = told.args in
+    c.test_grades.ensures ∙ sym (ap first_of (graded_reasons_lem a.shape a.ballots.now
+    (ranking c.before.before ∙ c.if-is_ranking.false))) ∙ sym (by_kind told.before.before.before)
 
 pub test_spec : {M : Type 1} → statement M
 test_spec =

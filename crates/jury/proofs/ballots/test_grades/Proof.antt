@@ -11,29 +11,29 @@ use Rattle.jury.proofs.Limits.{within_T, rows_bound}
 use Rattle.jury.proofs.ballots.test_grades.Statement.{statement}
 use Rattle.jury.proofs.ballots.test_grades.Tie as tie
 
-mul_first_bad_row : tie.Need-overflow-mul-first-bad-row
+mul_first_bad_row : tie.Need-overflow_mul-shape
 mul_first_bad_row c =
-    let start = c.before.before in
+    let start = c in
     omega (arith, rows_bound start.args.shape (within_T start.args.shape start.requires.sized.within))
 
-first_bad_row_requires : tie.Need-first-bad-row-requires
+first_bad_row_requires : tie.Need-first_bad_row-requires
 first_bad_row_requires c κs = search rules
 
-enum_known_r : tie.Need-enum-known-r
+enum_known_r : tie.Need-enum_known-r
 enum_known_r c = search rules
 
-enum_told : tie.Need-enum-told
+enum_told : tie.Need-enum_told-1
 enum_told c = search rules
 
-returns : tie.Need-returns
+returns : tie.Need-returns-in-At
 unfolding refused_for graded_reasons reason_of found_at first_of
 returns c =
-    sym (ap (λ (p : Place). first_of (found_at 6 p ∷ [])) (sym c.before.before.before.first-bad-row.ensures ∙ c.before.r.given.1))
+    sym (ap (λ (p : Place). first_of (found_at 6 p ∷ [])) (sym c.first_bad_row.ensures ∙ c.in-At.is))
 
-returns_2 : tie.Need-returns-2
+returns_2 : tie.Need-returns-in-Nowhere
 unfolding refused_for graded_reasons found_at first_of
 returns_2 c =
-    sym (ap (λ (p : Place). first_of (found_at 6 p ∷ [])) (sym c.before.before.first-bad-row.ensures ∙ c.enum_told.given.1))
+    sym (ap (λ (p : Place). first_of (found_at 6 p ∷ [])) (sym c.first_bad_row.ensures ∙ c.in-Nowhere.is))
 
 pub test_grades_spec : {M : Type 1} → statement M
 test_grades_spec =

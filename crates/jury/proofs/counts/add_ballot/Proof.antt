@@ -22,16 +22,16 @@ old counts c = get_or counts c []
 abbrev new : ℕ → List (List ℕ) → List ℕ → ℕ → List ℕ
 new d counts ballot c = plus_row (get_or counts c []) (take d (drop (c * d) ballot))
 
-abbrev invariant_loop : tie.invariant-loop
+abbrev invariant_loop : tie.invariant-loop-c
 invariant_loop counts₀ ballot k d at₀ c₀ counts at c =
     (c ≤ k) × (at ≡ c * d) × (counts ≡ tabulate most_candidates (up_to c (new d counts₀ ballot) (old counts₀)))
 
-abbrev decreases_loop : tie.decreases-loop
+abbrev decreases_loop : tie.decreases-loop-c
 decreases_loop counts₀ ballot k d at₀ c₀ counts at c = k - c
 
-loop_holds : tie.Need-loop-init invariant_loop decreases_loop
+loop_holds : tie.Need-loop-c-init invariant_loop decreases_loop
 loop_holds c =
-    let start = c.before in (
+    let start = c in (
       omega arith,
       omega (arith, zero-mul start.args.d),
       sym (fill_start most_candidates (new start.args.d start.args.counts.now start.args.ballot.now) (old start.args.counts.now)
@@ -39,80 +39,80 @@ loop_holds c =
     )
 
 -- a turn's row lies within the ballot
-end_within : (c : tie.In-loop invariant_loop decreases_loop) →
-    c.before.loop.at + c.before.before.before.args.d ≤ length c.before.before.before.args.ballot.now
+end_within : (c : tie.In-loop-c invariant_loop decreases_loop) →
+    c.loop-c.at + c.args.d ≤ length c.args.ballot.now
 end_within c =
-    let at = c.before in
-    let start = at.before.before in
-    omega (arith, row_within at.loop.c start.args.k start.args.d (omega arith))
+    let at = c in
+    let start = at in
+    omega (arith, row_within at.loop-c.c start.args.k start.args.d (omega arith))
 
-add_end : tie.Need-overflow-add-end invariant_loop decreases_loop
+add_end : tie.Need-overflow_add-end invariant_loop decreases_loop
 add_end c = omega (arith, end_within c)
 
-mul_add_row : tie.Need-overflow-mul-add-row invariant_loop decreases_loop
+mul_add_row : tie.Need-offset_bounds-counts-c invariant_loop decreases_loop
 mul_add_row c = omega arith
 
-index_1_add_row : tie.Need-bounds-1-add-row invariant_loop decreases_loop
+index_1_add_row : tie.Need-bounds-counts-c invariant_loop decreases_loop
 index_1_add_row c = omega arith
 
-sub_add_row : tie.Need-overflow-sub-add-row invariant_loop decreases_loop
+sub_add_row : tie.Need-slice_bounds-add_row-count invariant_loop decreases_loop
 sub_add_row c = omega arith
 
-part_add_row_start : tie.Need-slice-bounds-add-row-start invariant_loop decreases_loop
+part_add_row_start : tie.Need-slice_bounds-add_row-start invariant_loop decreases_loop
 part_add_row_start c = omega arith
 
-part_add_row_end : tie.Need-slice-bounds-add-row-end invariant_loop decreases_loop
+part_add_row_end : tie.Need-slice_bounds-add_row-end invariant_loop decreases_loop
 part_add_row_end c = end_within c.before
 
 -- the row that a turn finds is still the one that was lent
-found : (c : tie.In-loop invariant_loop decreases_loop) →
-    get_or c.before.loop.counts c.before.loop.c [] ≡ get_or c.before.before.before.args.counts.now c.before.loop.c []
+found : (c : tie.In-loop-c invariant_loop decreases_loop) →
+    get_or c.loop-c.counts c.loop-c.c [] ≡ get_or c.args.counts.now c.loop-c.c []
 found c =
-    let at = c.before in
-    let start = at.before.before in
-    ap (λ (m : List (List ℕ)). get_or m at.loop.c []) at.loop.invariant.2
-    ∙ fill_at most_candidates at.loop.c (new start.args.d start.args.counts.now start.args.ballot.now)
+    let at = c in
+    let start = at in
+    ap (λ (m : List (List ℕ)). get_or m at.loop-c.c []) at.loop-c.invariant.2
+    ∙ fill_at most_candidates at.loop-c.c (new start.args.d start.args.counts.now start.args.ballot.now)
     (old start.args.counts.now) [] (omega arith)
 
-add_row_requires : tie.Need-add-row-requires invariant_loop decreases_loop
+add_row_requires : tie.Need-add_row-requires invariant_loop decreases_loop
 add_row_requires c κs =
-    let turn = c.before.before in
-    let start = turn.before.before.before in
-    let columns = start.requires.array.columns turn.before.loop.c (omega arith) in
+    let turn = c in
+    let start = turn in
+    let columns = start.requires.array.columns turn.loop-c.c (omega arith) in
     record {
-      seven = rw (found turn) columns;
+      seven = rw (found turn.before.before) columns;
       short = omega (
         arith,
-        length-take (turn.before.loop.at + start.args.d - turn.before.loop.at)
-            (drop turn.before.loop.at start.args.ballot.now),
+        length-take (turn.loop-c.at + start.args.d - turn.loop-c.at)
+            (drop turn.loop-c.at start.args.ballot.now),
       );
-      small = λ g. rw (found turn) (start.requires.array.small turn.before.loop.c g);
+      small = λ g. rw (found turn.before.before) (start.requires.array.small turn.loop-c.c g);
     }
 
-add_c : tie.Need-overflow-add-c invariant_loop decreases_loop
+add_c : tie.Need-overflow_add-c invariant_loop decreases_loop
 add_c c = omega arith
 
-loop_less : tie.Need-loop-smaller invariant_loop decreases_loop
+loop_less : tie.Need-loop-c-smaller invariant_loop decreases_loop
 loop_less c = omega arith
 
-loop_again : tie.Need-loop-preserved invariant_loop decreases_loop
+loop_again : tie.Need-loop-c-preserved invariant_loop decreases_loop
 loop_again c =
-    let turn = c.before.before.before in
-    let at = turn.before in
-    let start = at.before.before in
+    let turn = c in
+    let at = turn in
+    let start = at in
     let counts = start.args.counts.now in
     let ballot = start.args.ballot.now in
     let d = start.args.d in
-    let i = at.loop.c in
+    let i = at.loop-c.c in
     let made =
     c.add_row.ensures
-    ∙ ap (λ (r : List ℕ). plus_row r (take (at.loop.at + d - at.loop.at) (drop at.loop.at ballot))) (found turn)
-    ∙ ap (λ (n : ℕ). plus_row (get_or counts i []) (take n (drop at.loop.at ballot))) (add-sub_cancel_left at.loop.at d)
-    ∙ ap (λ (n : ℕ). plus_row (get_or counts i []) (take d (drop n ballot))) at.loop.invariant.1 in (
+    ∙ ap (λ (r : List ℕ). plus_row r (take (at.loop-c.at + d - at.loop-c.at) (drop at.loop-c.at ballot))) (found turn.before.before.before)
+    ∙ ap (λ (n : ℕ). plus_row (get_or counts i []) (take n (drop at.loop-c.at ballot))) (add-sub_cancel_left at.loop-c.at d)
+    ∙ ap (λ (n : ℕ). plus_row (get_or counts i []) (take d (drop n ballot))) at.loop-c.invariant.1 in (
       omega arith,
       omega (arith, ap (λ (n : ℕ). n * d) (add-one i), suc-mul i d),
-      ap (λ (r : List ℕ). set at.loop.counts i r) made
-          ∙ ap (λ (m : List (List ℕ)). set m i (new d counts ballot i)) at.loop.invariant.2
+      ap (λ (r : List ℕ). set at.loop-c.counts i r) made
+          ∙ ap (λ (m : List (List ℕ)). set m i (new d counts ballot i)) at.loop-c.invariant.2
           ∙ fill_step most_candidates i (new d counts ballot) (old counts) (omega arith)
           ∙ ap (λ (j : ℕ). tabulate most_candidates (up_to j (new d counts ballot) (old counts))) (sym (add-one i)),
     )
@@ -120,11 +120,11 @@ loop_again c =
 returns : tie.Need-returns invariant_loop decreases_loop
 unfolding plus_ballot up_to
 returns c =
-    let at = c.before in
-    let start = at.before.before in
-    at.loop.invariant.2
+    let at = c in
+    let start = at in
+    at.loop-c.invariant.2
     ∙ ap (λ (i : ℕ). tabulate most_candidates (up_to i (new start.args.d start.args.counts.now start.args.ballot.now)
-    (old start.args.counts.now))) {x = at.loop.c} {y = start.args.k} (omega arith)
+    (old start.args.counts.now))) {x = at.loop-c.c} {y = start.args.k} (omega arith)
 
 pub add_ballot_spec : {M : Type 1} → statement M
 add_ballot_spec =

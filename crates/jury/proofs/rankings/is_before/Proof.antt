@@ -1,27 +1,26 @@
 -- `jury::rankings::is_before` meets its contract: the place of the byte lies within the ballots.
 -- Assumes nothing.
 use mathlib.Core.Path.{refl}
-use Prim.Native.Nat.{◌-◌}
 use native.Mathlib.Omega.{arith}
 use Rattle.jury.specs.Rankings.{rank_place, before}
 use Rattle.jury.proofs.Searches.{rank_known}
 use Rattle.jury.proofs.rankings.is_before.Statement.{statement}
 use Rattle.jury.proofs.rankings.is_before.Tie as tie
 
-mul_at : tie.Need-overflow-mul-at
+mul_at : tie.Need-overflow_mul-at
 mul_at c = omega (arith, rank_known c.args.k c.args.b c.args.i c.args.j (omega arith) (omega arith))
 
-add_at : tie.Need-overflow-add-at
+add_at : tie.Need-overflow_add-at
 add_at c = omega (arith, rank_known c.args.k c.args.b c.args.i c.args.j (omega arith) (omega arith))
 
-mul_at_2 : tie.Need-overflow-mul-at-2
+mul_at_2 : tie.Need-overflow_mul-at-2
 mul_at_2 c = omega (arith, rank_known c.args.k c.args.b c.args.i c.args.j (omega arith) (omega arith))
 
-add_at_2 : tie.Need-overflow-add-at-2
+add_at_2 : tie.Need-overflow_add-at-2
 add_at_2 c = omega (arith, rank_known c.args.k c.args.b c.args.i c.args.j (omega arith) (omega arith))
 
-shared_slice_read_result : tie.Need-shared-slice-read-result
-shared_slice_read_result c = let start = c.before in
+shared_slice_read_result : tie.Need-bounds-ballots-at
+shared_slice_read_result c = let start = c in
     omega (
       arith,
       rank_known start.args.k start.args.b start.args.i start.args.j (omega arith)

@@ -18,69 +18,69 @@ use Rattle.jury.proofs.rankings.not_weak_order_after.Tie as tie
 abbrev test : ℕ → List ℕ → ℕ → ℕ → ℕ → Bool
 test k xs b i j = before k xs b i j && neither_after_nor_before k xs b i j
 
-abbrev invariant_loop : tie.invariant-loop
+abbrev invariant_loop : tie.invariant-loop-j
 invariant_loop ballots k b i j₀ j = (j ≤ k) × (some_below j (test k ballots b i) ≡ false)
 
-abbrev decreases_loop : tie.decreases-loop
+abbrev decreases_loop : tie.decreases-loop-j
 decreases_loop ballots k b i j₀ j = k - j
 
-loop_holds : tie.Need-loop-init invariant_loop decreases_loop
+loop_holds : tie.Need-loop-j-init invariant_loop decreases_loop
 unfolding some_below
 loop_holds c = (omega arith, refl)
 
-is_before_requires : tie.Need-is-before-requires invariant_loop decreases_loop
+is_before_requires : tie.Need-is_before-requires invariant_loop decreases_loop
 is_before_requires c κs = search rules
 
-neither_after_nor_before_requires : tie.Need-neither-after-nor-before-requires invariant_loop decreases_loop
+neither_after_nor_before_requires : tie.Need-neither_after_nor_before-requires invariant_loop decreases_loop
 neither_after_nor_before_requires c κs = search rules
 
-returns : tie.Need-returns invariant_loop decreases_loop
+returns : tie.Need-returns-then-neither_after_nor_before invariant_loop decreases_loop
 unfolding not_weak_order_after
 returns c =
-    let again = c.before in
-    let asked = again.before.before in
-    let at = asked.before.before in
-    let start = at.before.before in
+    let again = c in
+    let asked = again in
+    let at = asked in
+    let start = at in
     let k = start.args.k in
     let xs = start.args.ballots.now in
     let b = start.args.b in
     let i = start.args.i in
-    let j = at.loop.j in
+    let j = at.loop-j.j in
     sym
     (some_here (test k xs b i) k j (omega arith)
     (and_both (before k xs b i j) (neither_after_nor_before k xs b i j)
-    (sym asked.is-before.ensures ∙ again.before.if1.true) (sym again.neither-after-nor-before.ensures ∙ c.if2.true)))
+    (sym asked.is_before.ensures ∙ again.if-is_before.true) (sym again.neither_after_nor_before.ensures ∙ c.if-neither_after_nor_before.true)))
 
-add_j : tie.Need-overflow-add-j invariant_loop decreases_loop
+add_j : tie.Need-overflow_add-j invariant_loop decreases_loop
 add_j c = omega arith
 
-loop_less : tie.Need-loop-smaller invariant_loop decreases_loop
+loop_less : tie.Need-loop-j-smaller invariant_loop decreases_loop
 loop_less c = omega arith
 
-loop_again : tie.Need-loop-preserved invariant_loop decreases_loop
+loop_again : tie.Need-loop-j-preserved invariant_loop decreases_loop
 loop_again c =
-    let asked = c.before in
-    let at = asked.before.before in
-    let start = at.before.before in
+    let asked = c in
+    let at = asked in
+    let start = at in
     let k = start.args.k in
     let xs = start.args.ballots.now in
     let b = start.args.b in
     let i = start.args.i in
-    let j = at.loop.j in (
+    let j = at.loop-j.j in (
       omega arith,
-      some_later (test k xs b i) j at.loop.invariant.1
-          (⊎_elim (λ w. and_second_fails (before k xs b i j) (neither_after_nor_before k xs b i j) (sym w.1.ensures ∙ w.2.left))
+      some_later (test k xs b i) j at.loop-j.invariant.1
+          (⊎_elim (λ w. and_second_fails (before k xs b i j) (neither_after_nor_before k xs b i j) (sym w.neither_after_nor_before.ensures ∙ w.if-neither_after_nor_before.false))
           (λ w. and_first_fails (before k xs b i j) (neither_after_nor_before k xs b i j)
-          (sym asked.is-before.ensures ∙ w.left)) c.if1.branch),
+          (sym asked.is_before.ensures ∙ w.if-is_before.false)) c.else-is_before.branch-raw),
     )
 
-returns_2 : tie.Need-returns-2 invariant_loop decreases_loop
+returns_2 : tie.Need-returns invariant_loop decreases_loop
 unfolding not_weak_order_after
 returns_2 c =
-    let at = c.before in
-    let start = at.before.before in
-    sym at.loop.invariant.1 ∙ ap (λ (m : ℕ). some_below m
-    (test start.args.k start.args.ballots.now start.args.b start.args.i)) {x = at.loop.j}
+    let at = c in
+    let start = at in
+    sym at.loop-j.invariant.1 ∙ ap (λ (m : ℕ). some_below m
+    (test start.args.k start.args.ballots.now start.args.b start.args.i)) {x = at.loop-j.j}
     {y = start.args.k} (omega arith)
 
 pub not_weak_order_after_spec : {M : Type 1} → statement M

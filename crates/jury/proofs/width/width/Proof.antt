@@ -9,32 +9,32 @@ use Rattle.jury.proofs.WidthLaws.{width_zero, width_half, width_le}
 use Rattle.jury.proofs.width.width.Statement.{statement}
 use Rattle.jury.proofs.width.width.Tie as tie
 
-abbrev invariant_loop : tie.invariant-loop
+abbrev invariant_loop : tie.invariant-loop-rest
 invariant_loop n digits₀ rest₀ digits rest = digits + width_of rest ≡ width_of n
 
-abbrev decreases_loop : tie.decreases-loop
+abbrev decreases_loop : tie.decreases-loop-rest
 decreases_loop n digits₀ rest₀ digits rest = rest
 
-loop_holds : tie.Need-loop-init invariant_loop decreases_loop
+loop_holds : tie.Need-loop-rest-init invariant_loop decreases_loop
 loop_holds c = zero-add _
 
 -- a turn counts one digit and halves the rest
 turn : (n digits rest : ℕ) → 0 < rest → digits + width_of rest ≡ width_of n → digits + 1 + width_of (rest / 2) ≡ width_of n
 turn n digits rest h e = omega (arith, width_half rest h)
 
-add_digits : tie.Need-overflow-add-digits invariant_loop decreases_loop
-add_digits c = let l = c.before.loop in
-    omega (arith, l.invariant, width_half l.rest c.loop-test.true, width_le c.before.before.args.n)
+add_digits : tie.Need-overflow_add-digits invariant_loop decreases_loop
+add_digits c = let l = c.loop-rest in
+    omega (arith, l.invariant, width_half l.rest c.loop-rest-test.true, width_le c.args.n)
 
-loop_less : tie.Need-loop-smaller invariant_loop decreases_loop
+loop_less : tie.Need-loop-rest-smaller invariant_loop decreases_loop
 loop_less c = omega arith
 
-loop_again : tie.Need-loop-preserved invariant_loop decreases_loop
-loop_again c = let l = c.before.loop in turn _ l.digits l.rest c.loop-test.true l.invariant
+loop_again : tie.Need-loop-rest-preserved invariant_loop decreases_loop
+loop_again c = let l = c.loop-rest in turn _ l.digits l.rest c.loop-rest-test.true l.invariant
 
 returns : tie.Need-returns invariant_loop decreases_loop
 returns c =
-    let l = c.before.loop in
+    let l = c.loop-rest in
     let none : l.rest ≡ 0 = omega arith in
     omega (arith, l.invariant, ap width_of none, width_zero)
 

@@ -8,17 +8,17 @@ use Rattle.jury.specs.declared.shape.Shape.{Shape}
 use Rattle.jury.proofs.shape.Shape.columns.Statement.{statement}
 use Rattle.jury.proofs.shape.Shape.columns.Tie as tie
 
-returns : tie.Need-returns
+returns : tie.Need-returns-then-self-eq0
 unfolding columns is_ranking
 returns c =
-    let s : Shape = c.before.before.args.self in
-    sym (ap (λ (t : Bool). cond t s.candidates s.grades) (eq-eqb s.grades 0 c.if1.true))
+    let s : Shape = c.args.self in
+    sym (ap (λ (t : Bool). cond t s.candidates s.grades) (eq-eqb s.grades 0 c.if-self-eq0.true))
 
-returns_2 : tie.Need-returns-2
+returns_2 : tie.Need-returns-else-self-eq0
 unfolding columns is_ranking
 returns_2 c =
-    let s : Shape = c.before.before.args.self in
-    sym (ap (λ (t : Bool). cond t s.candidates s.grades) (ne_eqb s.grades 0 c.if1.false))
+    let s : Shape = c.args.self in
+    sym (ap (λ (t : Bool). cond t s.candidates s.grades) (ne_eqb s.grades 0 c.if-self-eq0.false))
 
 pub columns_spec : {M : Type 1} → statement M
 columns_spec = tie.close (tie.spec returns returns_2)

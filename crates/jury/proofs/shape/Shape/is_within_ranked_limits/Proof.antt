@@ -14,32 +14,32 @@ use Rattle.jury.proofs.shape.Shape.is_within_ranked_limits.Tie as tie
 abbrev k_tests : Shape → Bool
 k_tests s = leb 1 s.candidates && leb s.candidates most_candidates
 
-joined1 : (c : tie.Joined1) → c.if1.if2 ≡ k_tests c.before.before.args.self
+joined1 : (c : tie.Joined-self-ge-LEAST_CANDIDATES) → c.if-self-ge-LEAST_CANDIDATES.t-5 ≡ k_tests c.args.self
 joined1 c =
-    ⊎_elim (λ w. and_taken _ _ _ (le-leb _ _ w.0.taken) w.2)
-    (λ w. and_left _ _ _ (lt-leb _ _ w.0.left) w.1) c.if1.branch
+    ⊎_elim (λ w. and_taken _ _ _ (le-leb _ _ w.if-self-ge-LEAST_CANDIDATES.true) w.t-5-is)
+    (λ w. and_left _ _ _ (lt-leb _ _ w.if-self-ge-LEAST_CANDIDATES.false) w.t-5-is) c.if-self-ge-LEAST_CANDIDATES.branch-raw
 
-joined2 : (c : tie.Joined2) → c.if2.if3
-    ≡ (k_tests c.before.before.before.args.self && is_ranking c.before.before.before.args.self)
+joined2 : (c : tie.Joined-self-le-MOST_CANDIDATES) → c.if-self-le-MOST_CANDIDATES.t-4
+    ≡ (k_tests c.args.self && is_ranking c.args.self)
 unfolding is_ranking
 joined2 c =
-    ⊎_elim (λ w. and_taken _ _ _ (sym (joined1 c.before) ∙ w.0.taken) w.2)
-    (λ w. and_left _ _ _ (sym (joined1 c.before) ∙ w.0.left) (w.1 ∙ joined1 c.before)) c.if2.branch
+    ⊎_elim (λ w. and_taken _ _ _ (sym (joined1 c.before) ∙ w.if-self-le-MOST_CANDIDATES.true-raw) w.t-4-is)
+    (λ w. and_left _ _ _ (sym (joined1 c.before) ∙ w.if-self-le-MOST_CANDIDATES.false-raw) (w.t-4-is ∙ joined1 c.before)) c.if-self-le-MOST_CANDIDATES.branch-raw
 
-joined3 : (c : tie.Joined3) → c.if3.if4
-    ≡ (k_tests c.before.before.before.before.args.self && is_ranking
-    c.before.before.before.before.args.self && leb 1 c.before.before.before.before.args.self.ballots)
+joined3 : (c : tie.Joined-self-eq0) → c.if-self-eq0.t-3
+    ≡ (k_tests c.args.self && is_ranking
+    c.args.self && leb 1 c.args.self.ballots)
 joined3 c =
-    ⊎_elim (λ w. and_taken _ _ _ (sym (joined2 c.before) ∙ w.0.taken) w.2)
-    (λ w. and_left _ _ _ (sym (joined2 c.before) ∙ w.0.left) (w.1 ∙ joined2 c.before)) c.if3.branch
+    ⊎_elim (λ w. and_taken _ _ _ (sym (joined2 c.before) ∙ w.if-self-eq0.true-raw) w.t-3-is)
+    (λ w. and_left _ _ _ (sym (joined2 c.before) ∙ w.if-self-eq0.false-raw) (w.t-3-is ∙ joined2 c.before)) c.if-self-eq0.branch-raw
 
-returns : tie.Need-returns
+returns : tie.Need-returns-then-self-ge-LEAST_BALLOTS
 unfolding ranked_limits
-returns c = and_taken _ _ _ (sym (joined3 c.before.before) ∙ c.before.if4.true) refl
+returns c = and_taken _ _ _ (sym (joined3 c.before.before) ∙ c.if-self-ge-LEAST_BALLOTS.true-raw) refl
 
-returns_2 : tie.Need-returns-2
+returns_2 : tie.Need-returns-else-self-ge-LEAST_BALLOTS
 unfolding ranked_limits
-returns_2 c = and_left _ _ _ (sym (joined3 c.before) ∙ c.if4.false) (joined3 c.before)
+returns_2 c = and_left _ _ _ (sym (joined3 c.before) ∙ c.if-self-ge-LEAST_BALLOTS.false-raw) (joined3 c.before)
 
 pub is_within_ranked_limits_spec : {M : Type 1} → statement M
 is_within_ranked_limits_spec = tie.close (tie.spec returns returns_2)

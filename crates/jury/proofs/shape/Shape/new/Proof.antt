@@ -9,31 +9,31 @@ use borrow.Author.Rules.{rules}
 use Rattle.jury.proofs.shape.Shape.new.Statement.{statement}
 use Rattle.jury.proofs.shape.Shape.new.Tie as tie
 
-is_within_limits_requires : tie.Need-is-within-limits-requires
+is_within_limits_requires : tie.Need-is_within_limits-requires
 is_within_limits_requires c κs = search rules
 
-returns : tie.Need-returns
+returns : tie.Need-returns-then-is_within_limits
 unfolding shaped_for unless
 returns c =
     let s : Shape = record {
-      candidates = c.before.before.args.candidates;
+      candidates = c.args.candidates;
       grades =
-          c.before.before.args.grades;
-      ballots = c.before.before.args.ballots;
+          c.args.grades;
+      ballots = c.args.ballots;
     } in
-    let e = sym c.if1.true ∙ c.before.is-within-limits.ensures in
+    let e = sym c.if-is_within_limits.true ∙ c.is_within_limits.ensures in
     record { result = ap (λ (t : Bool). cond t (Within s) Outside) e; reason = ap (λ (t : Bool). unless t 1) e }
 
-returns_2 : tie.Need-returns-2
+returns_2 : tie.Need-returns-else-is_within_limits
 unfolding shaped_for unless
 returns_2 c =
     let s : Shape = record {
-      candidates = c.before.before.args.candidates;
+      candidates = c.args.candidates;
       grades =
-          c.before.before.args.grades;
-      ballots = c.before.before.args.ballots;
+          c.args.grades;
+      ballots = c.args.ballots;
     } in
-    let e = sym c.if1.false ∙ c.before.is-within-limits.ensures in
+    let e = sym c.if-is_within_limits.false ∙ c.is_within_limits.ensures in
     record { result = ap (λ (t : Bool). cond t (Within s) Outside) e; reason = ap (λ (t : Bool). unless t 1) e }
 
 pub new_spec : {M : Type 1} → statement M
