@@ -1,18 +1,20 @@
 // Rehearses one jury: reads its shape and its ballots from standard input and prints who wins.
+#![tactic(auto)]
+
 mod rehearse;
 
 ghost use Rattle.rehearsal.specs.inner.Buffers.{Zeros, ZeroTape};
 
 use crate::rehearse::Rehearsed;
 use jury::shape::Shape;
-use libc::STDIN_FILENO;
+use std::io;
 
-fn print_jury(shape: Shape) {
-    printing::print_text(b"jury");
-    printing::print_number(shape.candidates);
-    printing::print_number(shape.grades);
-    printing::print_number(shape.ballots);
-    printing::print_text(b"\n");
+fn print_jury(rt: &impl Print, shape: Shape) -> io::Result<()> {
+    printing::print_text(rt, b"jury")?;
+    printing::print_number(rt, shape.candidates)?;
+    printing::print_number(rt, shape.grades)?;
+    printing::print_number(rt, shape.ballots)?;
+    printing::print_text(rt, b"\n")
 }
 
 fn table() -> [u32; 16000]
@@ -41,18 +43,18 @@ fn board() -> [u8; 4008]
     [0u8; 4008]
 }
 
-fn main() {
+fn main(rt: HostRuntime) -> io::Result<()> {
     let mut input = [0u8; 16384];
     let mut table = table();
     let tape = tape();
     let mut wires = wires();
     let mut board = board();
-    let got = io::read_full(STDIN_FILENO, &mut input);
+    let got = printing::read_full(&mut rt.stdin(), &mut input)?;
     match rehearse::rehearse(&input[..got], &mut table, &tape, &mut wires, &mut board) {
-        Rehearsed::Refused(reason) => printing::print_refused(reason.number(), reason.place()),
+        Rehearsed::Refused(reason) => printing::print_refused(&rt, reason.number(), reason.place()),
         Rehearsed::Winners { shape, first } => {
-            print_jury(shape);
-            printing::print_bytes(b"winners", &board[first..first + shape.candidates]);
+            print_jury(&rt, shape)?;
+            printing::print_bytes(&rt, b"winners", &board[first..first + shape.candidates])
         }
     }
 }
