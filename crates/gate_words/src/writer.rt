@@ -9,7 +9,7 @@ ghost use Rattle.gate_words.specs.Emitted.{emitted};
 use gates::kind;
 
 // The number of gates written so far, the wire of the next gate, and how many of the written gates are conditional.
-#[derive(Drop)]
+#[derive(Clone, Copy)]
 pub struct Writer {
     pub gate: usize,
     pub wire: u32,
