@@ -2,6 +2,8 @@
 //
 // Each function writes the gates of one block and returns the next writer. Its `requires` asks for room, and for
 // operands that are wires already.
+#![tactic(auto)]
+
 pub mod adder;
 pub mod counter;
 pub mod reach;

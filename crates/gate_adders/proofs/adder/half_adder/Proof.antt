@@ -24,95 +24,58 @@ unfolding half_adder
 with_bit n s u e h = rw (ne_eqb e 0 h)
 
 -- room for what is left after the first gate
-first : (c : tie.After-emit) → Room c.emit.result 2
-first c = room_after c.before.before.before.args.start c.before.before.before.args.table.now _
-    c.emit.new.1.0 c.emit.result 2 3 c.emit.ensures (omega arith) c.before.before.before.requires
+first : (c : tie.After-emit-first) → Room c.emit-first.result 2
+first c = room_after c.args.start c.args.table.now _
+    c.emit-first.new.table c.emit-first.result 2 3 c.emit-first.ensures (omega arith) c.requires
 
--- The stages of the function, seen from later ones.
-abbrev start_from_else1 : tie.Else1 → tie.Start
-start_from_else1 c = c.before.before.before.before.before.before
+second : (c : tie.After-emit-second) → Room c.emit-second.result 1
+second c = room_after c.emit-first.result c.emit-first.new.table _
+    c.emit-second.new.table c.emit-second.result 1 2 c.emit-second.ensures (omega arith) (first c.before.before.before.before.before)
 
-abbrev start_from_then1 : tie.Then1 → tie.Start
-start_from_then1 c = c.before.before.before.before.before.before
+second_with_bit : (c : tie.After-emit-second-2) → Room c.emit-second-2.result 1
+second_with_bit c = room_after c.emit-first.result c.emit-first.new.table _
+    c.emit-second-2.new.table c.emit-second-2.result 1 2 c.emit-second-2.ensures (omega arith) (first c.before.before.before.before.before)
 
-abbrev emit_from_emit2 : tie.After-emit2 → tie.After-emit
-emit_from_emit2 c = c.before.before.before.before.before
-
-abbrev emit_from_emit4 : tie.After-emit4 → tie.After-emit
-emit_from_emit4 c = c.before.before.before.before.before
-
-abbrev start_from_emit3 : tie.After-emit3 → tie.Start
-start_from_emit3 c = start_from_then1 c.before.before.before.before.before.before
-
-abbrev emit_from_emit3 : tie.After-emit3 → tie.After-emit
-emit_from_emit3 c = emit_from_emit2 c.before.before.before.before
-
-abbrev then1_from_emit3 : tie.After-emit3 → tie.Then1
-then1_from_emit3 c = c.before.before.before.before.before.before
-
-abbrev start_from_emit5 : tie.After-emit5 → tie.Start
-start_from_emit5 c = start_from_else1 c.before.before.before.before.before.before
-
-abbrev emit_from_emit5 : tie.After-emit5 → tie.After-emit
-emit_from_emit5 c = emit_from_emit4 c.before.before.before.before
-
-abbrev else1_from_emit5 : tie.After-emit5 → tie.Else1
-else1_from_emit5 c = c.before.before.before.before.before.before
-
-abbrev emit2_from_slice_known4 : tie.After-slice-known4 → tie.After-emit2
-emit2_from_slice_known4 c = c.before.before.before.before.before.before
-
-abbrev emit4_from_slice_known6 : tie.After-slice-known6 → tie.After-emit4
-emit4_from_slice_known6 c = c.before.before.before.before.before.before
-
-second : (c : tie.After-emit2) → Room c.emit2.result 1
-second c = room_after (emit_from_emit2 c).emit.result (emit_from_emit2 c).emit.last.1.0 _
-    c.emit2.new.1.0 c.emit2.result 1 2 c.emit2.ensures (omega arith) (first (emit_from_emit2 c))
-
-second_with_bit : (c : tie.After-emit4) → Room c.emit4.result 1
-second_with_bit c = room_after (emit_from_emit4 c).emit.result (emit_from_emit4 c).emit.last.1.0 _
-    c.emit4.new.1.0 c.emit4.result 1 2 c.emit4.ensures (omega arith) (first (emit_from_emit4 c))
-
-emit_requires : tie.Need-emit-requires
+emit_requires : tie.Need-emit-first-requires
 emit_requires c κs = search rules
 
-emit_requires_2 : tie.Need-emit-requires-2
+emit_requires_2 : tie.Need-emit-second-requires
 emit_requires_2 c κs = let r = first c.before.before.before.before in
     record { few = omega (arith, r.few); small = omega (arith, r.small); counted = r.counted }
 
-emit_requires_3 : tie.Need-emit-requires-3
+emit_requires_3 : tie.Need-emit-requires
 emit_requires_3 c κs = second c.before.before.before
 
-same_length : tie.Need-same-length
+same_length : tie.Need-shape_of-table-then-e-eq0
 same_length c = omega arith
 
-returns : tie.Need-returns
+returns : tie.Need-returns-then-e-eq0
 returns c =
-    let a = (start_from_emit3 c.before.before).args in
-    wrote_as _ _ _ _ _ _ (without_bit a.start.wire a.s a.u a.e (then1_from_emit3 c.before.before).if1.taken)
+    let a = c.args in
+    wrote_as _ _ _ _ _ _ (without_bit a.start.wire a.s a.u a.e c.if-e-eq0.true)
     (wrote_three _ _ _ _ _ _ _ _ _ _ _
-    (xor_wrote _ _ _ _ _ _ _ (emit_from_emit3 c.before.before).emit.ensures)
-    (copy_wrote _ _ _ _ _ _ _ (emit2_from_slice_known4 c).emit2.ensures)
-    (and_wrote _ _ _ _ _ _ _ c.before.before.emit3.ensures))
+    (xor_wrote _ _ _ _ _ _ _ c.emit-first.ensures)
+    (copy_wrote _ _ _ _ _ _ _ c.emit-second.ensures)
+    (and_wrote _ _ _ _ _ _ _ c.emit.ensures))
 
-emit_requires_4 : tie.Need-emit-requires-4
+emit_requires_4 : tie.Need-emit-second-requires-2
 emit_requires_4 c κs = let r = first c.before.before.before.before in
     record { few = omega (arith, r.few); small = omega (arith, r.small); counted = r.counted }
 
-emit_requires_5 : tie.Need-emit-requires-5
+emit_requires_5 : tie.Need-emit-requires-2
 emit_requires_5 c κs = second_with_bit c.before.before.before
 
-same_length_2 : tie.Need-same-length-2
+same_length_2 : tie.Need-shape_of-table
 same_length_2 c = omega arith
 
-returns_2 : tie.Need-returns-2
+returns_2 : tie.Need-returns
 returns_2 c =
-    let a = (start_from_emit5 c.before.before).args in
-    wrote_as _ _ _ _ _ _ (with_bit a.start.wire a.s a.u a.e (else1_from_emit5 c.before.before).if1.left)
+    let a = c.args in
+    wrote_as _ _ _ _ _ _ (with_bit a.start.wire a.s a.u a.e c.if-e-eq0.false)
     (wrote_three _ _ _ _ _ _ _ _ _ _ _
-    (xor_wrote _ _ _ _ _ _ _ (emit_from_emit5 c.before.before).emit.ensures)
-    (not_wrote _ _ _ _ _ _ _ (emit4_from_slice_known6 c).emit4.ensures)
-    (or_wrote _ _ _ _ _ _ _ c.before.before.emit5.ensures))
+    (xor_wrote _ _ _ _ _ _ _ c.emit-first.ensures)
+    (not_wrote _ _ _ _ _ _ _ c.emit-second-2.ensures)
+    (or_wrote _ _ _ _ _ _ _ c.emit-2.ensures))
 
 pub half_adder_spec : {M : Type 1} → statement M
 half_adder_spec =

@@ -6,10 +6,10 @@ use native.Mathlib.Omega.{arith}
 use Rattle.gate_adders.proofs.counter.adders_of.Statement.{statement}
 use Rattle.gate_adders.proofs.counter.adders_of.Tie as tie
 
-add_result : tie.Need-overflow-add-result
+add_result : tie.Need-overflow_add-result
 add_result c = omega arith
 
-add_result_2 : tie.Need-overflow-add-result-2
+add_result_2 : tie.Need-overflow_add-result-2
 add_result_2 c = omega arith
 
 returns : tie.Need-returns

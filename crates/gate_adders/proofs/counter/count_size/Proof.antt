@@ -33,47 +33,47 @@ size_none : (m x r : ℕ) → r ≤ 0 → count_size m x r ≡ 0
 unfolding count_size
 size_none m x r h = let e : r ≡ 0 = omega arith in rw e
 
-abbrev invariant_loop : tie.invariant-loop
+abbrev invariant_loop : tie.invariant-loop-left
 invariant_loop count extra levels gates₀ carries₀ rest₀ left₀ gates carries rest left =
     (carries < writer_limit) × Countable carries rest left × (gates + count_size carries rest left ≡ count_size count extra levels)
 
-abbrev decreases_loop : tie.decreases-loop
+abbrev decreases_loop : tie.decreases-loop-left
 decreases_loop count extra levels gates₀ carries₀ rest₀ left₀ gates carries rest left = left
 
-loop_holds : tie.Need-loop-init invariant_loop decreases_loop
+loop_holds : tie.Need-loop-left-init invariant_loop decreases_loop
 loop_holds c = (c.requires.few, c.requires.countable, omega arith)
 
 -- in a turn: the gates of one level, and those of the levels left
-in_turn : (c : tie.In-loop invariant_loop decreases_loop) → let l = c.before.loop in
+in_turn : (c : tie.In-loop-left invariant_loop decreases_loop) → let l = c.loop-left in
     let half = (l.carries + l.rest % 2) / 2 in
     (half < writer_limit) × Countable half (l.rest / 2) (l.left - 1)
     × (l.gates + 3 * half + count_size half (l.rest / 2) (l.left - 1)
-    ≡ count_size c.before.before.args.count c.before.before.args.extra c.before.before.args.levels)
+    ≡ count_size c.args.count c.args.extra c.args.levels)
 in_turn c =
-    let l = c.before.loop in
-    let s = size_turn l.carries l.rest l.left c.loop-test.true l.invariant.1 in
+    let l = c.loop-left in
+    let s = size_turn l.carries l.rest l.left c.loop-left-test.true l.invariant.1 in
     (omega (arith, s.2, l.invariant.0), s.0, omega (arith, s.1, l.invariant.2))
 
-add_carries : tie.Need-overflow-add-carries invariant_loop decreases_loop
-add_carries c = omega (arith, c.before.loop.invariant.0)
+add_carries : tie.Need-overflow_add-carries invariant_loop decreases_loop
+add_carries c = omega (arith, c.loop-left.invariant.0)
 
-mul_gates : tie.Need-overflow-mul-gates invariant_loop decreases_loop
-mul_gates c = omega (arith, (in_turn c).2, c.before.before.requires.small)
+mul_gates : tie.Need-overflow_mul-gates invariant_loop decreases_loop
+mul_gates c = omega (arith, (in_turn c).2, c.requires.small)
 
-add_gates : tie.Need-overflow-add-gates invariant_loop decreases_loop
-add_gates c = omega (arith, (in_turn c).2, c.before.before.requires.small)
+add_gates : tie.Need-overflow_add-gates invariant_loop decreases_loop
+add_gates c = omega (arith, (in_turn c).2, c.requires.small)
 
-sub_left : tie.Need-overflow-sub-left invariant_loop decreases_loop
+sub_left : tie.Need-overflow_sub-left invariant_loop decreases_loop
 sub_left c = omega arith
 
-loop_less : tie.Need-loop-smaller invariant_loop decreases_loop
+loop_less : tie.Need-loop-left-smaller invariant_loop decreases_loop
 loop_less c = omega arith
 
-loop_again : tie.Need-loop-preserved invariant_loop decreases_loop
+loop_again : tie.Need-loop-left-preserved invariant_loop decreases_loop
 loop_again c = in_turn c
 
 returns : tie.Need-returns invariant_loop decreases_loop
-returns c = let l = c.before.loop in omega (arith, l.invariant.2, size_none l.carries l.rest l.left c.loop-test.false)
+returns c = let l = c.loop-left in omega (arith, l.invariant.2, size_none l.carries l.rest l.left c.loop-left-test.false)
 
 pub count_size_spec : {M : Type 1} → statement M
 count_size_spec =

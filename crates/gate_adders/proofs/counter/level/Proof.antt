@@ -27,216 +27,182 @@ long n s at d e m h =
       length_full n s at (at + d),
     )
 
-abbrev invariant_loop : tie.invariant-loop
+abbrev invariant_loop : tie.invariant-loop-left
 invariant_loop table₀ sum first stride e count w₀ s₀ at₀ left₀ table w s at left =
     (Below w₀.wire at stride left)
     × Goes w₀ table₀ (level w₀.wire sum first stride e count) w table (level w.wire s at stride e left)
 
-abbrev decreases_loop : tie.decreases-loop
+abbrev decreases_loop : tie.decreases-loop-left
 decreases_loop table₀ sum first stride e count w₀ s₀ at₀ left₀ table w s at left = left
 
-loop_holds : tie.Need-loop-init invariant_loop decreases_loop
+loop_holds : tie.Need-loop-left-init invariant_loop decreases_loop
 loop_holds c =
-    let a = c.before.args in (
-      c.before.requires.below,
+    let a = c.args in (
+      c.requires.below,
       goes_start a.start a.table.now
           (level a.start.wire a.sum a.first a.stride a.e a.count)
-          (length (level a.start.wire a.sum a.first a.stride a.e a.count)) c.before.requires.room,
+          (length (level a.start.wire a.sum a.first a.stride a.e a.count)) c.requires.room,
     )
 
 -- at least two bits are left in the loop
-two_left : (c : tie.In-loop invariant_loop decreases_loop) → 1 < c.before.loop.left
+two_left : (c : tie.In-loop-left invariant_loop decreases_loop) → 1 < c.loop-left.left
 two_left c = omega arith
 
-add_full_adder : tie.Need-overflow-add-full-adder invariant_loop decreases_loop
-add_full_adder c = let s = c.before.before.before.before in let l = c.before.before.loop in
+add_full_adder : tie.Need-overflow_add-at invariant_loop decreases_loop
+add_full_adder c = let s = c in let l = c.loop-left in
     omega (
       arith,
       s.requires.room.small,
       (below_two s.args.start.wire l.at s.args.stride l.left (two_left c.before) l.invariant.0).0,
     )
 
-full_adder_requires : tie.Need-full-adder-requires invariant_loop decreases_loop
+full_adder_requires : tie.Need-full_adder-w-requires invariant_loop decreases_loop
 full_adder_requires c κs =
-    let s = c.before.before.before.before in
+    let s = c in
     let a = s.args in
-    let l = c.before.before.loop in
+    let l = c.loop-left in
     goes_room a.start a.table.now (level a.start.wire a.sum a.first a.stride a.e a.count)
     l.w l.table (level l.w.wire l.s l.at a.stride a.e l.left) 3
     (length (level a.start.wire a.sum a.first a.stride a.e a.count)) l.invariant.1
     (omega (arith, long l.w.wire l.s l.at a.stride a.e l.left (two_left c.before)))
     (omega (arith, s.requires.room.small)) s.requires.room
 
--- The stages of the function, seen from later ones.
-abbrev start_from_full_adder : tie.After-full-adder invariant_loop decreases_loop → tie.Start invariant_loop decreases_loop
-start_from_full_adder c = c.before.before.before.before.before
-
-abbrev start_from_half_adder_arg : tie.After-half-adder-arg invariant_loop decreases_loop → tie.Start invariant_loop decreases_loop
-start_from_half_adder_arg c = c.before.before.before.before.before
-
-abbrev start_from_else2 : tie.Else2 invariant_loop decreases_loop → tie.Start invariant_loop decreases_loop
-start_from_else2 c = c.before.before.before.before.before
-
-abbrev start_from_then2 : tie.Then2 invariant_loop decreases_loop → tie.Start invariant_loop decreases_loop
-start_from_then2 c = c.before.before.before.before.before
-
-abbrev start_from_half_adder : tie.After-half-adder invariant_loop decreases_loop → tie.Start invariant_loop decreases_loop
-start_from_half_adder c = c.before.before.before.before.before.before
-
-abbrev start_from_increment : tie.After-increment invariant_loop decreases_loop → tie.Start invariant_loop decreases_loop
-start_from_increment c = c.before.before.before.before.before.before.before
-
-abbrev loop_reached_from_increment : tie.After-increment invariant_loop decreases_loop → tie.At-loop invariant_loop decreases_loop
-loop_reached_from_increment c = c.before.before.before.before.before
-
-abbrev loop_reached_from_slice_known2 : tie.After-slice-known2 invariant_loop decreases_loop → tie.At-loop invariant_loop decreases_loop
-loop_reached_from_slice_known2 c = c.before.before.before.before.before
-
-abbrev loop_reached_from_slice_known3 : tie.After-slice-known3 invariant_loop decreases_loop → tie.At-loop invariant_loop decreases_loop
-loop_reached_from_slice_known3 c = c.before.before.before.before.before.before
-
-abbrev loop_done_from_slice_known4 : tie.After-slice-known4 invariant_loop decreases_loop → tie.After-loop invariant_loop decreases_loop
-loop_done_from_slice_known4 c = c.before.before.before.before.before.before
-
-abbrev else1_from_slice_known4 : tie.After-slice-known4 invariant_loop decreases_loop → tie.Else1 invariant_loop decreases_loop
-else1_from_slice_known4 c = c.before.before.before.before.before
-
-add_s : tie.Need-overflow-add-s invariant_loop decreases_loop
-add_s c = let s = (start_from_full_adder c.before.before) in let a = s.args in let l =
-    (loop_reached_from_slice_known2 c).loop in
+add_s : tie.Need-overflow_add-s invariant_loop decreases_loop
+add_s c = let s = c in let a = s.args in let l =
+    c.loop-left in
     omega (
       arith,
-      s.pre.room.small,
-      l.inv.1.wire_left,
+      s.requires.room.small,
+      l.invariant.1.wire_left,
       long l.w.wire l.s l.at a.stride a.e l.left (two_left c.before.before.before.before),
     )
 
-add_at : tie.Need-overflow-add-at invariant_loop decreases_loop
-add_at c = let s = (start_from_full_adder c.before.before) in let l =
-    (loop_reached_from_slice_known2 c).loop in
+add_at : tie.Need-overflow_add-at-in-loop-left invariant_loop decreases_loop
+add_at c = let s = c in let l =
+    c.loop-left in
     omega (
       arith,
-      s.pre.room.small,
+      s.requires.room.small,
       (below_two s.args.start.wire l.at s.args.stride l.left
-          (two_left c.before.before.before.before) l.inv.0).0,
+          (two_left c.before.before.before.before) l.invariant.0).0,
     )
 
-add_at_2 : tie.Need-overflow-add-at-2 invariant_loop decreases_loop
-add_at_2 c = let s = (start_from_full_adder c.before.before) in let l =
-    (loop_reached_from_slice_known2 c).loop in
+add_at_2 : tie.Need-overflow_add-at-in-loop-left-2 invariant_loop decreases_loop
+add_at_2 c = let s = c in let l =
+    c.loop-left in
     omega (
       arith,
-      s.pre.room.small,
+      s.requires.room.small,
       (below_two s.args.start.wire l.at s.args.stride l.left
-          (two_left c.before.before.before.before) l.inv.0).0,
+          (two_left c.before.before.before.before) l.invariant.0).0,
     )
 
-sub_left : tie.Need-overflow-sub-left invariant_loop decreases_loop
+sub_left : tie.Need-overflow_sub-left invariant_loop decreases_loop
 sub_left c = omega arith
 
-loop_less : tie.Need-loop-smaller invariant_loop decreases_loop
+loop_less : tie.Need-loop-left-smaller invariant_loop decreases_loop
 loop_less c = omega arith
 
-loop_again : tie.Need-loop-preserved invariant_loop decreases_loop
+loop_again : tie.Need-loop-left-preserved invariant_loop decreases_loop
 loop_again c =
-    let s = (start_from_full_adder c.before.before) in
+    let s = c in
     let a = s.args in
-    let l = (loop_reached_from_slice_known2 c).loop in
-    let e = c.before.before.full-adder in
+    let l = c.loop-left in
+    let e = c.full_adder-w in
     let t = two_left c.before.before.before.before in
     let wrote = e.ensures in (
-      (below_two a.start.wire l.at a.stride l.left t l.inv.0).1,
+      (below_two a.start.wire l.at a.stride l.left t l.invariant.0).1,
       goes_as a.start a.table.now (level a.start.wire a.sum a.first a.stride a.e a.count)
-          e.result e.new.1.0 _ _
+          e.result e.new.table _ _
           (ap (λ (n : ℕ). level n (l.w.wire + 1) (l.at + a.stride + a.stride) a.stride a.e (l.left - 2))
           (sym (wrote.wires ∙ ap (λ (n : ℕ). l.w.wire + n)
           (length_full l.w.wire l.s l.at (l.at + a.stride)))))
           (goes_on a.start a.table.now
           (level a.start.wire a.sum a.first a.stride a.e a.count) l.w l.table _ _
-          e.new.1.0 e.result
+          e.new.table e.result
           (goes_as a.start a.table.now
           (level a.start.wire a.sum a.first a.stride a.e a.count) l.w l.table _ _
-          (level_two l.w.wire l.s l.at a.stride a.e l.left t) l.inv.1)
+          (level_two l.w.wire l.s l.at a.stride a.e l.left t) l.invariant.1)
           wrote),
     )
 
-half_adder_requires : tie.Need-half-adder-requires invariant_loop decreases_loop
+half_adder_requires : tie.Need-half_adder-requires invariant_loop decreases_loop
 half_adder_requires c κs =
-    let s = (start_from_half_adder_arg c) in
+    let s = c in
     let a = s.args in
-    let l = c.before.before.before.loop in
+    let l = c.loop-left in
     goes_room a.start a.table.now (level a.start.wire a.sum a.first a.stride a.e a.count)
     l.w l.table (level l.w.wire l.s l.at a.stride a.e l.left) 3
     (length (level a.start.wire a.sum a.first a.stride a.e a.count)) l.invariant.1
     (omega (
       arith,
       ap length (level_one l.w.wire l.s l.at a.stride a.e l.left
-          c.before.if1.true),
+          c.if-left-eq1.true),
       length-append (half_adder l.w.wire l.s l.at a.e) [],
       length_half l.w.wire l.s l.at a.e,
-    )) (omega arith) s.pre.room
+    )) (omega arith) s.requires.room
 
-same_length : tie.Need-same-length invariant_loop decreases_loop
-same_length c = wrote_long _ _ _ _ _ c.before.before.half-adder.ensures ∙ (loop_reached_from_slice_known3 c).loop.inv.1.long
+same_length : tie.Need-shape_of-table-then-left-eq1 invariant_loop decreases_loop
+same_length c = wrote_long _ _ _ _ _ c.half_adder.ensures ∙ c.loop-left.invariant.1.long
 
-returns : tie.Need-returns invariant_loop decreases_loop
+returns : tie.Need-returns-then-left-eq1 invariant_loop decreases_loop
 returns c =
-    let a = (start_from_half_adder c.before.before).args in
-    let l = (loop_reached_from_slice_known3 c).loop in
-    let h = c.before.before.half-adder in
+    let a = c.args in
+    let l = c.loop-left in
+    let h = c.half_adder in
     goes_end a.start a.table.now (level a.start.wire a.sum a.first a.stride a.e a.count)
-    h.result h.new.1.0 _ refl
+    h.result h.new.table _ refl
     (goes_on a.start a.table.now (level a.start.wire a.sum a.first a.stride a.e a.count)
-    l.w l.table _ [] h.new.1.0 h.result
+    l.w l.table _ [] h.new.table h.result
     (goes_as a.start a.table.now (level a.start.wire a.sum a.first a.stride a.e a.count)
     l.w l.table _ _ (level_one l.w.wire l.s l.at a.stride a.e l.left
-    c.before.before.before.before.if1.true) l.inv.1) h.ensures)
+    c.if-left-eq1.true) l.invariant.1) h.ensures)
 
-same_length_2 : tie.Need-same-length-2 invariant_loop decreases_loop
-same_length_2 c = c.before.before.before.loop.invariant.1.long
+same_length_2 : tie.Need-shape_of-table-then-e-eq0 invariant_loop decreases_loop
+same_length_2 c = c.loop-left.invariant.1.long
 
-returns_2 : tie.Need-returns-2 invariant_loop decreases_loop
+returns_2 : tie.Need-returns-then-e-eq0 invariant_loop decreases_loop
 returns_2 c =
-    let a = (start_from_then2 c).args in
-    let l = c.before.before.before.loop in
+    let a = c.args in
+    let l = c.loop-left in
     goes_end a.start a.table.now (level a.start.wire a.sum a.first a.stride a.e a.count)
     l.w l.table _ (level_none l.w.wire l.s l.at a.stride a.e l.left
-    c.before.before.loop-test.false c.before.if1.false c.if2.true) l.invariant.1
+    c.loop-left-test.false c.if-left-eq1.false c.if-e-eq0.true) l.invariant.1
 
 increment_requires : tie.Need-increment-requires invariant_loop decreases_loop
 increment_requires c κs =
-    let s = (start_from_else2 c.before) in
+    let s = c in
     let a = s.args in
-    let l = c.before.before.before.before.loop in
+    let l = c.loop-left in
     goes_room a.start a.table.now (level a.start.wire a.sum a.first a.stride a.e a.count)
     l.w l.table (level l.w.wire l.s l.at a.stride a.e l.left) 3
     (length (level a.start.wire a.sum a.first a.stride a.e a.count)) l.invariant.1
     (omega (
       arith,
       ap length (level_bit l.w.wire l.s l.at a.stride a.e l.left
-          c.before.before.before.loop-test.false c.before.before.if1.false c.before.if2.false),
+          c.loop-left-test.false c.if-left-eq1.false c.if-e-eq0.false),
       length-append (increment l.w.wire l.s) [],
       length_increment l.w.wire l.s,
     )) (omega arith)
-    s.pre.room
+    s.requires.room
 
-same_length_3 : tie.Need-same-length-3 invariant_loop decreases_loop
-same_length_3 c = wrote_long _ _ _ _ _ c.before.before.increment.ensures
-    ∙ (loop_reached_from_increment c.before.before).loop.inv.1.long
+same_length_3 : tie.Need-shape_of-table invariant_loop decreases_loop
+same_length_3 c = wrote_long _ _ _ _ _ c.increment.ensures
+    ∙ c.loop-left.invariant.1.long
 
-returns_3 : tie.Need-returns-3 invariant_loop decreases_loop
+returns_3 : tie.Need-returns invariant_loop decreases_loop
 returns_3 c =
-    let a = (start_from_increment c.before.before).args in
-    let l = (loop_reached_from_increment c.before.before).loop in
-    let h = c.before.before.increment in
+    let a = c.args in
+    let l = c.loop-left in
+    let h = c.increment in
     goes_end a.start a.table.now (level a.start.wire a.sum a.first a.stride a.e a.count)
-    h.result h.new.1.0 _ refl
+    h.result h.new.table _ refl
     (goes_on a.start a.table.now (level a.start.wire a.sum a.first a.stride a.e a.count)
-    l.w l.table _ [] h.new.1.0 h.result
+    l.w l.table _ [] h.new.table h.result
     (goes_as a.start a.table.now (level a.start.wire a.sum a.first a.stride a.e a.count)
     l.w l.table _ _ (level_bit l.w.wire l.s l.at a.stride a.e l.left
-    (loop_done_from_slice_known4 c).loop-test.left (else1_from_slice_known4 c).if1.left
-    c.before.before.before.before.if2.false) l.inv.1) h.ensures)
+    c.loop-left-test.false c.if-left-eq1.false
+    c.if-e-eq0.false) l.invariant.1) h.ensures)
 
 pub level_spec : {M : Type 1} → statement M
 level_spec =

@@ -9,16 +9,16 @@ use borrow.Author.Rules.{rules}
 use Rattle.gate_adders.proofs.counter.level_sum.Statement.{statement}
 use Rattle.gate_adders.proofs.counter.level_sum.Tie as tie
 
-adders_of_requires : tie.Need-adders-of-requires
+adders_of_requires : tie.Need-adders_of-adders-requires
 adders_of_requires c κs = search rules
 
-mul_result : tie.Need-overflow-mul-result
+mul_result : tie.Need-overflow_mul-result
 mul_result c = omega arith
 
-add_result : tie.Need-overflow-add-result
+add_result : tie.Need-overflow_add-result
 add_result c = omega arith
 
-sub_result : tie.Need-overflow-sub-result
+sub_result : tie.Need-overflow_sub-result
 sub_result c = omega arith
 
 no_adder : (n s m e t : ℕ) → t ≡ adders m e → t ≡ 0 → s ≡ level_sum n s m e
@@ -29,15 +29,15 @@ last_adder : (n s m e t : ℕ) → t ≡ adders m e → (t ≡ 0 → ⊥) → n 
 unfolding level_sum
 last_adder n s m e t p q = rw (ne_eqb (adders m e) 0 (λ r. q (p ∙ r))) (ap (λ (x : ℕ). n + 3 * x - 2) p)
 
-returns : tie.Need-returns
-returns c = let a = c.before.before.args in
-    no_adder a.n a.s a.count a.e c.before.adders-of.result c.before.adders-of.ensures
-    c.if1.true
+returns : tie.Need-returns-then-adders-eq0
+returns c = let a = c.args in
+    no_adder a.n a.s a.count a.e c.adders_of-adders.result c.adders_of-adders.ensures
+    c.if-adders-eq0.true
 
-returns_2 : tie.Need-returns-2
-returns_2 c = let a = c.before.before.args in
-    last_adder a.n a.s a.count a.e c.before.adders-of.result c.before.adders-of.ensures
-    c.if1.false
+returns_2 : tie.Need-returns-else-adders-eq0
+returns_2 c = let a = c.args in
+    last_adder a.n a.s a.count a.e c.adders_of-adders.result c.adders_of-adders.ensures
+    c.if-adders-eq0.false
 
 pub level_sum_spec : {M : Type 1} → statement M
 level_sum_spec =

@@ -2,7 +2,7 @@
 -- Assumes nothing.
 use mathlib.Core.Path.{◌≡◌}
 use mathlib.Core.List.{List, [], ◌∷◌}
-use Prim.Native.Nat.{ℕ, ◌-◌}
+use Prim.Native.Nat.{ℕ}
 use borrow.Author.Rules.{rules}
 use borrow.Author.Tests.{eq-eqb, ne_eqb}
 use Rattle.gates.specs.Gate.{Gate}
@@ -23,42 +23,35 @@ with_bit x y e h = rw (ne_eqb e 0 h)
 
 emit_requires : tie.Need-emit-requires
 emit_requires c κs =
-    c.before.before.before.requires
+    c.requires
 
-same_length : tie.Need-same-length
+same_length : tie.Need-shape_of-table-then-bit-eq0
 same_length c =
     search rules
 
--- The stages of the function, seen from later ones.
-abbrev start_from_slice_known2 : tie.After-slice-known2 → tie.Start
-start_from_slice_known2 c = c.before.before.before.before.before.before
-
-abbrev start_from_slice_known3 : tie.After-slice-known3 → tie.Start
-start_from_slice_known3 c = c.before.before.before.before.before.before
-
-returns : tie.Need-returns
+returns : tie.Need-returns-then-bit-eq0
 returns c =
-    let a = (start_from_slice_known2 c).args in
+    let a = c.args in
     wrote_as a.w a.table.now _ _ _ _
-    (without_bit a.x a.y a.bit c.before.before.before.before.if1.true)
-    (and_wrote a.w a.table.now c.before.before.emit.new.1.0 c.before.before.emit.result
-    a.x a.y 0 c.before.before.emit.ensures)
+    (without_bit a.x a.y a.bit c.if-bit-eq0.true)
+    (and_wrote a.w a.table.now c.emit.new.table c.emit.result
+    a.x a.y 0 c.emit.ensures)
 
 emit_requires_2 : tie.Need-emit-requires-2
 emit_requires_2 c κs =
-    c.before.before.before.requires
+    c.requires
 
-same_length_2 : tie.Need-same-length-2
+same_length_2 : tie.Need-shape_of-table
 same_length_2 c =
     search rules
 
-returns_2 : tie.Need-returns-2
+returns_2 : tie.Need-returns
 returns_2 c =
-    let a = (start_from_slice_known3 c).args in
+    let a = c.args in
     wrote_as a.w a.table.now _ _ _ _
-    (with_bit a.x a.y a.bit c.before.before.before.before.if1.false)
-    (or_wrote a.w a.table.now c.before.before.emit2.new.1.0 c.before.before.emit2.result
-    a.x a.y 0 c.before.before.emit2.ensures)
+    (with_bit a.x a.y a.bit c.if-bit-eq0.false)
+    (or_wrote a.w a.table.now c.emit-2.new.table c.emit-2.result
+    a.x a.y 0 c.emit-2.ensures)
 
 pub carry_bit_spec : {M : Type 1} → statement M
 carry_bit_spec = tie.close (tie.spec emit_requires same_length returns emit_requires_2 same_length_2 returns_2)
