@@ -12,7 +12,7 @@ use gates::kind;
 use gates::kind::ConditionalMarks;
 
 // How many entries of each table belong to one trustee.
-#[derive(Drop)]
+#[derive(Clone, Copy)]
 pub struct Pieces {
     pub wires: usize,
     pub triples: usize,
@@ -20,7 +20,7 @@ pub struct Pieces {
 }
 
 // A gate as its four numbers.
-#[derive(Drop)]
+#[derive(Clone, Copy)]
 pub struct Numbers {
     pub kind: u32,
     pub a: usize,
@@ -29,7 +29,7 @@ pub struct Numbers {
 }
 
 // The opened sums of both masked factors.
-#[derive(Drop)]
+#[derive(Clone, Copy)]
 pub struct Opened {
     pub first: u8,
     pub second: u8,

@@ -12,12 +12,12 @@ unfolding entered
 other zero x h = absurd (omega arith)
 other (suc p) x h = refl
 
-returns : tie.Need-returns
+returns : tie.Need-returns-then-p-eq0
 unfolding entered
-returns c = let a = c.before.args in let e : a.p ≡ 0 = omega arith in rw e
+returns c = let a = c.args in let e : a.p ≡ 0 = omega arith in rw e
 
-returns_2 : tie.Need-returns-2
-returns_2 c = let a = c.before.args in let n : 0 < a.p = omega arith in other a.p a.x n
+returns_2 : tie.Need-returns-else-p-eq0
+returns_2 c = let a = c.args in let n : 0 < a.p = omega arith in other a.p a.x n
 
 pub enter_once_spec : {M : Type 1} → statement M
 enter_once_spec = tie.close (tie.spec returns returns_2)

@@ -20,60 +20,60 @@ unfolding part_of_kind
 no_kind p k a b c z h = sym (get_or-eq_default
     (0 ∷ entered p 1 ∷ a ∷ (a + entered p 1) % 2 ∷ z ∷ (a + b + z) % 2 ∷ (a + b) % 2 ∷ (c + z) % 2 ∷ []) 0 {n = k} h)
 
-enter_once_requires : tie.Need-enter-once-requires
+enter_once_requires : tie.Need-enter_once-one-requires
 enter_once_requires c κs = search rules
 
-add_result : tie.Need-overflow-add-result
+add_result : tie.Need-overflow_add-result
 add_result c = search rules
 
-add_result_2 : tie.Need-overflow-add-result-2
+add_result_2 : tie.Need-overflow_add-result-in-5
 add_result_2 c = search rules
 
-add_result_3 : tie.Need-overflow-add-result-3
+add_result_3 : tie.Need-overflow_add-result-in-5-2
 add_result_3 c = search rules
 
-add_result_4 : tie.Need-overflow-add-result-4
+add_result_4 : tie.Need-overflow_add-result-in-6
 add_result_4 c = search rules
 
-add_result_5 : tie.Need-overflow-add-result-5
+add_result_5 : tie.Need-overflow_add-result-in-7
 add_result_5 c = search rules
 
-returns : tie.Need-returns
+returns : tie.Need-returns-in-0
 unfolding part_of_kind
-returns c = rw c.match.keys1
+returns c = rw c.in-0.is
 
-returns_2 : tie.Need-returns-2
+returns_2 : tie.Need-returns-in-1
 unfolding part_of_kind
-returns_2 c = rw c.match.keys2 c.before.enter-once.ensures
+returns_2 c = rw c.in-1.is c.enter_once-one.ensures
 
-returns_3 : tie.Need-returns-3
+returns_3 : tie.Need-returns-in-2
 unfolding part_of_kind
-returns_3 c = rw c.match.keys3
+returns_3 c = rw c.in-2.is
 
-returns_4 : tie.Need-returns-4
+returns_4 : tie.Need-returns-in-3
 unfolding part_of_kind
-returns_4 c = rw c.match.keys4 (omega (arith, c.before.enter-once.ensures))
+returns_4 c = rw c.in-3.is (omega (arith, c.enter_once-one.ensures))
 
-returns_5 : tie.Need-returns-5
+returns_5 : tie.Need-returns-in-4
 unfolding part_of_kind
-returns_5 c = rw c.match.keys5
+returns_5 c = rw c.in-4.is
 
-returns_6 : tie.Need-returns-6
+returns_6 : tie.Need-returns-in-5
 unfolding part_of_kind
-returns_6 c = let a = c.before.before.args in rw c.match.keys6 (three_mods a.a a.b a.z)
+returns_6 c = let a = c.args in rw c.in-5.is (three_mods a.a a.b a.z)
 
-returns_7 : tie.Need-returns-7
+returns_7 : tie.Need-returns-in-6
 unfolding part_of_kind
-returns_7 c = rw c.match.keys7 (omega arith)
+returns_7 c = rw c.in-6.is (omega arith)
 
-returns_8 : tie.Need-returns-8
+returns_8 : tie.Need-returns-in-7
 unfolding part_of_kind
-returns_8 c = rw c.match.keys8 (omega arith)
+returns_8 c = rw c.in-7.is (omega arith)
 
-returns_9 : tie.Need-returns-9
+returns_9 : tie.Need-returns-in-8-to-4294967295
 returns_9 c =
-    let r = c.match.rest in
-    let a = c.before.before.args in
+    let r = c.in-8-to-4294967295.in-8-to-4294967295-own.rest in
+    let a = c.args in
     let k = a.kind in
     let l : 8 ≤ k =
     above_7 k (above_3 k r.0.0.0.0.0.0.0.1 r.0.0.0.0.0.0.1 r.0.0.0.0.0.1 r.0.0.0.0.1)

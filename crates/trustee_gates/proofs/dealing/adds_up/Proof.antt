@@ -20,57 +20,50 @@ use Rattle.trustee_gates.proofs.dealing.adds_up.Tie as tie
 abbrev passes : ℕ → List ℕ → List ℕ → ℕ → Bool
 passes t ballots parts x = eqb (opened t (λ p. part (piece (length ballots) parts p) x)) (get_or ballots x 0)
 
-abbrev invariant_loop : tie.invariant-loop
+abbrev invariant_loop : tie.invariant-loop-x
 invariant_loop t ballots parts x₀ x = (x ≤ length ballots) × (true ≡ all_below x (passes t ballots parts))
 
-abbrev decreases_loop : tie.decreases-loop
+abbrev decreases_loop : tie.decreases-loop-x
 decreases_loop t ballots parts x₀ x = length ballots - x
 
-loop_holds : tie.Need-loop-init invariant_loop decreases_loop
+loop_holds : tie.Need-loop-x-init invariant_loop decreases_loop
 loop_holds c = (omega arith, all_none _)
 
 open_requires : tie.Need-open-requires invariant_loop decreases_loop
-open_requires c κs = record { inside = omega arith; long = c.before.before.before.before.requires }
+open_requires c κs = record { inside = omega arith; long = c.requires }
 
-shared_slice_read_if1 : tie.Need-shared-slice-read-if1 invariant_loop decreases_loop
+shared_slice_read_if1 : tie.Need-bounds-ballots-x invariant_loop decreases_loop
 shared_slice_read_if1 c = omega arith
 
--- The stages of the function, seen from later ones.
-abbrev start_from_else1 : tie.Else1 invariant_loop decreases_loop → tie.Start invariant_loop decreases_loop
-start_from_else1 c = c.before.before.before.before.before.before.before
-
-abbrev start_from_then1 : tie.Then1 invariant_loop decreases_loop → tie.Start invariant_loop decreases_loop
-start_from_then1 c = c.before.before.before.before.before.before.before
-
-returns : tie.Need-returns invariant_loop decreases_loop
+returns : tie.Need-returns-then-open-ballots invariant_loop decreases_loop
 unfolding adds_up
 returns c =
-    let l = c.before.before.before.before.loop in
-    let a = (start_from_then1 c).args in
+    let l = c.loop-x in
+    let a = c.args in
     not_all (passes a.t a.ballots.now a.parts.now) (length a.ballots.now) l.x (omega arith)
-    (ne_eqb _ _ (λ e. c.if1.true (c.before.before.«open».ensures ∙ e)))
+    (ne_eqb _ _ (λ e. c.if-open-ballots.true (c.«open».ensures ∙ e)))
 
-add_x : tie.Need-overflow-add-x invariant_loop decreases_loop
+add_x : tie.Need-overflow_add-x invariant_loop decreases_loop
 add_x c = omega arith
 
-loop_less : tie.Need-loop-smaller invariant_loop decreases_loop
+loop_less : tie.Need-loop-x-smaller invariant_loop decreases_loop
 loop_less c = omega arith
 
-loop_again : tie.Need-loop-preserved invariant_loop decreases_loop
+loop_again : tie.Need-loop-x-preserved invariant_loop decreases_loop
 loop_again c =
-    let l = c.before.before.before.before.loop in
-    let a = (start_from_else1 c).args in (
+    let l = c.loop-x in
+    let a = c.args in (
       omega arith,
       all_more (passes a.t a.ballots.now a.parts.now) l.x l.invariant.1
-          (eq-eqb _ _ (sym c.before.before.«open».ensures ∙ c.if1.false))
+          (eq-eqb _ _ (sym c.«open».ensures ∙ c.if-open-ballots.false))
           ∙ ap (λ (n : ℕ). all_below n (passes a.t a.ballots.now a.parts.now)) (sym (add-one l.x)),
     )
 
-returns_2 : tie.Need-returns-2 invariant_loop decreases_loop
+returns_2 : tie.Need-returns invariant_loop decreases_loop
 unfolding adds_up
 returns_2 c =
-    let l = c.before.loop in
-    let a = c.before.before.before.before.args in
+    let l = c.loop-x in
+    let a = c.args in
     let e : l.x ≡ length a.ballots.now = omega arith in
     l.invariant.1 ∙ ap (λ (n : ℕ). all_below n (passes a.t a.ballots.now a.parts.now)) e
 

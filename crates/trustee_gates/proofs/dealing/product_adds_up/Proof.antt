@@ -11,28 +11,28 @@ use Rattle.trustee_gates.proofs.Parity.{opened_bit, bit_times}
 use Rattle.trustee_gates.proofs.dealing.product_adds_up.Statement.{statement}
 use Rattle.trustee_gates.proofs.dealing.product_adds_up.Tie as tie
 
-mul_open : tie.Need-overflow-mul-open
+mul_open : tie.Need-overflow_mul-i
 mul_open c = search rules
 
-open_requires : tie.Need-open-requires
+open_requires : tie.Need-open-u-requires
 open_requires c κs = search rules
 
-mul_open_2 : tie.Need-overflow-mul-open-2
+mul_open_2 : tie.Need-overflow_mul-i-2
 mul_open_2 c = search rules
 
-add_open : tie.Need-overflow-add-open
+add_open : tie.Need-overflow_add-i
 add_open c = search rules
 
-open_requires_2 : tie.Need-open-requires-2
+open_requires_2 : tie.Need-open-v-requires
 open_requires_2 c κs = search rules
 
-mul_open_3 : tie.Need-overflow-mul-open-3
+mul_open_3 : tie.Need-overflow_mul-i-3
 mul_open_3 c = search rules
 
-add_open_2 : tie.Need-overflow-add-open-2
+add_open_2 : tie.Need-overflow_add-i-2
 add_open_2 c = search rules
 
-open_requires_3 : tie.Need-open-requires-3
+open_requires_3 : tie.Need-open-requires
 open_requires_3 c κs = search rules
 
 times_requires : tie.Need-times-requires
@@ -41,19 +41,16 @@ times_requires c κs = search rules
 returns : tie.Need-returns
 unfolding product_adds_up product_of u_of v_of part
 returns c =
-    let third = c.before in
-    let second = third.before in
-    let first = second.before in
-    let a = first.before.before.args in
+    let a = c.args in
     let f : ℕ → ℕ → ℕ = λ x p. part (piece a.size a.triples.now p) x in
     let u = opened a.t (f (3 * a.i)) in
     let v = opened a.t (f (3 * a.i + 1)) in
     let w = opened a.t (f (3 * a.i + 2)) in
     let e : c.times.result ≡ u * v =
-    c.times.ensures ∙ ap (λ (n : ℕ). n * second.open2.result % 2) first.«open».ensures
-    ∙ ap (λ (n : ℕ). u * n % 2) second.open2.ensures
+    c.times.ensures ∙ ap (λ (n : ℕ). n * c.open-v.result % 2) c.open-u.ensures
+    ∙ ap (λ (n : ℕ). u * n % 2) c.open-v.ensures
     ∙ bit_times u v (opened_bit a.t (f (3 * a.i))) (opened_bit a.t (f (3 * a.i + 1))) in
-    ap (λ (n : ℕ). eqb n c.times.result) third.open3.ensures ∙ ap (λ (n : ℕ). eqb w n) e
+    ap (λ (n : ℕ). eqb n c.times.result) c.open.ensures ∙ ap (λ (n : ℕ). eqb w n) e
 
 pub product_adds_up_spec : {M : Type 1} → statement M
 product_adds_up_spec =

@@ -19,79 +19,72 @@ abbrev entering : ℕ → Numbers → List ℕ → ℕ → ℕ
 entering size g ws q = part_of_kind q g.kind (part (piece size ws q) g.a) (part (piece size ws q) g.b)
     (part (piece size ws q) g.c) 0
 
-abbrev invariant_loop : tie.invariant-loop
+abbrev invariant_loop : tie.invariant-loop-p
 invariant_loop t size gate own wires₀ p₀ wires p = (p ≤ t) × (length wires ≡ length wires₀)
     × (wires ≡ each_puts p size own (λ q. entering size gate wires₀ q ∷ []) wires₀)
 
-abbrev decreases_loop : tie.decreases-loop
+abbrev decreases_loop : tie.decreases-loop-p
 decreases_loop t size gate own wires₀ p₀ wires p = t - p
 
-loop_holds : tie.Need-loop-init invariant_loop decreases_loop
+loop_holds : tie.Need-loop-p-init invariant_loop decreases_loop
 unfolding each_puts
 loop_holds c = (omega arith, refl, refl)
 
-new_part_requires : tie.Need-new-part-requires invariant_loop decreases_loop
+new_part_requires : tie.Need-new_part-requires invariant_loop decreases_loop
 new_part_requires c κs =
-    let l = c.before.before.loop in
-    let s = c.before.before.before.before in
-    let a = s.args in
+    let l = c.loop-p in
+    let a = c.args in
     record {
-      a_in = s.requires.a_in;
-      b_in = s.requires.b_in;
-      c_in = s.requires.c_in;
-      wires_reach = reaches a.t a.size l.wires l.p (l.invariant.1 ∙ s.requires.wires_length) (omega arith);
+      a_in = c.requires.a_in;
+      b_in = c.requires.b_in;
+      c_in = c.requires.c_in;
+      wires_reach = reaches a.t a.size l.wires l.p (l.invariant.1 ∙ c.requires.wires_length) (omega arith);
     }
 
--- The stages of the function, seen from later ones.
-abbrev start_from_new_part : tie.After-new-part invariant_loop decreases_loop → tie.Start invariant_loop decreases_loop
-start_from_new_part c = c.before.before.before.before.before
-
 -- the place where a part is stored
-place : (c : tie.After-new-part invariant_loop decreases_loop) → let l = c.before.before.before.loop in let a =
-    (start_from_new_part c).args in l.p * a.size + a.own < length l.wires
+place : (c : tie.After-new_part invariant_loop decreases_loop) → let l = c.loop-p in let a =
+    c.args in l.p * a.size + a.own < length l.wires
 place c =
-    let l = c.before.before.before.loop in
-    let s = (start_from_new_part c) in
-    let a = s.args in
-    omega (arith, s.pre.own_in, reaches a.t a.size l.wires l.p (l.invariant.1 ∙ s.pre.wires_length) (omega arith))
+    let l = c.loop-p in
+    let a = c.args in
+    omega (arith, c.requires.own_in, reaches a.t a.size l.wires l.p (l.invariant.1 ∙ c.requires.wires_length) (omega arith))
 
-mul_wires : tie.Need-overflow-mul-wires invariant_loop decreases_loop
+mul_wires : tie.Need-overflow_mul-wires invariant_loop decreases_loop
 mul_wires c = omega (arith, place c)
 
-add_wires : tie.Need-overflow-add-wires invariant_loop decreases_loop
+add_wires : tie.Need-overflow_add-wires invariant_loop decreases_loop
 add_wires c = omega (arith, place c)
 
-slice_write_wires : tie.Need-slice-write-wires invariant_loop decreases_loop
+slice_write_wires : tie.Need-bounds-wires-p invariant_loop decreases_loop
 slice_write_wires c = omega (arith, place c)
 
-add_p : tie.Need-overflow-add-p invariant_loop decreases_loop
+add_p : tie.Need-overflow_add-p invariant_loop decreases_loop
 add_p c = omega arith
 
-loop_less : tie.Need-loop-smaller invariant_loop decreases_loop
+loop_less : tie.Need-loop-p-smaller invariant_loop decreases_loop
 loop_less c = omega arith
 
-loop_again : tie.Need-loop-preserved invariant_loop decreases_loop
+loop_again : tie.Need-loop-p-preserved invariant_loop decreases_loop
 loop_again c =
-    let l = c.before.before.before.loop in
-    let s = (start_from_new_part c) in
-    let a = s.args in
+    let l = c.loop-p in
+    let a = c.args in
     let same = own_piece (entering a.size a.gate a.wires.now) l.wires a.wires.now l.p a.size
-    a.own s.pre.own_in l.invariant.2 in (
+    a.own c.requires.own_in l.invariant.2 in (
       omega arith,
-      length-set l.wires (l.p * a.size + a.own) c.new-part.result ∙ l.invariant.1,
+      length-set l.wires (l.p * a.size + a.own) c.new_part.result ∙ l.invariant.1,
       puts_one (entering a.size a.gate a.wires.now) l.wires a.wires.now l.p a.size a.own
-          c.new-part.result l.invariant.2
-          (c.new-part.ensures ∙ ap (λ (r : List ℕ). part_of_kind l.p a.gate.kind (part r a.gate.a)
+          c.new_part.result l.invariant.2
+          (c.new_part.ensures ∙ ap (λ (r : List ℕ). part_of_kind l.p a.gate.kind (part r a.gate.a)
           (part r a.gate.b) (part r a.gate.c) 0) same),
     )
 
-same_length : tie.Need-same-length invariant_loop decreases_loop
-same_length c = c.before.loop.invariant.1
+same_length : tie.Need-shape_of-wires invariant_loop decreases_loop
+same_length c = c.loop-p.invariant.1
 
 returns : tie.Need-returns invariant_loop decreases_loop
 returns c =
-    let l = c.before.loop in
-    let a = c.before.before.before.args in
+    let l = c.loop-p in
+    let a = c.args in
     let e : l.p ≡ a.t = omega arith in
     l.invariant.2 ∙ ap (λ (n : ℕ). each_puts n a.size a.own (λ q. entering a.size a.gate a.wires.now q ∷ []) a.wires.now) e
 

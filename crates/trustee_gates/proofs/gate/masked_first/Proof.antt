@@ -6,13 +6,13 @@ use Rattle.trustee_shares.specs.Shares.{u_of, part, first_factor, masked_first}
 use Rattle.trustee_gates.proofs.gate.masked_first.Statement.{statement}
 use Rattle.trustee_gates.proofs.gate.masked_first.Tie as tie
 
-entry_requires : tie.Need-entry-requires
+entry_requires : tie.Need-entry-a-requires
 entry_requires c κs = search rules
 
-mul_entry : tie.Need-overflow-mul-entry
+mul_entry : tie.Need-overflow_mul-i
 mul_entry c = search rules
 
-entry_requires_2 : tie.Need-entry-requires-2
+entry_requires_2 : tie.Need-entry-requires
 entry_requires_2 c κs = search rules
 
 plus_requires : tie.Need-plus-requires
@@ -20,7 +20,7 @@ plus_requires c κs = search rules
 
 returns : tie.Need-returns
 unfolding masked_first first_factor u_of part
-returns c = rw (sym c.before.before.entry.ensures, sym c.before.entry2.ensures) c.plus.ensures
+returns c = rw (sym c.entry-a.ensures, sym c.entry.ensures) c.plus.ensures
 
 pub masked_first_spec : {M : Type 1} → statement M
 masked_first_spec =

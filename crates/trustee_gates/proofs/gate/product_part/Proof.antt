@@ -6,40 +6,40 @@ use Rattle.trustee_shares.specs.Shares.{part, u_of, v_of, product_of, product_pa
 use Rattle.trustee_gates.proofs.gate.product_part.Statement.{statement}
 use Rattle.trustee_gates.proofs.gate.product_part.Tie as tie
 
-mul_entry : tie.Need-overflow-mul-entry
+mul_entry : tie.Need-overflow_mul-i
 mul_entry c = search rules
 
-entry_requires : tie.Need-entry-requires
+entry_requires : tie.Need-entry-u-requires
 entry_requires c κs = search rules
 
-mul_entry_2 : tie.Need-overflow-mul-entry-2
+mul_entry_2 : tie.Need-overflow_mul-i-2
 mul_entry_2 c = search rules
 
-add_entry : tie.Need-overflow-add-entry
+add_entry : tie.Need-overflow_add-i
 add_entry c = search rules
 
-entry_requires_2 : tie.Need-entry-requires-2
+entry_requires_2 : tie.Need-entry-v-requires
 entry_requires_2 c κs = search rules
 
-mul_entry_3 : tie.Need-overflow-mul-entry-3
+mul_entry_3 : tie.Need-overflow_mul-i-3
 mul_entry_3 c = search rules
 
-add_entry_2 : tie.Need-overflow-add-entry-2
+add_entry_2 : tie.Need-overflow_add-i-2
 add_entry_2 c = search rules
 
-entry_requires_3 : tie.Need-entry-requires-3
+entry_requires_3 : tie.Need-entry-product-requires
 entry_requires_3 c κs = search rules
 
-product_bit_requires : tie.Need-product-bit-requires
+product_bit_requires : tie.Need-product_bit-requires
 product_bit_requires c κs = search rules
 
 returns : tie.Need-returns
 unfolding product_part u_of v_of product_of part
 returns c = rw (
-  sym c.before.before.before.entry.ensures,
-  sym c.before.before.entry2.ensures,
-  sym c.before.entry3.ensures,
-) c.product-bit.ensures
+  sym c.entry-u.ensures,
+  sym c.entry-v.ensures,
+  sym c.entry-product.ensures,
+) c.product_bit.ensures
 
 pub product_part_spec : {M : Type 1} → statement M
 product_part_spec =

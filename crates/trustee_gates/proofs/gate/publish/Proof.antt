@@ -26,38 +26,27 @@ first_bit pieces g i triples ws q = masked_first (piece pieces.wires ws q) (piec
 abbrev second_bit : Pieces → Numbers → ℕ → List ℕ → List ℕ → ℕ → ℕ
 second_bit pieces g i triples ws q = masked_second (piece pieces.wires ws q) (piece pieces.triples triples q) i (gate_of_numbers g)
 
-abbrev invariant_loop : tie.invariant-loop
+abbrev invariant_loop : tie.invariant-loop-p
 invariant_loop t pieces gate i triples wires published₀ size first₀ second₀ p₀ published first second p =
     (p ≤ t) × (length published ≡ length published₀)
     × (published ≡ each_puts p pieces.published (2 * i)
     (λ q. first_bit pieces gate i triples wires q ∷ second_bit pieces gate i triples wires q ∷ []) published₀)
     × (first ≡ opened p (first_bit pieces gate i triples wires)) × (second ≡ opened p (second_bit pieces gate i triples wires))
 
-abbrev decreases_loop : tie.decreases-loop
+abbrev decreases_loop : tie.decreases-loop-p
 decreases_loop t pieces gate i triples wires published₀ size first₀ second₀ p₀ published first second p = t - p
 
-loop_holds : tie.Need-loop-init invariant_loop decreases_loop
+loop_holds : tie.Need-loop-p-init invariant_loop decreases_loop
 unfolding each_puts
 loop_holds c = (omega arith, refl, refl, opened_none _, opened_none _)
 
--- The stages of the function, seen from later ones.
-abbrev start_from_loop_done : tie.After-loop invariant_loop decreases_loop → tie.Start invariant_loop decreases_loop
-start_from_loop_done c = c.before.before.before.before.before
-
-abbrev start_from_round : tie.In-loop invariant_loop decreases_loop → tie.Start invariant_loop decreases_loop
-start_from_round c = c.before.before.before.before.before
-
-abbrev start_from_masked_second : tie.After-masked-second invariant_loop decreases_loop → tie.Start invariant_loop decreases_loop
-start_from_masked_second c = c.before.before.before.before.before.before.before
-
 -- the tables have what both factors need
-asked : (c : tie.In-loop invariant_loop decreases_loop) → let a = (start_from_round c).args in let l = c.before.loop in
+asked : (c : tie.In-loop-p invariant_loop decreases_loop) → let a = c.args in let l = c.loop-p in
     FactorReady a.pieces a.gate a.i l.p a.triples.now a.wires.now
 asked c =
-    let s = (start_from_round c) in
-    let a = s.args in
-    let l = c.before.loop in
-    let r = s.pre in
+    let a = c.args in
+    let l = c.loop-p in
+    let r = c.requires in
     record {
       operands = record {
         a_in = r.a_in;
@@ -74,14 +63,13 @@ asked c =
     }
 
 -- the places of both bits are within the table
-place : (c : tie.After-masked-second invariant_loop decreases_loop) → let l = c.before.before.before.loop in let a =
-    (start_from_masked_second c).args in
+place : (c : tie.After-masked_second-y invariant_loop decreases_loop) → let l = c.loop-p in let a =
+    c.args in
     (l.p * a.pieces.published + (2 * a.i + 1) < length l.published) × (2 * a.i + 1 < a.pieces.published)
 place c =
-    let l = c.before.before.before.loop in
-    let s = (start_from_masked_second c) in
-    let a = s.args in
-    let r = s.pre in (
+    let l = c.loop-p in
+    let a = c.args in
+    let r = c.requires in (
       omega (
         arith,
         r.factors_in,
@@ -91,73 +79,72 @@ place c =
       r.factors_in,
     )
 
-masked_first_requires : tie.Need-masked-first-requires invariant_loop decreases_loop
+masked_first_requires : tie.Need-masked_first-x-requires invariant_loop decreases_loop
 masked_first_requires c κs = asked c
 
-masked_second_requires : tie.Need-masked-second-requires invariant_loop decreases_loop
+masked_second_requires : tie.Need-masked_second-y-requires invariant_loop decreases_loop
 masked_second_requires c κs = asked c.before
 
-mul_at : tie.Need-overflow-mul-at invariant_loop decreases_loop
+mul_at : tie.Need-overflow_mul-at invariant_loop decreases_loop
 mul_at c = omega (arith, place c)
 
-mul_at_2 : tie.Need-overflow-mul-at-2 invariant_loop decreases_loop
+mul_at_2 : tie.Need-overflow_mul-at-in-loop-p invariant_loop decreases_loop
 mul_at_2 c = omega (arith, place c)
 
-add_at : tie.Need-overflow-add-at invariant_loop decreases_loop
+add_at : tie.Need-overflow_add-at invariant_loop decreases_loop
 add_at c = omega (arith, place c)
 
-slice_write_published : tie.Need-slice-write-published invariant_loop decreases_loop
+slice_write_published : tie.Need-bounds-published-at invariant_loop decreases_loop
 slice_write_published c = omega (arith, place c)
 
-add_published : tie.Need-overflow-add-published invariant_loop decreases_loop
+add_published : tie.Need-overflow_add-published invariant_loop decreases_loop
 add_published c = omega (arith, place c)
 
-slice_write_published_2 : tie.Need-slice-write-published-2 invariant_loop decreases_loop
+slice_write_published_2 : tie.Need-bounds-published-at-in-loop-p invariant_loop decreases_loop
 slice_write_published_2 c =
-    let l = c.before.before.before.loop in
-    let a = (start_from_masked_second c).args in
-    omega (arith, place c, length-set l.published (l.p * a.pieces.published + 2 * a.i) c.before.masked-first.result)
+    let l = c.loop-p in
+    let a = c.args in
+    omega (arith, place c, length-set l.published (l.p * a.pieces.published + 2 * a.i) c.masked_first-x.result)
 
-plus_requires : tie.Need-plus-requires invariant_loop decreases_loop
+plus_requires : tie.Need-plus-first-requires invariant_loop decreases_loop
 plus_requires c κs = search rules
 
-plus_requires_2 : tie.Need-plus-requires-2 invariant_loop decreases_loop
+plus_requires_2 : tie.Need-plus-second-requires invariant_loop decreases_loop
 plus_requires_2 c κs = search rules
 
-add_p : tie.Need-overflow-add-p invariant_loop decreases_loop
+add_p : tie.Need-overflow_add-p invariant_loop decreases_loop
 add_p c = omega arith
 
-loop_less : tie.Need-loop-smaller invariant_loop decreases_loop
+loop_less : tie.Need-loop-p-smaller invariant_loop decreases_loop
 loop_less c = omega arith
 
-loop_again : tie.Need-loop-preserved invariant_loop decreases_loop
+loop_again : tie.Need-loop-p-preserved invariant_loop decreases_loop
 loop_again c =
-    let s2 = c.before.before in
-    let l = s2.before.before.before.loop in
-    let a = (start_from_masked_second s2).args in
+    let l = c.loop-p in
+    let a = c.args in
     let f : ℕ → ℕ = first_bit a.pieces a.gate a.i a.triples.now a.wires.now in
     let g : ℕ → ℕ = second_bit a.pieces a.gate a.i a.triples.now a.wires.now in
     let at = l.p * a.pieces.published + 2 * a.i in
-    let x = s2.before.masked-first.result in
-    let y = s2.masked-second.result in (
+    let x = c.masked_first-x.result in
+    let y = c.masked_second-y.result in (
       omega arith,
       length-set (set l.published at x) (at + 1) y ∙ length-set l.published at x ∙ l.invariant.1,
       puts_two f g l.published a.published.now l.p a.pieces.published (2 * a.i) x y l.invariant.2
-          s2.before.masked-first.ensures s2.masked-second.ensures,
-      opened_more l.p f l.first x c.before.plus.result l.invariant.3 s2.before.masked-first.ensures
-          c.before.plus.ensures ∙ ap (λ (n : ℕ). opened n f) (sym (add-one l.p)),
-      opened_more l.p g l.second y c.plus2.result l.invariant.4 s2.masked-second.ensures
-          c.plus2.ensures ∙ ap (λ (n : ℕ). opened n g) (sym (add-one l.p)),
+          c.masked_first-x.ensures c.masked_second-y.ensures,
+      opened_more l.p f l.first x c.plus-first.result l.invariant.3 c.masked_first-x.ensures
+          c.plus-first.ensures ∙ ap (λ (n : ℕ). opened n f) (sym (add-one l.p)),
+      opened_more l.p g l.second y c.plus-second.result l.invariant.4 c.masked_second-y.ensures
+          c.plus-second.ensures ∙ ap (λ (n : ℕ). opened n g) (sym (add-one l.p)),
     )
 
-same_length : tie.Need-same-length invariant_loop decreases_loop
-same_length c = c.before.loop.invariant.1
+same_length : tie.Need-shape_of-published invariant_loop decreases_loop
+same_length c = c.loop-p.invariant.1
 
 returns : tie.Need-returns invariant_loop decreases_loop
 unfolding opened_first opened_second
 returns c =
-    let l = c.before.loop in
-    let a = (start_from_loop_done c).args in
+    let l = c.loop-p in
+    let a = c.args in
     let f : ℕ → ℕ = first_bit a.pieces a.gate a.i a.triples.now a.wires.now in
     let g : ℕ → ℕ = second_bit a.pieces a.gate a.i a.triples.now a.wires.now in
     let e : l.p ≡ a.t = omega arith in

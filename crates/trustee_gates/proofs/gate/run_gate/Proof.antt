@@ -18,65 +18,47 @@ use Rattle.trustee_gates.proofs.gate.run_gate.Statement.{statement}
 use Rattle.trustee_gates.proofs.gate.run_gate.Tie as tie
 use Rattle.trustee_shares.proofs.Publishing.{mark_none}
 
--- The stages of the function, seen from later ones.
-abbrev start_from_else1 : tie.Else1 → tie.Start
-start_from_else1 c = c.before.before.before.before.before
+taken : (c : tie.Then-conditional) → conditional_of c.args.gate.kind ≡ true
+taken c = sym c.conditional.ensures ∙ c.if-conditional.true
 
-abbrev start_from_then1 : tie.Then1 → tie.Start
-start_from_then1 c = c.before.before.before.before.before
-
-abbrev then1_from_enter_products_arg : tie.After-enter-products-arg → tie.Then1
-then1_from_enter_products_arg c = c.before.before.before.before.before.before
-
-taken : (c : tie.Then1) → conditional_of (start_from_then1 c).args.gate.kind ≡ true
-taken c = sym c.before.conditional.ensures ∙ c.if1.true
-
-left : (c : tie.Else1) → conditional_of (start_from_else1 c).args.gate.kind ≡ false
-left c = sym c.before.conditional.ensures ∙ c.if1.false
+left : (c : tie.Else-conditional) → conditional_of c.args.gate.kind ≡ false
+left c = sym c.conditional.ensures ∙ c.if-conditional.false
 
 conditional_requires : tie.Need-conditional-requires
 conditional_requires c κs = search rules
 
-publish_requires : tie.Need-publish-requires
+publish_requires : tie.Need-publish-opened-requires
 publish_requires c κs =
-    let then = c.before.before in
-    let s = (start_from_then1 then) in
-    let r = s.pre.gate in
+    let r = c.requires.gate in
     record {
       a_in = r.free.a_in;
       b_in = r.free.b_in;
       c_in = r.free.c_in;
-      triple_in = r.triple_in (taken then);
-      factors_in = r.factors_in (taken then);
+      triple_in = r.triple_in (taken c.before);
+      factors_in = r.factors_in (taken c.before);
       wires_length = r.free.wires_length;
       triples_length = r.triples_length;
       published_length = r.published_length;
     }
 
-enter_products_requires : tie.Need-enter-products-requires
+enter_products_requires : tie.Need-enter_products-requires
 enter_products_requires c κs =
-    let then = (then1_from_enter_products_arg c) in
-    let s = (start_from_then1 then) in
-    let r = s.pre.gate in
-    record { free = r.free; triple_in = r.triple_in (taken then); triples_length = r.triples_length }
+    let r = c.requires.gate in
+    record { free = r.free; triple_in = r.triple_in (taken c.before.before.before.before.before); triples_length = r.triples_length }
 
-add_result : tie.Need-overflow-add-result
+add_result : tie.Need-overflow_add-result
 add_result c = search rules
 
-same_length : tie.Need-same-length
+same_length : tie.Need-shape_of-wires-then-conditional
 same_length c = search rules
 
-same_length_2 : tie.Need-same-length-2
+same_length_2 : tie.Need-shape_of-published-then-conditional
 same_length_2 c = search rules
 
-returns : tie.Need-returns
+returns : tie.Need-returns-then-conditional
 returns c =
-    let entered = c.before.before in
-    let shown = entered.before.before.before.before in
-    let then = shown.before.before.before in
-    let s = (start_from_then1 then) in
-    let a = s.args in
-    let is = taken then in
+    let a = c.args in
+    let is = taken c.before.before.before.before.before.before.before.before in
     let X : Bool → List ℕ = λ b. cond b
     (each_puts a.t a.pieces.published (2 * a.i)
     (λ p. masked_first (piece a.pieces.wires a.wires.now p) (piece a.pieces.triples a.triples.now p)
@@ -86,24 +68,21 @@ returns c =
     record {
       next = sym (ap (λ (n : ℕ). a.i + n) (mark_one (gate_of_numbers a.gate) is));
       parts = products_entered a.t a.pieces.wires a.own a.i (gate_of_numbers a.gate)
-          (piece a.pieces.triples a.triples.now) a.wires.now _ _ _ shown.publish.ensures.first
-          shown.publish.ensures.second entered.enter-products.ensures;
-      shown = shown.publish.ensures.shown ∙ sym (ap X is);
+          (piece a.pieces.triples a.triples.now) a.wires.now _ _ _ c.publish-opened.ensures.first
+          c.publish-opened.ensures.second c.enter_products.ensures;
+      shown = c.publish-opened.ensures.shown ∙ sym (ap X is);
     }
 
-enter_free_requires : tie.Need-enter-free-requires
+enter_free_requires : tie.Need-enter_free-requires
 enter_free_requires c κs = search rules
 
-same_length_3 : tie.Need-same-length-3
+same_length_3 : tie.Need-shape_of-wires
 same_length_3 c = search rules
 
-returns_2 : tie.Need-returns-2
+returns_2 : tie.Need-returns
 returns_2 c =
-    let entered = c.before.before in
-    let else = entered.before.before in
-    let s = (start_from_else1 else) in
-    let a = s.args in
-    let is = left else in
+    let a = c.args in
+    let is = left c.before.before.before.before in
     let X : Bool → List ℕ = λ b. cond b
     (each_puts a.t a.pieces.published (2 * a.i)
     (λ p. masked_first (piece a.pieces.wires a.wires.now p) (piece a.pieces.triples a.triples.now p)
@@ -113,8 +92,8 @@ returns_2 c =
     record {
       next = omega (arith, mark_none (gate_of_numbers a.gate) is);
       parts = free_entered a.t a.pieces.wires a.own a.i (gate_of_numbers a.gate)
-          (piece a.pieces.triples a.triples.now) a.wires.now _ s.pre.gate.known is
-          entered.enter-free.ensures;
+          (piece a.pieces.triples a.triples.now) a.wires.now _ c.requires.gate.known is
+          c.enter_free.ensures;
       shown = sym (ap X is);
     }
 

@@ -7,34 +7,30 @@ use Rattle.trustee_shares.specs.Shares.{second_factor}
 use Rattle.trustee_gates.proofs.gate.second_factor.Statement.{statement}
 use Rattle.trustee_gates.proofs.gate.second_factor.Tie as tie
 
-entry_requires : tie.Need-entry-requires
+entry_requires : tie.Need-entry-b-requires
 entry_requires c κs = search rules
 
-entry_requires_2 : tie.Need-entry-requires-2
+entry_requires_2 : tie.Need-entry-requires
 entry_requires_2 c κs = search rules
 
 plus_requires : tie.Need-plus-requires
 plus_requires c κs = search rules
 
--- The stages of the function, seen from later ones.
-abbrev start_from_plus : tie.After-plus → tie.Start
-start_from_plus c = c.before.before.before.before.before.before
-
-returns : tie.Need-returns
+returns : tie.Need-returns-then-gate-eq-CHOICE
 unfolding second_factor
 returns c =
-    let a = (start_from_plus c).args in
+    let a = c.args in
     rw (
-      eq-eqb a.gate.kind 7 c.before.before.if1.true,
-      sym c.before.before.before.before.entry.ensures,
-      sym c.before.entry2.ensures,
+      eq-eqb a.gate.kind 7 c.if-gate-eq-CHOICE.true,
+      sym c.entry-b.ensures,
+      sym c.entry.ensures,
     ) c.plus.ensures
 
-returns_2 : tie.Need-returns-2
+returns_2 : tie.Need-returns
 unfolding second_factor
 returns_2 c =
-    let a = c.before.before.before.before.args in
-    rw (ne_eqb a.gate.kind 7 c.if1.false) c.before.before.entry.ensures
+    let a = c.args in
+    rw (ne_eqb a.gate.kind 7 c.if-gate-eq-CHOICE.false) c.entry-b.ensures
 
 pub second_factor_spec : {M : Type 1} → statement M
 second_factor_spec =

@@ -29,53 +29,52 @@ further l from into at count j h k =
 ends : (l from : List ℕ) (into at count j : ℕ) → count ≤ j → sets l (into + j) (take (count - j) (drop (at + j) from)) ≡ l
 ends l from into at count j h = let e : count - j ≡ 0 = omega arith in rw e
 
-abbrev invariant_loop : tie.invariant-loop
+abbrev invariant_loop : tie.invariant-loop-j
 invariant_loop count from at to₀ into j₀ to j = (j ≤ count) × (length to ≡ length to₀)
     × (sets to (into + j) (take (count - j) (drop (at + j) from)) ≡ sets to₀ into (take count (drop at from)))
 
-abbrev decreases_loop : tie.decreases-loop
+abbrev decreases_loop : tie.decreases-loop-j
 decreases_loop count from at to₀ into j₀ to j = count - j
 
-loop_holds : tie.Need-loop-init invariant_loop decreases_loop
+loop_holds : tie.Need-loop-j-init invariant_loop decreases_loop
 loop_holds c =
     let a = c.args in
     (omega arith, refl, starts a.to.now a.into a.at a.count a.from.now)
 
-add_to : tie.Need-overflow-add-to invariant_loop decreases_loop
-add_to c = omega (arith, c.before.before.requires)
+add_to : tie.Need-overflow_add-to invariant_loop decreases_loop
+add_to c = omega (arith, c.requires)
 
-shared_slice_read_to : tie.Need-shared-slice-read-to invariant_loop decreases_loop
-shared_slice_read_to c = omega (arith, c.before.before.before.requires)
+shared_slice_read_to : tie.Need-bounds-from-at invariant_loop decreases_loop
+shared_slice_read_to c = omega (arith, c.requires)
 
-add_to_2 : tie.Need-overflow-add-to-2 invariant_loop decreases_loop
-add_to_2 c = omega (arith, c.before.before.before.requires)
+add_to_2 : tie.Need-overflow_add-to-in-loop-j invariant_loop decreases_loop
+add_to_2 c = omega (arith, c.requires)
 
-slice_write_to : tie.Need-slice-write-to invariant_loop decreases_loop
-slice_write_to c = omega (arith, c.before.before.before.requires)
+slice_write_to : tie.Need-bounds-to-into invariant_loop decreases_loop
+slice_write_to c = omega (arith, c.requires)
 
-add_j : tie.Need-overflow-add-j invariant_loop decreases_loop
+add_j : tie.Need-overflow_add-j invariant_loop decreases_loop
 add_j c = omega arith
 
-loop_less : tie.Need-loop-smaller invariant_loop decreases_loop
+loop_less : tie.Need-loop-j-smaller invariant_loop decreases_loop
 loop_less c = omega arith
 
-loop_again : tie.Need-loop-preserved invariant_loop decreases_loop
+loop_again : tie.Need-loop-j-preserved invariant_loop decreases_loop
 loop_again c =
-    let l = c.before.before.loop in
-    let s = c.before.before.before in
-    let a = s.args in (
+    let l = c.loop-j in
+    let a = c.args in (
       omega arith,
       length-set l.to (a.into + l.j) (get_or a.from.now (a.at + l.j) 0) ∙ l.invariant.1,
-      further l.to a.from.now a.into a.at a.count l.j (omega arith) (omega (arith, s.requires)) ∙ l.invariant.2,
+      further l.to a.from.now a.into a.at a.count l.j (omega arith) (omega (arith, c.requires)) ∙ l.invariant.2,
     )
 
-same_length : tie.Need-same-length invariant_loop decreases_loop
-same_length c = c.before.loop.invariant.1
+same_length : tie.Need-shape_of-to invariant_loop decreases_loop
+same_length c = c.loop-j.invariant.1
 
 returns : tie.Need-returns invariant_loop decreases_loop
 returns c =
-    let l = c.before.loop in
-    let a = c.before.before.args in
+    let l = c.loop-j in
+    let a = c.args in
     sym (ends l.to a.from.now a.into a.at a.count l.j (omega arith)) ∙ l.invariant.2
 
 pub copy_part_spec : {M : Type 1} → statement M

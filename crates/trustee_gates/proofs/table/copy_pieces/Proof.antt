@@ -11,78 +11,69 @@ use Rattle.trustee_gates.proofs.Puts.{reaches, puts_many, piece_part}
 use Rattle.trustee_gates.proofs.table.copy_pieces.Statement.{statement}
 use Rattle.trustee_gates.proofs.table.copy_pieces.Tie as tie
 
-abbrev invariant_loop : tie.invariant-loop
+abbrev invariant_loop : tie.invariant-loop-p
 invariant_loop t count from size at to₀ room into p₀ to p = (p ≤ t) × (length to ≡ length to₀)
     × (to ≡ each_puts p room into (λ q. take count (drop at (piece size from q))) to₀)
 
-abbrev decreases_loop : tie.decreases-loop
+abbrev decreases_loop : tie.decreases-loop-p
 decreases_loop t count from size at to₀ room into p₀ to p = t - p
 
-loop_holds : tie.Need-loop-init invariant_loop decreases_loop
+loop_holds : tie.Need-loop-p-init invariant_loop decreases_loop
 unfolding each_puts
 loop_holds c = (omega arith, refl, refl)
 
 -- trustee p's pieces lie in both tables
-place : (c : tie.In-loop invariant_loop decreases_loop) → let l = c.before.loop in let a = c.before.before.before.before.args in
+place : (c : tie.In-loop-p invariant_loop decreases_loop) → let l = c.loop-p in let a = c.args in
     (l.p * a.size + (a.at + a.count) ≤ length a.from.now) × (l.p * a.room + (a.into + a.count) ≤ length l.to)
 place c =
-    let l = c.before.loop in
-    let s = c.before.before.before.before in
-    let a = s.args in
-    let r = s.requires in (
+    let l = c.loop-p in
+    let a = c.args in
+    let r = c.requires in (
       omega (arith, r.source_fits, reaches a.t a.size a.from.now l.p r.source_length (omega arith)),
       omega (arith, r.target_fits, reaches a.t a.room l.to l.p (l.invariant.1 ∙ r.target_length) (omega arith)),
     )
 
-mul_copy_part : tie.Need-overflow-mul-copy-part invariant_loop decreases_loop
+mul_copy_part : tie.Need-overflow_mul-p invariant_loop decreases_loop
 mul_copy_part c = omega (arith, place c)
 
-add_copy_part : tie.Need-overflow-add-copy-part invariant_loop decreases_loop
+add_copy_part : tie.Need-overflow_add-p invariant_loop decreases_loop
 add_copy_part c = omega (arith, place c)
 
-mul_copy_part_2 : tie.Need-overflow-mul-copy-part-2 invariant_loop decreases_loop
+mul_copy_part_2 : tie.Need-overflow_mul-p-in-loop-p invariant_loop decreases_loop
 mul_copy_part_2 c = omega (arith, place c.before)
 
-add_copy_part_2 : tie.Need-overflow-add-copy-part-2 invariant_loop decreases_loop
+add_copy_part_2 : tie.Need-overflow_add-p-in-loop-p invariant_loop decreases_loop
 add_copy_part_2 c = omega (arith, place c.before)
 
-copy_part_requires : tie.Need-copy-part-requires invariant_loop decreases_loop
+copy_part_requires : tie.Need-copy_part-requires invariant_loop decreases_loop
 copy_part_requires c κs = let r = place c.before in (omega arith, omega arith)
 
-add_p : tie.Need-overflow-add-p invariant_loop decreases_loop
+add_p : tie.Need-overflow_add-p-in-loop-p-2 invariant_loop decreases_loop
 add_p c = omega arith
 
-loop_less : tie.Need-loop-smaller invariant_loop decreases_loop
+loop_less : tie.Need-loop-p-smaller invariant_loop decreases_loop
 loop_less c = omega arith
 
--- The stages of the function, seen from later ones.
-abbrev start_from_to : tie.After-to invariant_loop decreases_loop → tie.Start invariant_loop decreases_loop
-start_from_to c = c.before.before.before.before.before.before.before
-
-abbrev loop_reached_from_slice_known2 : tie.After-slice-known2 invariant_loop decreases_loop → tie.At-loop invariant_loop decreases_loop
-loop_reached_from_slice_known2 c = c.before.before.before.before.before
-
-loop_again : tie.Need-loop-preserved invariant_loop decreases_loop
+loop_again : tie.Need-loop-p-preserved invariant_loop decreases_loop
 loop_again c =
-    let l = (loop_reached_from_slice_known2 c).loop in
-    let s = (start_from_to c.before) in
-    let a = s.args in
-    let put = c.before.before.copy-part.ensures in (
+    let l = c.loop-p in
+    let a = c.args in
+    let put = c.copy_part.ensures in (
       omega arith,
       ap length put ∙ length-sets l.to (l.p * a.room + a.into)
-          (take a.count (drop (l.p * a.size + a.at) a.from.now)) ∙ l.inv.1,
+          (take a.count (drop (l.p * a.size + a.at) a.from.now)) ∙ l.invariant.1,
       puts_many (λ q. take a.count (drop a.at (piece a.size a.from.now q))) l.to a.to.now _
-          l.p a.room a.into (take a.count (drop (l.p * a.size + a.at) a.from.now)) l.inv.2 put
-          (piece_part a.size a.from.now l.p a.at a.count s.pre.source_fits),
+          l.p a.room a.into (take a.count (drop (l.p * a.size + a.at) a.from.now)) l.invariant.2 put
+          (piece_part a.size a.from.now l.p a.at a.count c.requires.source_fits),
     )
 
-same_length : tie.Need-same-length invariant_loop decreases_loop
-same_length c = c.before.loop.invariant.1
+same_length : tie.Need-shape_of-to invariant_loop decreases_loop
+same_length c = c.loop-p.invariant.1
 
 returns : tie.Need-returns invariant_loop decreases_loop
 returns c =
-    let l = c.before.loop in
-    let a = c.before.before.before.before.args in
+    let l = c.loop-p in
+    let a = c.args in
     let e : l.p ≡ a.t = omega arith in
     l.invariant.2 ∙ ap (λ (n : ℕ). each_puts n a.room a.into
     (λ q. take a.count (drop a.at (piece a.size a.from.now q))) a.to.now) e
