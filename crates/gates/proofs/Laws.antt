@@ -1,4 +1,5 @@
--- What the layers above use of this one. They unfold none of its definitions.
+-- Laws of kinds, good lists, wires and tables. With the other files of proofs/ they are what the layers above use:
+-- those unfold none of the definitions of this one.
 -- Assumes nothing.
 use mathlib.Core.Path.{◌≡◌, ◌∙◌, refl, sym, ap, subst}
 use mathlib.Core.Bool.{Bool, true, false, cond, ◌&&◌}
@@ -188,7 +189,7 @@ unfolding outputs_of
 length_outputs k ws h = omega (arith, length-drop (length ws - k) ws)
 
 -- Wires are bits if the inputs are.
-bit_value : (k a b c : ℕ) → k < kind_count → a ≤ 1 → b ≤ 1 → c ≤ 1 → value_of k a b c ≤ 1
+pub bit_value : (k a b c : ℕ) → k < kind_count → a ≤ 1 → b ≤ 1 → c ≤ 1 → value_of k a b c ≤ 1
 unfolding value_of differ chosen
 bit_value k a b c h ha hb hc =
     each_kind (λ (k : ℕ). value_of k a b c ≤ 1) (omega arith) (omega arith) ha (omega arith) (omega arith)

@@ -13,6 +13,7 @@ pub mod Evaluating
 pub mod Finishing
 pub mod Whole
 pub mod Laws
+pub mod KindsOnBits
 pub mod Hiding
 pub mod Accepting
 pub mod Prefix

@@ -57,13 +57,13 @@ pub count_prefix : (gs : List Gate) (m : ℕ) → conditional_count (take m gs) 
 count_prefix gs m = omega (arith, count_append (take m gs) (drop m gs), ap conditional_count (take-append-drop m gs))
 
 -- there are as many shown bits as conditional gates if the tape is long enough
-length_shown_bits : (ws : List ℕ) (gs : List Gate) (tape : List ℕ) → conditional_count gs ≤ length tape
+pub length_shown_bits : (ws : List ℕ) (gs : List Gate) (tape : List ℕ) → conditional_count gs ≤ length tape
     → length (shown_bits ws gs tape) ≡ conditional_count gs
 unfolding shown_bits conditional_count
 length_shown_bits ws gs tape h = omega (arith, length_zip (shown_bit ws) (conditionals gs) tape)
 
 -- the shown bits of two lists, one after the other
-shown_append : (ws : List ℕ) (gs hs : List Gate) (tape : List ℕ) → conditional_count gs ≤ length tape
+pub shown_append : (ws : List ℕ) (gs hs : List Gate) (tape : List ℕ) → conditional_count gs ≤ length tape
     → shown_bits ws (gs ++ hs) tape ≡ shown_bits ws gs tape ++ shown_bits ws hs (drop (conditional_count gs) tape)
 unfolding shown_bits conditionals conditional_count zip_with
 shown_append ws [] hs tape h = refl

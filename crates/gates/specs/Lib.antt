@@ -7,4 +7,8 @@ pub mod Board
 pub mod Test
 pub mod Hiding
 pub mod HidingExample
+pub mod Step
+pub mod StepExample
+pub mod KindsOnBits
+pub mod TestEdges
 pub mod inner
