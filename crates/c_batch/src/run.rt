@@ -10,8 +10,7 @@ use jury::shape::{Shape, ShapeResult};
 use tally::answer::Answer;
 
 // Runs a list for 64 juries; bit j of each word is jury j's. Answers reason, place, G and C.
-#[unsafe(no_mangle)]
-pub extern "C" fn jugy_run_batch(
+pub fn jugy_run_batch(
     candidates: usize,
     grades: usize,
     ballots: usize,

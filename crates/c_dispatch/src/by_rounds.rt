@@ -70,8 +70,7 @@ fn put_rounds(verdict: JuriesVerdict, rounds: JuryNumbers, answer: &mut [usize])
 }
 
 // Runs up to eight juries in rounds. Answers reason, place and eight numbers of rounds.
-#[unsafe(no_mangle)]
-pub extern "C" fn jugy_dispatch(
+pub fn jugy_dispatch(
     count: usize,
     gates_per_round: usize,
     headers: &[usize],

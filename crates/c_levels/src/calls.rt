@@ -27,8 +27,7 @@ pub fn put_depths(outcome: Answer, answer: &mut [usize]) -> usize
 }
 
 // Writes the level of each gate of any list. Answers reason, place, G, C and R.
-#[unsafe(no_mangle)]
-pub extern "C" fn jugy_levels(
+pub fn jugy_levels(
     candidates: usize,
     grades: usize,
     ballots: usize,

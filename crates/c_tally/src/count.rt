@@ -10,8 +10,7 @@ use jury::shape::{Shape, ShapeResult};
 use tally::count::Counted;
 
 // Counts without a circuit. Answers reason, place and the eight closing bytes.
-#[unsafe(no_mangle)]
-pub extern "C" fn jugy_count(
+pub fn jugy_count(
     candidates: usize,
     grades: usize,
     ballots: usize,

@@ -10,13 +10,7 @@ use jury::shape::{Shape, ShapeResult};
 use tally::measure::Measured;
 
 // Measures the own list of a shape. Answers reason, place, G, C and I.
-#[unsafe(no_mangle)]
-pub extern "C" fn jugy_measure(
-    candidates: usize,
-    grades: usize,
-    ballots: usize,
-    answer: &mut [usize],
-) -> usize
+pub fn jugy_measure(candidates: usize, grades: usize, ballots: usize, answer: &mut [usize]) -> usize
     ensures { record { returned = result; answer = answer.new; lent = [] }
         ≡ measure_call (shape_of candidates grades ballots) answer.old }
 {

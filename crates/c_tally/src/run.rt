@@ -10,8 +10,7 @@ use jury::shape::{Shape, ShapeResult};
 use tally::answer::Answer;
 
 // Runs a list on ballots. Answers reason, place, G and C.
-#[unsafe(no_mangle)]
-pub extern "C" fn jugy_run(
+pub fn jugy_run(
     candidates: usize,
     grades: usize,
     ballots: usize,

@@ -10,8 +10,7 @@ use jury::shape::{Shape, ShapeResult};
 use tally::answer::Answer;
 
 // Tests any list for a shape. Answers reason, place, G and C.
-#[unsafe(no_mangle)]
-pub extern "C" fn jugy_test(
+pub fn jugy_test(
     candidates: usize,
     grades: usize,
     ballots: usize,

@@ -10,8 +10,7 @@ use jury::shape::{Shape, ShapeResult};
 use tally::answer::Answer;
 
 // Writes the own list of a shape. Answers reason, place, G and C.
-#[unsafe(no_mangle)]
-pub extern "C" fn jugy_write(
+pub fn jugy_write(
     candidates: usize,
     grades: usize,
     ballots: usize,

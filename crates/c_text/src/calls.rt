@@ -22,8 +22,7 @@ fn put_length(outcome: Answer, answer: &mut [usize]) -> usize
 }
 
 // Writes any list as text. Answers reason, place and the number of characters written.
-#[unsafe(no_mangle)]
-pub extern "C" fn jugy_write_text(
+pub fn jugy_write_text(
     candidates: usize,
     grades: usize,
     ballots: usize,
@@ -46,8 +45,7 @@ pub extern "C" fn jugy_write_text(
 }
 
 // Reads a text as a list. Answers reason, place and how many numbers were written.
-#[unsafe(no_mangle)]
-pub extern "C" fn jugy_read_text(
+pub fn jugy_read_text(
     candidates: usize,
     grades: usize,
     ballots: usize,

@@ -54,8 +54,7 @@ fn put_tally(outcome: Tallied, answer: &mut [usize]) -> usize
 
 // Tallies ballots that trustees hold in parts. Answers reason, place, G, C and the opened closing bits as eight
 // bytes.
-#[unsafe(no_mangle)]
-pub extern "C" fn jugy_trustees(
+pub fn jugy_trustees(
     candidates: usize,
     grades: usize,
     ballots: usize,

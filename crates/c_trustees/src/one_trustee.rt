@@ -13,8 +13,7 @@ use tally::answer::Answer;
 
 // A trustee starts: its wire parts are its ballot parts, then zeros, and nothing is published yet. Answers reason,
 // place, G and C.
-#[unsafe(no_mangle)]
-pub extern "C" fn jugy_trustee_start(
+pub fn jugy_trustee_start(
     candidates: usize,
     grades: usize,
     ballots: usize,
@@ -48,8 +47,7 @@ pub extern "C" fn jugy_trustee_start(
 
 // A trustee plays a round: it computes its wire parts of this level and publishes for the next. Answers reason, place,
 // G, C and R.
-#[unsafe(no_mangle)]
-pub extern "C" fn jugy_trustee_round(
+pub fn jugy_trustee_round(
     candidates: usize,
     grades: usize,
     ballots: usize,
@@ -88,8 +86,7 @@ pub extern "C" fn jugy_trustee_round(
 }
 
 // A trustee finishes: its wire parts are emptied. Answers reason, place, G and C.
-#[unsafe(no_mangle)]
-pub extern "C" fn jugy_trustee_finish(
+pub fn jugy_trustee_finish(
     candidates: usize,
     grades: usize,
     ballots: usize,

@@ -10,8 +10,7 @@ use jury::shape::{Shape, ShapeResult};
 use tally::answer::Answer;
 
 // Runs a list on the ballots in an urn, in chain order. Answers reason, place, G and C. The urn is not changed.
-#[unsafe(no_mangle)]
-pub extern "C" fn jugy_run_urn(
+pub fn jugy_run_urn(
     candidates: usize,
     grades: usize,
     ballots: usize,

@@ -6,8 +6,7 @@ use crate::answer::put_ballots;
 use c_answers::array::{ONE_ANSWER, SHORT_ANSWER};
 
 // Turns a table into an empty urn. Answers reason, place and the number of ballots, 0.
-#[unsafe(no_mangle)]
-pub extern "C" fn jugy_empty_urn(
+pub fn jugy_empty_urn(
     candidates: usize,
     grades: usize,
     urn: &mut [u8],
@@ -24,8 +23,7 @@ pub extern "C" fn jugy_empty_urn(
 }
 
 // Admits a juror's ballot. Answers reason, place and the new number of ballots.
-#[unsafe(no_mangle)]
-pub extern "C" fn jugy_admit(
+pub fn jugy_admit(
     candidates: usize,
     grades: usize,
     urn: &mut [u8],
@@ -44,8 +42,7 @@ pub extern "C" fn jugy_admit(
 }
 
 // Withdraws a juror's ballot. Answers reason, place and the new number of ballots.
-#[unsafe(no_mangle)]
-pub extern "C" fn jugy_withdraw(
+pub fn jugy_withdraw(
     candidates: usize,
     grades: usize,
     urn: &mut [u8],
@@ -63,8 +60,7 @@ pub extern "C" fn jugy_withdraw(
 }
 
 // Answers what an admission would. The urn is not changed.
-#[unsafe(no_mangle)]
-pub extern "C" fn jugy_preview_admit(
+pub fn jugy_preview_admit(
     candidates: usize,
     grades: usize,
     urn: &[u8],
@@ -83,8 +79,7 @@ pub extern "C" fn jugy_preview_admit(
 }
 
 // Answers what a withdrawal would. The urn is not changed.
-#[unsafe(no_mangle)]
-pub extern "C" fn jugy_preview_withdraw(
+pub fn jugy_preview_withdraw(
     candidates: usize,
     grades: usize,
     urn: &[u8],
