@@ -1,6 +1,6 @@
 -- The majority gauge [gauge], over grade counts of any size. Full majority judgment has replaced it (request 2.1).
 -- It is kept for the theorem that its winner, if there is one, is the only winner by judgment.
-use Rattle.std.specs.Prelude.{Bool, true, cond, ◌&&◌, ◌||◌, List, [], ◌∷◌, ◌++◌, ℕ, suc, ◌+◌, ltb, eqb, take, drop}
+use Rattle.std.specs.Prelude.{Bool, true, cond, ◌&&◌, ◌||◌, List, [], ◌∷◌, ◌++◌, ℕ, suc, ltb, eqb, take, drop}
 use Rattle.basics.specs.Lists.{sum}
 use Rattle.rule_judgment.specs.Median.{median_of}
 

@@ -1,2 +1,4 @@
 // Full majority judgment: who wins by the sequences of medians.
+#![tactic(auto)]
+
 pub mod rule;

@@ -12,7 +12,7 @@ use jury::counts::GradeCounts;
 use jury::shape::{ClosingBytes, Shape};
 
 // Running sums of two candidates a and b at one grade: how many of their grades are that good or better.
-#[derive(Drop)]
+#[derive(Clone, Copy)]
 pub struct Sums {
     pub a: usize,
     pub b: usize,

@@ -16,10 +16,10 @@ use Rattle.rule_judgment.proofs.Walking.{Walk, walk_start, walk_most, walk_equal
 use Rattle.rule_judgment.proofs.rule.comes_before.Statement.{statement}
 use Rattle.rule_judgment.proofs.rule.comes_before.Tie as tie
 
-abbrev invariant_loop : tie.invariant-loop
+abbrev invariant_loop : tie.invariant-loop-g
 invariant_loop counts a b d n lower₀ sums₀ g₀ lower sums g = (g ≤ d) × Walk n (take d (get_or counts a [])) (take d (get_or counts b [])) lower sums g
 
-abbrev decreases_loop : tie.decreases-loop
+abbrev decreases_loop : tie.decreases-loop-g
 decreases_loop counts a b d n lower₀ sums₀ g₀ lower sums g = d - g
 
 -- the rows of both candidates
@@ -32,7 +32,7 @@ second c = get_or c.args.counts.now c.args.b []
 alike : (c : tie.Start invariant_loop decreases_loop) → Alike c.args.n (take c.args.d (first c)) (take c.args.d (second c))
 alike c = record { sum_a = c.requires.first_sum; sum_b = c.requires.second_sum }
 
-loop_holds : tie.Need-loop-init invariant_loop decreases_loop
+loop_holds : tie.Need-loop-g-init invariant_loop decreases_loop
 loop_holds c =
     let x = c.args in (
       omega arith,
@@ -40,106 +40,90 @@ loop_holds c =
           (record { a = 0; b = 0 }) (record { a = 0; b = 0 }) refl refl refl refl,
     )
 
-mul_wide : tie.Need-overflow-mul-wide invariant_loop decreases_loop
-mul_wide c = omega (arith, c.before.before.requires)
+mul_wide : tie.Need-offset_bounds-counts-a invariant_loop decreases_loop
+mul_wide c = omega (arith, c.requires)
 
-mul_wide_2 : tie.Need-overflow-mul-wide-2 invariant_loop decreases_loop
-mul_wide_2 c = omega (arith, c.before.before.requires)
+mul_wide_2 : tie.Need-offset_bounds-counts-g invariant_loop decreases_loop
+mul_wide_2 c = omega (arith, c.requires)
 
-index_1_wide : tie.Need-bounds-1-wide invariant_loop decreases_loop
-index_1_wide c = c.before.before.requires.first_inside
+index_1_wide : tie.Need-bounds-counts-a invariant_loop decreases_loop
+index_1_wide c = c.requires.first_inside
 
-index_2_wide : tie.Need-bounds-2-wide invariant_loop decreases_loop
-index_2_wide c = omega (arith, c.before.before.requires)
+index_2_wide : tie.Need-bounds-counts-g invariant_loop decreases_loop
+index_2_wide c = omega (arith, c.requires)
 
 wide_requires : tie.Need-wide-requires invariant_loop decreases_loop
 wide_requires c κs = tt
 
-add_t18 : tie.Need-overflow-add-t18 invariant_loop decreases_loop
+add_t18 : tie.Need-overflow_add-sums invariant_loop decreases_loop
 add_t18 c =
-    let at = c.before.before.before.before in
-    let x = at.before.args in
+    let at = c in
+    let x = at.args in
     omega (
       arith,
-      sum_room (first at.before) x.d at.loop.g at.loop.sums.a (omega arith)
-          at.loop.invariant.1.sums_at.first,
-      at.before.requires.first_sum,
+      sum_room (first at.before.before.before.before.before) x.d at.loop-g.g at.loop-g.sums.a (omega arith)
+          at.loop-g.invariant.1.sums_at.first,
+      at.requires.first_sum,
     )
 
--- The stages of the function, seen from later ones.
-abbrev start_from_struct_known : tie.After-struct-known invariant_loop decreases_loop → tie.Start invariant_loop decreases_loop
-start_from_struct_known c = c.before.before.before.before.before
+mul_wide_3 : tie.Need-offset_bounds-counts-b invariant_loop decreases_loop
+mul_wide_3 c = omega (arith, c.requires)
 
-abbrev start_from_wide2 : tie.After-wide2 invariant_loop decreases_loop → tie.Start invariant_loop decreases_loop
-start_from_wide2 c = c.before.before.before.before.before.before.before
+mul_wide_4 : tie.Need-offset_bounds-counts-g-in-loop-g invariant_loop decreases_loop
+mul_wide_4 c = omega (arith, c.requires)
 
-abbrev loop_reached_from_wide2 : tie.After-wide2 invariant_loop decreases_loop → tie.At-loop invariant_loop decreases_loop
-loop_reached_from_wide2 c = c.before.before.before.before.before.before
+index_1_wide_2 : tie.Need-bounds-counts-b invariant_loop decreases_loop
+index_1_wide_2 c = c.requires.second_inside
 
-abbrev loop_reached_from_then2 : tie.Then2 invariant_loop decreases_loop → tie.At-loop invariant_loop decreases_loop
-loop_reached_from_then2 c = loop_reached_from_wide2 c.before.before.before.before.before
+index_2_wide_2 : tie.Need-bounds-counts-g-in-loop-g invariant_loop decreases_loop
+index_2_wide_2 c = omega (arith, c.requires)
 
-abbrev struct_known2_from_decided : tie.After-decided invariant_loop decreases_loop → tie.After-struct-known2 invariant_loop decreases_loop
-struct_known2_from_decided c = c.before.before.before.before.before
-
-mul_wide_3 : tie.Need-overflow-mul-wide-3 invariant_loop decreases_loop
-mul_wide_3 c = omega (arith, (start_from_struct_known c).pre)
-
-mul_wide_4 : tie.Need-overflow-mul-wide-4 invariant_loop decreases_loop
-mul_wide_4 c = omega (arith, (start_from_struct_known c).pre)
-
-index_1_wide_2 : tie.Need-bounds-1-wide-2 invariant_loop decreases_loop
-index_1_wide_2 c = (start_from_struct_known c).pre.second_inside
-
-index_2_wide_2 : tie.Need-bounds-2-wide-2 invariant_loop decreases_loop
-index_2_wide_2 c = omega (arith, (start_from_struct_known c).pre)
-
-wide_requires_2 : tie.Need-wide-requires-2 invariant_loop decreases_loop
+wide_requires_2 : tie.Need-wide-requires-in-loop-g invariant_loop decreases_loop
 wide_requires_2 c κs = tt
 
-add_t27 : tie.Need-overflow-add-t27 invariant_loop decreases_loop
+add_t27 : tie.Need-overflow_add-sums-in-loop-g invariant_loop decreases_loop
 add_t27 c =
-    let at = (loop_reached_from_wide2 c.before) in
-    let x = at.before.args in
+    let at = c in
+    let x = at.args in
     omega (
       arith,
-      sum_room (second at.before) x.d at.loop.g at.loop.sums.b (omega arith)
-          at.loop.inv.1.sums_at.second,
-      at.before.pre.second_sum,
+      sum_room (second at.before.before.before.before.before.before.before.before) x.d at.loop-g.g at.loop-g.sums.b (omega arith)
+          at.loop-g.invariant.1.sums_at.second,
+      at.requires.second_sum,
     )
 
 -- the sums of this turn
-next : (c : tie.After-struct-known2 invariant_loop decreases_loop) → Sums
+next : (c : tie.After-struct_known-in-loop-g-1 invariant_loop decreases_loop) → Sums
 next c = record {
-  a = (loop_reached_from_wide2 c.before).loop.sums.a
-      + c.before.before.before.before.wide.result;
-  b = (loop_reached_from_wide2 c.before).loop.sums.b
-      + c.before.wide2.result;
+  a = c.loop-g.sums.a
+      + c.wide.result;
+  b = c.loop-g.sums.b
+      + c.wide-in-loop-g.result;
 }
 
-next_at : (c : tie.After-struct-known2 invariant_loop decreases_loop) → let start = (start_from_wide2 c.before) in
-    At (take start.args.d (first start)) (take start.args.d (second start))
-    (suc (loop_reached_from_wide2 c.before).loop.g) (next c)
+next_at : (c : tie.After-struct_known-in-loop-g-1 invariant_loop decreases_loop) → let start = c in
+    At (take start.args.d (first start.before.before.before.before.before.before.before.before)) (take start.args.d (second start.before.before.before.before.before.before.before.before))
+    (suc c.loop-g.g) (next c)
 unfolding next
 next_at c =
-    let at = (loop_reached_from_wide2 c.before) in
-    let start = at.before in
+    let at = c in
+    let start = at in
     let x = start.args in
-    sums_next (first start) (second start) x.d at.loop.g at.loop.sums (next c) (omega arith) at.loop.inv.1.sums_at
-    (ap (λ (v : ℕ). at.loop.sums.a + v) c.before.before.before.before.wide.ensures)
-    (ap (λ (v : ℕ). at.loop.sums.b + v) c.before.wide2.ensures)
+    sums_next (first start.before.before.before.before.before.before.before.before) (second start.before.before.before.before.before.before.before.before) x.d at.loop-g.g at.loop-g.sums (next c) (omega arith) at.loop-g.invariant.1.sums_at
+    (ap (λ (v : ℕ). at.loop-g.sums.a + v) c.wide.ensures)
+    (ap (λ (v : ℕ). at.loop-g.sums.b + v) c.wide-in-loop-g.ensures)
 
-next_most : (c : tie.After-struct-known2 invariant_loop decreases_loop) → ((next c).a ≤ 255) × ((next c).b ≤ 255)
+next_most : (c : tie.After-struct_known-in-loop-g-1 invariant_loop decreases_loop) → ((next c).a ≤ 255) × ((next c).b ≤ 255)
 next_most c =
-    let start = (start_from_wide2 c.before) in
+    let start = c in
     let x = start.args in
-    let g = (loop_reached_from_wide2 c.before).loop.g in
+    let g = c.loop-g.g in
     let e = next_at c in (
-      omega (arith, e.first, running_most (take x.d (first start)) (suc g), start.pre),
-      omega (arith, e.second, running_most (take x.d (second start)) (suc g), start.pre),
+      omega (arith, e.first, running_most (take x.d (first start.before.before.before.before.before.before.before.before)) (suc g), start.requires),
+      omega (arith, e.second, running_most (take x.d (second start.before.before.before.before.before.before.before.before)) (suc g), start.requires),
     )
 
-half_reached_requires : tie.Need-half-reached-requires invariant_loop decreases_loop
+half_reached_requires : tie.Need-half_reached-requires invariant_loop decreases_loop
 unfolding next
 half_reached_requires c κs = next_most c.before.before
 
@@ -147,59 +131,59 @@ decided_requires : tie.Need-decided-requires invariant_loop decreases_loop
 unfolding next
 decided_requires c κs =
     let m = next_most c.before.before.before.before in
-    let at = (loop_reached_from_then2 c) in
-    let x = at.before.args in
-    let w = walk_most x.n (take x.d (first at.before)) (take x.d (second at.before))
-    (alike at.before) at.loop.lower at.loop.sums at.loop.g at.loop.inv.1 in
+    let at = c in
+    let x = at.args in
+    let w = walk_most x.n (take x.d (first at.before.before.before.before.before.before.before.before.before.before.before.before)) (take x.d (second at.before.before.before.before.before.before.before.before.before.before.before.before))
+    (alike at.before.before.before.before.before.before.before.before.before.before.before.before) at.loop-g.lower at.loop-g.sums at.loop-g.g at.loop-g.invariant.1 in
     (omega arith, omega arith, m.0, m.1)
 
-returns : tie.Need-returns invariant_loop decreases_loop
+returns : tie.Need-returns-then-half_reached invariant_loop decreases_loop
 unfolding next
 returns c =
-    let turn = (struct_known2_from_decided c) in
-    let at = (loop_reached_from_wide2 turn.before) in
-    let x = at.before.args in
+    let turn = c in
+    let at = turn in
+    let x = at.args in
     c.decided.ensures
-    ∙ walk_decides x.n (take x.d (first at.before)) (take x.d (second at.before))
-    (alike at.before) at.loop.lower at.loop.sums (next turn) at.loop.g at.loop.inv.1
-    (next_at turn) c.before.before.before.if1.true
-    (sym c.before.before.half-reached.ensures ∙ c.before.if2.true)
+    ∙ walk_decides x.n (take x.d (first at.before.before.before.before.before.before.before.before.before.before.before.before.before)) (take x.d (second at.before.before.before.before.before.before.before.before.before.before.before.before.before))
+    (alike at.before.before.before.before.before.before.before.before.before.before.before.before.before) at.loop-g.lower at.loop-g.sums (next turn.before.before.before.before.before) at.loop-g.g at.loop-g.invariant.1
+    (next_at turn.before.before.before.before.before) c.if-sums.true
+    (sym c.half_reached.ensures ∙ c.if-half_reached.true)
 
-add_g : tie.Need-overflow-add-g invariant_loop decreases_loop
+add_g : tie.Need-overflow_add-g invariant_loop decreases_loop
 add_g c = omega arith
 
-loop_less : tie.Need-loop-smaller invariant_loop decreases_loop
+loop_less : tie.Need-loop-g-smaller invariant_loop decreases_loop
 loop_less c = omega arith
 
-loop_again : tie.Need-loop-preserved invariant_loop decreases_loop
+loop_again : tie.Need-loop-g-preserved invariant_loop decreases_loop
 unfolding next
 loop_again c =
-    let turn = c.before.before in
-    let at = (loop_reached_from_wide2 turn.before) in
-    let x = at.before.args in
-    let a = take x.d (first at.before) in
-    let b = take x.d (second at.before) in
-    let g = at.loop.g in
-    let now = next turn in
-    let step = next_at turn in
-    let walked : Walk x.n a b c.if1.lower now (suc g) =
-    ⊎_elim {C = Walk x.n a b c.if1.lower now (suc g)}
-    (λ w. subst (λ (l : Sums). Walk x.n a b l now (suc g)) (sym w.3)
-    (walk_differs x.n a b (alike at.before) at.loop.lower at.loop.sums now g at.loop.inv.1
-    step w.0.taken (sym w.1.ensures ∙ w.2.left)))
-    (λ w. subst (λ (l : Sums). Walk x.n a b l now (suc g)) (sym w.1)
-    (walk_equal x.n a b (alike at.before) at.loop.lower at.loop.sums now g at.loop.inv.1 step
-    w.0.left))
-    c.if1.branch in
-    (omega arith, subst (λ (j : ℕ). Walk x.n a b c.if1.lower now j) (sym (add-one g)) walked)
+    let turn = c in
+    let at = turn in
+    let x = at.args in
+    let a = take x.d (first at.before.before.before.before.before.before.before.before.before.before) in
+    let b = take x.d (second at.before.before.before.before.before.before.before.before.before.before) in
+    let g = at.loop-g.g in
+    let now = next turn.before.before in
+    let step = next_at turn.before.before in
+    let walked : Walk x.n a b c.if-sums.lower now (suc g) =
+    ⊎_elim {C = Walk x.n a b c.if-sums.lower now (suc g)}
+    (λ w. subst (λ (l : Sums). Walk x.n a b l now (suc g)) (sym w.lower-is)
+    (walk_differs x.n a b (alike at.before.before.before.before.before.before.before.before.before.before) at.loop-g.lower at.loop-g.sums now g at.loop-g.invariant.1
+    step w.if-sums.true (sym w.half_reached.ensures ∙ w.if-half_reached.false)))
+    (λ w. subst (λ (l : Sums). Walk x.n a b l now (suc g)) (sym w.lower-is)
+    (walk_equal x.n a b (alike at.before.before.before.before.before.before.before.before.before.before) at.loop-g.lower at.loop-g.sums now g at.loop-g.invariant.1 step
+    w.if-sums.false))
+    c.if-sums.branch-raw in
+    (omega arith, subst (λ (j : ℕ). Walk x.n a b c.if-sums.lower now j) (sym (add-one g)) walked)
 
-returns_2 : tie.Need-returns-2 invariant_loop decreases_loop
+returns_2 : tie.Need-returns invariant_loop decreases_loop
 returns_2 c =
-    let at = c.before.before in
-    let x = at.before.args in
-    walk_ends x.n (take x.d (first at.before)) (take x.d (second at.before)) (alike at.before)
-    at.loop.lower at.loop.sums at.loop.g at.loop.invariant.1
-    (omega (arith, length-take x.d (first at.before))) (omega (arith, length-take x.d (second at.before)))
+    let at = c in
+    let x = at.args in
+    walk_ends x.n (take x.d (first at.before.before.before)) (take x.d (second at.before.before.before)) (alike at.before.before.before)
+    at.loop-g.lower at.loop-g.sums at.loop-g.g at.loop-g.invariant.1
+    (omega (arith, length-take x.d (first at.before.before.before))) (omega (arith, length-take x.d (second at.before.before.before)))
 
 pub comes_before_spec : {M : Type 1} → statement M
 comes_before_spec =

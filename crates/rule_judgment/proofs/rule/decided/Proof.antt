@@ -5,48 +5,35 @@ use Rattle.rule_judgment.proofs.Deciding.{first_not_smaller, first_smaller, seco
 use Rattle.rule_judgment.proofs.rule.decided.Statement.{statement}
 use Rattle.rule_judgment.proofs.rule.decided.Tie as tie
 
-add_result : tie.Need-overflow-add-result
+add_result : tie.Need-overflow_add-result
 add_result c = omega arith
 
-returns : tie.Need-returns
+returns : tie.Need-returns-then-upper
 returns c =
-    let x = c.before.before.before.before.args in
+    let x = c.args in
     first_not_smaller x.n x.lower x.upper (omega arith) (omega arith)
 
--- The stages of the function, seen from later ones.
-abbrev start_from_struct_known9 : tie.After-struct-known9 → tie.Start
-start_from_struct_known9 c = c.before.before.before.before.before
-
-abbrev start_from_struct_known4 : tie.After-struct-known4 → tie.Start
-start_from_struct_known4 c = c.before.before.before.before.before.before
-
-abbrev start_from_else4 : tie.Else4 → tie.Start
-start_from_else4 c = c.before.before.before.before.before.before
-
-abbrev start_from_then4 : tie.Then4 → tie.Start
-start_from_then4 c = c.before.before.before.before.before.before
-
-returns_2 : tie.Need-returns-2
+returns_2 : tie.Need-returns-else-upper
 returns_2 c =
-    let x = (start_from_struct_known4 c).args in
+    let x = c.args in
     first_smaller x.n x.lower x.upper (omega arith) (omega arith)
 
-add_result_2 : tie.Need-overflow-add-result-2
+add_result_2 : tie.Need-overflow_add-result-then-upper-2
 add_result_2 c = omega arith
 
-returns_3 : tie.Need-returns-3
+returns_3 : tie.Need-returns-then-upper-2
 returns_3 c =
-    let x = (start_from_then4 c.before.before).args in
+    let x = c.args in
     second_smaller x.n x.lower x.upper (omega arith) (omega arith)
 
-returns_4 : tie.Need-returns-4
+returns_4 : tie.Need-returns-else-upper-2
 returns_4 c =
-    let x = (start_from_else4 c).args in
+    let x = c.args in
     second_not_smaller x.n x.lower x.upper (omega arith) (omega arith)
 
-returns_5 : tie.Need-returns-5
+returns_5 : tie.Need-returns
 returns_5 c =
-    let x = (start_from_struct_known9 c).args in
+    let x = c.args in
     neither_larger x.n x.lower x.upper (omega arith) (omega arith)
 
 pub decided_spec : {M : Type 1} → statement M

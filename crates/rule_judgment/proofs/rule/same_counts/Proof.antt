@@ -15,12 +15,12 @@ use Rattle.rule_judgment.proofs.SameCounts.{same_later, same_not, same_end}
 use Rattle.rule_judgment.proofs.rule.same_counts.Statement.{statement}
 use Rattle.rule_judgment.proofs.rule.same_counts.Tie as tie
 
-abbrev invariant_loop : tie.invariant-loop
+abbrev invariant_loop : tie.invariant-loop-g
 invariant_loop counts a b d g₀ g =
     (g ≤ d) × (same_numbers (drop g (take d (get_or counts a []))) (drop g (take d (get_or counts b [])))
     ≡ same_numbers (take d (get_or counts a [])) (take d (get_or counts b [])))
 
-abbrev decreases_loop : tie.decreases-loop
+abbrev decreases_loop : tie.decreases-loop-g
 decreases_loop counts a b d g₀ g = d - g
 
 -- the rows of both candidates
@@ -46,69 +46,69 @@ both c e =
       second_length = length-take-le c.args.d (second c) (second_length c);
     }
 
-loop_holds : tie.Need-loop-init invariant_loop decreases_loop
+loop_holds : tie.Need-loop-g-init invariant_loop decreases_loop
 loop_holds c = (omega arith, refl)
 
-mul_if1 : tie.Need-overflow-mul-if1 invariant_loop decreases_loop
-mul_if1 c = omega (arith, c.before.before.requires)
+mul_if1 : tie.Need-offset_bounds-counts-a invariant_loop decreases_loop
+mul_if1 c = omega (arith, c.requires)
 
-mul_if1_2 : tie.Need-overflow-mul-if1-2 invariant_loop decreases_loop
-mul_if1_2 c = omega (arith, c.before.before.requires)
+mul_if1_2 : tie.Need-offset_bounds-counts-g invariant_loop decreases_loop
+mul_if1_2 c = omega (arith, c.requires)
 
-index_1_if1 : tie.Need-bounds-1-if1 invariant_loop decreases_loop
-index_1_if1 c = c.before.before.requires.first_inside
+index_1_if1 : tie.Need-bounds-counts-a invariant_loop decreases_loop
+index_1_if1 c = c.requires.first_inside
 
-index_2_if1 : tie.Need-bounds-2-if1 invariant_loop decreases_loop
-index_2_if1 c = omega (arith, c.before.before.requires)
+index_2_if1 : tie.Need-bounds-counts-g invariant_loop decreases_loop
+index_2_if1 c = omega (arith, c.requires)
 
-mul_if1_3 : tie.Need-overflow-mul-if1-3 invariant_loop decreases_loop
-mul_if1_3 c = omega (arith, c.before.before.before.requires)
+mul_if1_3 : tie.Need-offset_bounds-counts-b invariant_loop decreases_loop
+mul_if1_3 c = omega (arith, c.requires)
 
-mul_if1_4 : tie.Need-overflow-mul-if1-4 invariant_loop decreases_loop
-mul_if1_4 c = omega (arith, c.before.before.before.requires)
+mul_if1_4 : tie.Need-offset_bounds-counts-g-in-loop-g invariant_loop decreases_loop
+mul_if1_4 c = omega (arith, c.requires)
 
-index_1_if1_2 : tie.Need-bounds-1-if1-2 invariant_loop decreases_loop
-index_1_if1_2 c = c.before.before.before.requires.second_inside
+index_1_if1_2 : tie.Need-bounds-counts-b invariant_loop decreases_loop
+index_1_if1_2 c = c.requires.second_inside
 
-index_2_if1_2 : tie.Need-bounds-2-if1-2 invariant_loop decreases_loop
-index_2_if1_2 c = omega (arith, c.before.before.before.requires)
+index_2_if1_2 : tie.Need-bounds-counts-g-in-loop-g invariant_loop decreases_loop
+index_2_if1_2 c = omega (arith, c.requires)
 
-returns : tie.Need-returns invariant_loop decreases_loop
+returns : tie.Need-returns-then-counts-a invariant_loop decreases_loop
 returns c =
-    let at = c.before.before.before.before in
-    let start = at.before in
+    let at = c in
+    let start = at in
     let x = start.args in
-    both start
-    (sym (same_not (first start) (second start) at.loop.g x.d (first_length start) (second_length start)
-    (omega arith) c.if1.true) ∙ at.loop.invariant.1)
+    both start.before.before.before.before.before
+    (sym (same_not (first start.before.before.before.before.before) (second start.before.before.before.before.before) at.loop-g.g x.d (first_length start.before.before.before.before.before) (second_length start.before.before.before.before.before)
+    (omega arith) c.if-counts-a.true) ∙ at.loop-g.invariant.1)
 
-add_g : tie.Need-overflow-add-g invariant_loop decreases_loop
+add_g : tie.Need-overflow_add-g invariant_loop decreases_loop
 add_g c = omega arith
 
-loop_less : tie.Need-loop-smaller invariant_loop decreases_loop
+loop_less : tie.Need-loop-g-smaller invariant_loop decreases_loop
 loop_less c = omega arith
 
-loop_again : tie.Need-loop-preserved invariant_loop decreases_loop
+loop_again : tie.Need-loop-g-preserved invariant_loop decreases_loop
 loop_again c =
-    let at = c.before.before.before.before in
-    let start = at.before in
+    let at = c in
+    let start = at in
     let x = start.args in
-    let g = at.loop.g in (
+    let g = at.loop-g.g in (
       omega arith,
-      ap (λ (j : ℕ). same_numbers (drop j (take x.d (first start)))
-          (drop j (take x.d (second start)))) (add-one g)
-          ∙ sym (same_later (first start) (second start) g x.d (first_length start) (second_length start)
-          (omega arith) c.if1.false) ∙ at.loop.invariant.1,
+      ap (λ (j : ℕ). same_numbers (drop j (take x.d (first start.before.before.before.before.before)))
+          (drop j (take x.d (second start.before.before.before.before.before)))) (add-one g)
+          ∙ sym (same_later (first start.before.before.before.before.before) (second start.before.before.before.before.before) g x.d (first_length start.before.before.before.before.before) (second_length start.before.before.before.before.before)
+          (omega arith) c.if-counts-a.false) ∙ at.loop-g.invariant.1,
     )
 
-returns_2 : tie.Need-returns-2 invariant_loop decreases_loop
+returns_2 : tie.Need-returns invariant_loop decreases_loop
 returns_2 c =
-    let at = c.before in
-    let start = at.before in
+    let at = c in
+    let start = at in
     let x = start.args in
-    both start
-    (sym (same_end (first start) (second start) at.loop.g x.d (first_length start) (second_length start)
-    (omega arith)) ∙ at.loop.invariant.1)
+    both start.before.before
+    (sym (same_end (first start.before.before) (second start.before.before) at.loop-g.g x.d (first_length start.before.before) (second_length start.before.before)
+    (omega arith)) ∙ at.loop-g.invariant.1)
 
 pub same_counts_spec : {M : Type 1} → statement M
 same_counts_spec =

@@ -34,7 +34,7 @@ rows_are : (c : tie.Start) → length (rows c) ≡ c.args.shape.candidates
 rows_are c = rows_length c.args.shape.candidates c.args.shape.grades c.args.counts.now
     (omega (arith, c.requires.eight, (is_within c).k_most))
 
-first_winner_requires : tie.Need-first-winner-requires
+first_winner_requires : tie.Need-first_winner-first-requires
 first_winner_requires c κs =
     let w = is_within c in
     record {
@@ -48,72 +48,52 @@ first_winner_requires c κs =
     }
 
 -- the row of each candidate, and that of the first winner, are in the array
-ready : (c : tie.After-first-winner) (i : ℕ) → i < most_candidates
-    → RowsReady c.before.args.counts.now i c.first-winner.result c.before.args.shape.grades
+ready : (c : tie.After-first_winner-first) (i : ℕ) → i < most_candidates
+    → RowsReady c.args.counts.now i c.first_winner-first.result c.args.shape.grades
 ready c i h =
     let w = is_within c.before in
-    let inside : c.first-winner.result < most_candidates = omega (arith, w.k_most, c.first-winner.ensures.inside) in
+    let inside : c.first_winner-first.result < most_candidates = omega (arith, w.k_most, c.first_winner-first.ensures.inside) in
     record {
       first_inside = h;
       second_inside = inside;
       few_grades = w.d_most;
-      first_columns = c.before.requires.columns i h;
-      second_columns = c.before.requires.columns c.first-winner.result inside;
+      first_columns = c.requires.columns i h;
+      second_columns = c.requires.columns c.first_winner-first.result inside;
     }
 
 -- The first winner is found, seen from each closing byte.
-abbrev found2 : tie.After-closing-byte → tie.After-first-winner
-found2 c = c.before
 
-abbrev found3 : tie.After-closing-byte2 → tie.After-first-winner
-found3 c = found2 c.before
-
-abbrev found4 : tie.After-closing-byte3 → tie.After-first-winner
-found4 c = found3 c.before
-
-abbrev found5 : tie.After-closing-byte4 → tie.After-first-winner
-found5 c = found4 c.before
-
-abbrev found6 : tie.After-closing-byte5 → tie.After-first-winner
-found6 c = found5 c.before
-
-abbrev found7 : tie.After-closing-byte6 → tie.After-first-winner
-found7 c = found6 c.before
-
-abbrev found8 : tie.After-closing-byte7 → tie.After-first-winner
-found8 c = found7 c.before
-
-closing_byte_requires : tie.Need-closing-byte-requires
+closing_byte_requires : tie.Need-closing_byte-requires
 closing_byte_requires c κs = ready c 0 (omega arith)
 
-closing_byte_requires_2 : tie.Need-closing-byte-requires-2
-closing_byte_requires_2 c κs = ready (found2 c) 1 (omega arith)
+closing_byte_requires_2 : tie.Need-closing_byte-requires-2
+closing_byte_requires_2 c κs = ready c.before 1 (omega arith)
 
-closing_byte_requires_3 : tie.Need-closing-byte-requires-3
-closing_byte_requires_3 c κs = ready (found3 c) 2 (omega arith)
+closing_byte_requires_3 : tie.Need-closing_byte-requires-3
+closing_byte_requires_3 c κs = ready c.before.before 2 (omega arith)
 
-closing_byte_requires_4 : tie.Need-closing-byte-requires-4
-closing_byte_requires_4 c κs = ready (found4 c) 3 (omega arith)
+closing_byte_requires_4 : tie.Need-closing_byte-requires-4
+closing_byte_requires_4 c κs = ready c.before.before.before 3 (omega arith)
 
-closing_byte_requires_5 : tie.Need-closing-byte-requires-5
-closing_byte_requires_5 c κs = ready (found5 c) 4 (omega arith)
+closing_byte_requires_5 : tie.Need-closing_byte-requires-5
+closing_byte_requires_5 c κs = ready c.before.before.before.before 4 (omega arith)
 
-closing_byte_requires_6 : tie.Need-closing-byte-requires-6
-closing_byte_requires_6 c κs = ready (found6 c) 5 (omega arith)
+closing_byte_requires_6 : tie.Need-closing_byte-requires-6
+closing_byte_requires_6 c κs = ready c.before.before.before.before.before 5 (omega arith)
 
-closing_byte_requires_7 : tie.Need-closing-byte-requires-7
-closing_byte_requires_7 c κs = ready (found7 c) 6 (omega arith)
+closing_byte_requires_7 : tie.Need-closing_byte-requires-7
+closing_byte_requires_7 c κs = ready c.before.before.before.before.before.before 6 (omega arith)
 
-closing_byte_requires_8 : tie.Need-closing-byte-requires-8
-closing_byte_requires_8 c κs = ready (found8 c) 7 (omega arith)
+closing_byte_requires_8 : tie.Need-closing_byte-requires-8
+closing_byte_requires_8 c κs = ready c.before.before.before.before.before.before.before 7 (omega arith)
 
 -- Exactly those with the first winner's counts win.
-module _ (c : tie.After-first-winner) where
+module _ (c : tie.After-first_winner-first) where
   abbrev start : tie.Start
   start = c.before
 
   abbrev winner : ℕ
-  winner = c.first-winner.result
+  winner = c.first_winner-first.result
 
   abbrev k : ℕ
   k = start.args.shape.candidates
@@ -141,7 +121,7 @@ module _ (c : tie.After-first-winner) where
       row j l = row_at k d counts j l
 
       won : winner < k
-      won = c.first-winner.ensures.inside
+      won = c.first_winner-first.ensures.inside
 
       outside : k ≤ i → byte_beside counts k d winner i ≡ padded i
       outside l = beside_past counts k d winner i l
@@ -158,14 +138,14 @@ module _ (c : tie.After-first-winner) where
           same : same_numbers (take d (get_or counts i [])) (take d (get_or counts winner [])) ≡ true
               → byte_beside counts k d winner i ≡ judged i
           same e = beside_same counts k d winner i l e
-              ∙ sym (same_wins start.args.shape.ballots (rows start) start.pre.gets winner (omega (arith, size, won))
-              c.first-winner.ensures.byte i (omega (arith, size, l)) (as_rows ∙ e))
+              ∙ sym (same_wins start.args.shape.ballots (rows start) start.requires.gets winner (omega (arith, size, won))
+              c.first_winner-first.ensures.byte i (omega (arith, size, l)) (as_rows ∙ e))
 
           other : same_numbers (take d (get_or counts i [])) (take d (get_or counts winner [])) ≡ false
               → byte_beside counts k d winner i ≡ judged i
           other e = beside_other counts k d winner i l e
-              ∙ sym (other_loses start.args.shape.ballots (rows start) start.pre.gets winner (omega (arith, size, won))
-              c.first-winner.ensures.byte i (omega (arith, size, l)) (as_long ∙ sym (ap length (row winner won))) (as_rows ∙ e))
+              ∙ sym (other_loses start.args.shape.ballots (rows start) start.requires.gets winner (omega (arith, size, won))
+              c.first_winner-first.ensures.byte i (omega (arith, size, l)) (as_long ∙ sym (ap length (row winner won))) (as_rows ∙ e))
             where
               as_long : length (get_or (rows start) i []) ≡ length (take d (get_or counts winner []))
               as_long =
@@ -182,18 +162,18 @@ eight_are g p q r s t u v w = cc (p, q, r, s, t, u, v, w)
 
 returns : tie.Need-returns
 returns c =
-    let seventh = c.before in
-    let sixth = seventh.before in
-    let fifth = sixth.before in
-    let fourth = fifth.before in
-    let third = fourth.before in
-    let second = third.before in
-    let first = second.before in
-    let f = first.before in
+    let seventh = c in
+    let sixth = seventh in
+    let fifth = sixth in
+    let fourth = fifth in
+    let third = fourth in
+    let second = third in
+    let first = second in
+    let f = c.before.before.before.before.before.before.before.before in
     let byte : ℕ → ℕ = byte_beside (counts f) (k f) (d f) (winner f) in
-    eight_are byte first.closing-byte.ensures second.closing-byte2.ensures third.closing-byte3.ensures
-    fourth.closing-byte4.ensures fifth.closing-byte5.ensures sixth.closing-byte6.ensures
-    seventh.closing-byte7.ensures c.closing-byte8.ensures
+    eight_are byte first.closing_byte.ensures second.closing_byte-2.ensures third.closing_byte-3.ensures
+    fourth.closing_byte-4.ensures fifth.closing_byte-5.ensures sixth.closing_byte-6.ensures
+    seventh.closing_byte-7.ensures c.closing_byte-8.ensures
     ∙ tabulate_cong most_candidates byte (padded f) (byte_is f)
     ∙ eight_judged (rows (start f))
 
