@@ -1,6 +1,6 @@
 // The archive for programs in C and Rust: each exported call is the call of the same name in a crate below, with its
-// contract. A crate from which an archive is made cannot be used by others, and the calls in the crates below export
-// nothing by themselves. A lent slice is a pointer and a length. The answer goes into the lent array `answer`; its first
+// contract. No crate can stand on one from which an archive is made, and the calls of the crates below export nothing
+// by themselves. A lent slice is a pointer and a length. The answer goes into the lent array `answer`; its first
 // number, the reason, is also returned.
 #![tactic(auto)]
 
