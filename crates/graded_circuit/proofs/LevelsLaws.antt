@@ -15,7 +15,7 @@ use Rattle.graded_circuit.specs.declared.plan.Plan.{Plan}
 use Rattle.graded_circuit.specs.Plan.{Planned}
 use Rattle.graded_circuit.specs.Key.{candidate, key_span, candidate_span}
 use Rattle.graded_circuit.specs.Contest.{result_at}
-use Rattle.graded_circuit.specs.Merge.{merge, merge_span, won_at}
+use Rattle.graded_circuit.specs.Merge.{merge_span, won_at}
 use Rattle.graded_circuit.specs.OwnList.{candidates_from, key_at, levels_span, best_key, winner_flags, other_at, merge_at, halves_merge, halves_better, levels, levels_at}
 use Rattle.graded_circuit.proofs.Blocks.{Block, none_block, both_block, sized}
 use Rattle.graded_circuit.proofs.Cutting.{cut2, cut4}

@@ -1,6 +1,6 @@
 -- What follows for a plan: its bits are inputs, and both counts have enough digits.
 -- Assumes nothing.
-use Prim.Native.Nat.{ℕ, suc, ◌-◌, ◌≤◌, ◌<◌}
+use Prim.Native.Nat.{ℕ, suc, ◌≤◌, ◌<◌}
 use native.Mathlib.Nat.{pow-succ', mul_assoc, suc-mul, mul-le-mul_right}
 use native.Mathlib.Omega.{arith}
 use Rattle.gate_words.specs.Word.{Below}

@@ -7,7 +7,7 @@ use jury::shape::Shape;
 
 // A sum has `digits` low digits and a top one; the number of a median grade has `places` low digits and a top one.
 // `offset` is added to each sum, and `worst` to the count of the worst grade: `plan_of` says why.
-#[derive(Drop)]
+#[derive(Clone, Copy)]
 pub struct Plan {
     pub candidates: u32,
     pub grades: u32,

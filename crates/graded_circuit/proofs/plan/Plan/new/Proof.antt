@@ -26,57 +26,57 @@ halves s t =
     let high = high_width s.ballots (within_T s t).n_least in
     (half_most s.ballots (width_of s.ballots - 1) high, rest_most s.ballots (width_of s.ballots - 1) high)
 
-cast_ballots : tie.Need-overflow-cast-ballots
-cast_ballots c = omega (arith, (within_T c.before.args.shape c.before.requires).n_most)
+cast_ballots : tie.Need-overflow_cast-ballots
+cast_ballots c = omega (arith, (within_T c.args.shape c.requires).n_most)
 
 width_requires : tie.Need-width-requires
 width_requires c κs = search rules
 
-cast_digits : tie.Need-overflow-cast-digits
-cast_digits c = let a = c.before.before in omega (arith, c.width.ensures, widths a.args.shape a.requires)
+cast_digits : tie.Need-overflow_cast-digits
+cast_digits c = let a = c in omega (arith, c.width.ensures, widths a.args.shape a.requires)
 
-sub_digits : tie.Need-overflow-sub-digits
-sub_digits c = let a = c.before.before in omega (arith, c.width.ensures, widths a.args.shape a.requires)
+sub_digits : tie.Need-overflow_sub-digits
+sub_digits c = let a = c in omega (arith, c.width.ensures, widths a.args.shape a.requires)
 
-power_requires : tie.Need-power-requires
-power_requires c κs = let a = c.before.before in omega (arith, c.width.ensures, widths a.args.shape a.requires)
+power_requires : tie.Need-power-most-requires
+power_requires c κs = let a = c in omega (arith, c.width.ensures, widths a.args.shape a.requires)
 
-cast_t6 : tie.Need-overflow-cast-t6
-cast_t6 c = let a = c.before.before.before.before in omega (arith, (within_T a.args.shape a.requires).k_most)
+cast_t6 : tie.Need-overflow_cast-result
+cast_t6 c = let a = c in omega (arith, (within_T a.args.shape a.requires).k_most)
 
-cast_t7 : tie.Need-overflow-cast-t7
-cast_t7 c = let a = c.before.before.before.before.before in omega (arith, (within_T a.args.shape a.requires).d_most)
+cast_t7 : tie.Need-overflow_cast-result-2
+cast_t7 c = let a = c in omega (arith, (within_T a.args.shape a.requires).d_most)
 
-ballot_bytes_requires : tie.Need-ballot-bytes-requires
-ballot_bytes_requires c κs = let a = c.before.before.before.before.before in graded_T a.args.shape a.requires
+ballot_bytes_requires : tie.Need-ballot_bytes-requires
+ballot_bytes_requires c κs = let a = c in graded_T a.args.shape a.requires
 
-cast_t8 : tie.Need-overflow-cast-t8
-cast_t8 c = let a = c.before.before.before.before.before.before in
+cast_t8 : tie.Need-overflow_cast-result-3
+cast_t8 c = let a = c in
     omega (
       arith,
-      c.ballot-bytes.ensures,
+      c.ballot_bytes.ensures,
       bytes_are a.args.shape (within_T a.args.shape a.requires),
       bytes_bound a.args.shape (within_T a.args.shape a.requires),
     )
 
-add_t9 : tie.Need-overflow-add-t9
-add_t9 c = let a = c.before.before.before.before.before.before in omega (arith, (within_T a.args.shape a.requires).n_most)
+add_t9 : tie.Need-overflow_add-result
+add_t9 c = let a = c in omega (arith, (within_T a.args.shape a.requires).n_most)
 
 -- 2 to the number of low digits
-power_is : (c : tie.After-ballot-bytes) → c.before.before.before.power.result
-    ≡ 2 ^ (width_of c.before.before.before.before.before.before.args.shape.ballots - 1)
-power_is c = c.before.before.before.power.ensures ∙ ap (λ (k : ℕ). 2 ^ (k - 1)) c.before.before.before.before.width.ensures
+power_is : (c : tie.After-ballot_bytes) → c.power-most.result
+    ≡ 2 ^ (width_of c.args.shape.ballots - 1)
+power_is c = c.power-most.ensures ∙ ap (λ (k : ℕ). 2 ^ (k - 1)) c.width.ensures
 
-sub_t11 : tie.Need-overflow-sub-t11
-sub_t11 c = let a = c.before.before.before.before.before.before in let e = power_is c in
+sub_t11 : tie.Need-overflow_sub-result
+sub_t11 c = let a = c in let e = power_is c in
     omega (arith, halves a.args.shape a.requires)
 
-sub_t12 : tie.Need-overflow-sub-t12
-sub_t12 c = let a = c.before.before.before.before.before.before in let e = power_is c in
+sub_t12 : tie.Need-overflow_sub-result-2
+sub_t12 c = let a = c in let e = power_is c in
     omega (arith, halves a.args.shape a.requires)
 
-sub_t14 : tie.Need-overflow-sub-t14
-sub_t14 c = let a = c.before.before.before.before.before.before in let e = power_is c in
+sub_t14 : tie.Need-overflow_sub-result-3
+sub_t14 c = let a = c in let e = power_is c in
     omega (arith, halves a.args.shape a.requires)
 
 -- the width of the largest grade's number is 1 to 8
@@ -85,20 +85,20 @@ grade_widths s t =
     let w = within_T s t in
     (omega (arith, width_half (s.grades - 1) (omega (arith, w.d_least))), width_most (s.grades - 1) (omega (arith, w.d_most)))
 
-sub_width : tie.Need-overflow-sub-width
-sub_width c = let a = c.before.before.before.before.before.before.before in
+sub_width : tie.Need-overflow_sub-shape
+sub_width c = let a = c in
     omega (arith, (within_T a.args.shape a.requires).d_least)
 
 width_requires_2 : tie.Need-width-requires-2
 width_requires_2 c κs = search rules
 
-cast_t17 : tie.Need-overflow-cast-t17
-cast_t17 c = let a = c.before.before.before.before.before.before.before.before in
-    omega (arith, c.width2.ensures, grade_widths a.args.shape a.requires)
+cast_t17 : tie.Need-overflow_cast-result-4
+cast_t17 c = let a = c in
+    omega (arith, c.width-2.ensures, grade_widths a.args.shape a.requires)
 
-sub_t18 : tie.Need-overflow-sub-t18
-sub_t18 c = let a = c.before.before.before.before.before.before.before.before in
-    omega (arith, c.width2.ensures, grade_widths a.args.shape a.requires)
+sub_t18 : tie.Need-overflow_sub-result-4
+sub_t18 c = let a = c in
+    omega (arith, c.width-2.ensures, grade_widths a.args.shape a.requires)
 
 planned : Shape → ℕ → ℕ → ℕ → ℕ → Plan
 planned s inputs width most graded =
@@ -126,11 +126,11 @@ same_plan s inputs width most graded e₁ e₂ e₃ e₄ =
 returns : tie.Need-returns
 unfolding planned
 returns c =
-    let l = c.before.before in
-    let a = l.before.before.before.before.before.before in
-    same_plan a.args.shape l.ballot-bytes.result l.before.before.before.before.width.result
-    l.before.before.before.power.result c.width2.result
-    l.ballot-bytes.ensures l.before.before.before.before.width.ensures (power_is l) c.width2.ensures
+    let l = c in
+    let a = l in
+    same_plan a.args.shape l.ballot_bytes.result l.width.result
+    l.power-most.result c.width-2.result
+    l.ballot_bytes.ensures l.width.ensures (power_is l.before.before) c.width-2.ensures
 
 pub new_spec : {M : Type 1} → statement M
 new_spec =
