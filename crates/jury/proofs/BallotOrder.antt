@@ -8,7 +8,7 @@ use native.Mathlib.Nat.{ℕ_set}
 use native.Mathlib.Omega.{arith}
 use lib.ListN.{get_or, take, drop}
 use Rattle.jury.specs.declared.shape.Shape.{Shape}
-use Rattle.jury.specs.Ballots.{rows_of}
+use Rattle.jury.specs.Ballots.{rows_of, ballots_in}
 use Rattle.basics.specs.Lists.{sum, tabulate}
 use Rattle.jury.specs.Counts.{byte_of, count_of, counts_of}
 use Rattle.jury.proofs.AcceptedLaws.{row_first, row_next}
@@ -37,10 +37,6 @@ rows_table w (suc n) xs =
     ∙ ap (λ (l : List (List ℕ)). take w (drop (0 * w) xs) ∷ l)
     (rows_table w n (drop w xs)
     ∙ tabulate_cong n (λ b. take w (drop (b * w) (drop w xs))) (λ b. take w (drop (suc b * w) xs)) (λ b h. ap (take w) (row_next w b xs)))
-
--- the ballots of these bytes
-abbrev pub ballots_in : Shape → List ℕ → List (List ℕ)
-ballots_in s xs = rows_of (s.candidates * s.grades) s.ballots xs
 
 -- a count is a sum over the ballots
 count_ballots : (s : Shape) (xs : List ℕ) (c g : ℕ) → c < s.candidates → g < s.grades →

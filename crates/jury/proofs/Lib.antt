@@ -13,3 +13,5 @@ pub mod Rows
 pub mod CountFacts
 pub mod BallotOrder
 pub mod RankingLaws
+pub mod Theorems
+pub mod Scores

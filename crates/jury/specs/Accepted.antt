@@ -1,5 +1,5 @@
--- Accepted ballots, as facts. `AcceptedLaws` of proofs/ shows that these facts hold exactly if none of the reasons
--- 1, 4, 5, 6 (grades), 11 and 12 (rankings) applies.
+-- Accepted ballots, as facts. `TestsAccept` says that these facts hold exactly if none of the reasons 1, 4, 5, 6
+-- (grades), 11 and 12 (rankings) applies.
 use Rattle.std.specs.Prelude.{◌≡◌, true, false, List, ℕ, ◌*◌, ◌≤◌, ◌<◌, length, get_or, take, drop}
 use Rattle.jury.specs.declared.shape.Shape.{Shape}
 use Rattle.jury.specs.Shape.{is_ranking, graded_limits, within_limits, ballot_bytes}

@@ -20,6 +20,10 @@ unfoldable pub rows_of : ℕ → ℕ → List ℕ → List (List ℕ)
 rows_of d zero xs = []
 rows_of d (suc rows) xs = take d xs ∷ rows_of d rows (drop d xs)
 
+-- The ballots of a graded jury's bytes.
+abbrev pub ballots_in : Shape → List ℕ → List (List ℕ)
+ballots_in s xs = rows_of (s.candidates * s.grades) s.ballots xs
+
 -- The place of the first row that has no 1 or several. The first of these rows has place i.
 unfoldable pub first_bad_row : ℕ → List (List ℕ) → Place
 first_bad_row i [] = Nowhere

@@ -8,4 +8,5 @@ pub mod WeakOrder
 pub mod Counts
 pub mod ClosingBytes
 pub mod Accepted
+pub mod Theorems
 pub mod inner

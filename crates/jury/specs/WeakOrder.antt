@@ -1,4 +1,4 @@
--- Strict weak orders. `RankingLaws` of proofs/ shows that a ranked ballot passes its tests exactly if it is one.
+-- Strict weak orders. `TestsAccept` says that a ranked ballot passes its tests exactly if it is one.
 use Rattle.std.specs.Prelude.{◌≡◌, Bool, true, false, ℕ, ◌<◌}
 
 -- A strict order of k candidates that allows ties: nobody is before itself, no two are before each other, and if i

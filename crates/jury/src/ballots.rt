@@ -1,6 +1,6 @@
 // The tests of ballots.
 ghost use Rattle.std.specs.Prelude.{◌≡◌, ℕ, ◌*◌, ◌≤◌, ◌<◌, T, length, get_or};
-ghost use Rattle.jury.specs.Shape.{within_limits};
+ghost use Rattle.jury.specs.Shape.{most_candidates, within_limits};
 ghost use Rattle.jury.specs.Reason.{refused_for, first_of};
 ghost use Rattle.jury.specs.Ballots.{graded_reasons, ranked_reasons, ballot_reasons, ones, rows_of, first_bad_row};
 ghost use Rattle.jury.specs.inner.Ballots.{GradedBits, RowsOfBits};
@@ -23,7 +23,7 @@ pub fn test(shape: Shape, ballots: &[u8]) -> Verdict
         return Verdict::Refused(Refusal::BallotByte(i));
     }
     if shape.is_ranking() {
-        test_rankings(shape, ballots)
+        test_orders(shape, ballots)
     } else {
         test_grades(shape, ballots)
     }
@@ -38,6 +38,18 @@ fn test_grades(shape: Shape, ballots: &[u8]) -> Verdict
         Place::At(r) => Verdict::Refused(Refusal::BallotRow(r)),
         Place::Nowhere => Verdict::Accepted,
     }
+}
+
+// Tests rankings. The searches for what is wrong end early and branch on the ballots, so only a refused call makes them.
+fn test_orders(shape: Shape, ballots: &[u8]) -> Verdict
+    requires { (shape.candidates ≤ most_candidates)
+        × (length ballots.now ≡ shape.ballots * shape.candidates * shape.candidates) }
+    ensures { refused_for result ≡ first_of (ranked_reasons shape ballots.now) }
+{
+    if crate::orders::are_orders(ballots, shape.candidates, shape.ballots) {
+        return Verdict::Accepted;
+    }
+    test_rankings(shape, ballots)
 }
 
 // Tests rankings: all ballots for reason 11, then all ballots for 12.

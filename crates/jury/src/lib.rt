@@ -3,6 +3,7 @@
 
 pub mod ballots;
 pub mod counts;
+mod orders;
 pub mod rankings;
 pub mod reason;
 pub mod shape;

@@ -13,7 +13,7 @@ use Rattle.jury.specs.Shape.{is_ranking, graded_limits, within_limits, ballot_by
 use Rattle.jury.specs.Reason.{reason_of, refused_for, unless, found_at, first_of}
 use Rattle.jury.specs.Ballots.{ballot_kind_reasons, ballot_reasons}
 use Rattle.basics.proofs.Flags.{T_true, true_T}
-use Rattle.jury.proofs.Limits.{grades_columns, ranked_bytes, graded_kind}
+use Rattle.jury.proofs.Limits.{bounds_T, grades_columns, ranked_bytes, graded_kind}
 use Rattle.jury.proofs.BallotLaws.{judged, judged_by, judged_kind, graded_reasons_lem, ranked_reasons_lem}
 use Rattle.jury.proofs.ballots.test.Statement.{statement}
 use Rattle.jury.proofs.ballots.test.Tie as tie
@@ -75,11 +75,15 @@ ranking : (c : tie.After-is_ranking)
     → is_ranking c.args.shape ≡ c.is_ranking.result
 ranking c = sym c.is_ranking.ensures
 
-test_rankings_requires : tie.Need-test_rankings-requires
-test_rankings_requires c κs =
+test_orders_requires : tie.Need-test_orders-requires
+test_orders_requires c κs =
     let told = c in
     let passed = told in
-    size_known passed.before.before.before.before ∙ ranked_bytes passed.args.shape (ranking c.before ∙ c.if-is_ranking.true)
+    let start = passed in
+    let s = start.args.shape in (
+      (bounds_T s start.requires).k_most,
+      size_known passed.before.before.before.before ∙ ranked_bytes s (ranking c.before ∙ c.if-is_ranking.true),
+    )
 
 test_grades_requires : tie.Need-test_grades-requires
 test_grades_requires c κs =
@@ -102,7 +106,7 @@ returns_3 : tie.Need-returns-then-is_ranking
 returns_3 c =
     let told = c in
     let a = told.args in
-    c.test_rankings.ensures ∙ sym (ap first_of (ranked_reasons_lem a.shape a.ballots.now
+    c.test_orders.ensures ∙ sym (ap first_of (ranked_reasons_lem a.shape a.ballots.now
     (ranking c.before.before ∙ c.if-is_ranking.true))) ∙ sym (by_kind told.before.before.before)
 
 returns_4 : tie.Need-returns-else-is_ranking
@@ -123,7 +127,7 @@ test_spec =
     returns_2
     enum_told
     is_ranking_requires
-    test_rankings_requires
+    test_orders_requires
     test_grades_requires
     returns_3
     returns_4)
