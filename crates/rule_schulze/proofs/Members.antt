@@ -99,9 +99,10 @@ in_table (suc n) f (suc i) h = Memᴰ.tail (in_table n (λ j. f (suc j)) i (omeg
 pub of_table : {y : ℕ} (n : ℕ) (f : ℕ → ℕ) → On y (tabulate n f) → (i : ℕ) × (i < n) × (y ≡ f i)
 unfolding tabulate
 of_table zero f m = absurd (Memᴰ.not-nil m)
-of_table {y} (suc n) f m =
+of_table {y = y} (suc n) f m =
     ⊎_elim (λ e. (0, omega arith, e))
-    (λ h. let r = of_table n (λ j. f (suc j)) h in (suc r.0, omega (arith, r.1), r.2)) (Memᴰ.cases_cons m)
+    (λ h. let r : (i : ℕ) × (i < n) × (y ≡ f (suc i)) = of_table {y = y} n (λ j. f (suc j)) h in (suc r.0, omega (arith, r.1), r.2))
+    (Memᴰ.cases_cons m)
 
 pub in_candidates : (k x : ℕ) → x < k → On x (all_candidates k)
 unfolding all_candidates

@@ -1,7 +1,6 @@
 -- `rule_schulze::count::closing_bytes` meets its contract: the rule reads only the votes between the k candidates.
 -- Assumes nothing.
 use mathlib.Core.Path.{◌∙◌, ap}
-use Prim.Native.Nat.{◌-◌}
 use borrow.Author.Rules.{rules}
 use Rattle.jury.specs.ClosingBytes.{eight_bytes}
 use Rattle.rule_schulze.specs.Votes.{votes}
@@ -18,8 +17,8 @@ winners_requires c κs = search rules
 
 returns : tie.Need-returns
 returns c =
-    let counted = c.before in
-    let start = counted.before.before in
+    let counted = c in
+    let start = counted in
     let k = start.args.k in
     c.winners.ensures
     ∙ ap eight_bytes (closing_agree k (entry counted.matrix.result)

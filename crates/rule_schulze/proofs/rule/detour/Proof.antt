@@ -13,46 +13,46 @@ use Rattle.rule_schulze.proofs.Filling.{table_step}
 use Rattle.rule_schulze.proofs.rule.detour.Statement.{statement}
 use Rattle.rule_schulze.proofs.rule.detour.Tie as tie
 
-abbrev invariant_loop : tie.invariant-loop
+abbrev invariant_loop : tie.invariant-loop-i
 invariant_loop paths k l after₀ i₀ after i = (i ≤ k) × (length after ≡ most_candidates)
     × ((a m : ℕ) → a < i → m < k → entry after a m ≡ max (entry paths a m) (min (entry paths a l) (entry paths l m)))
 
-abbrev decreases_loop : tie.decreases-loop
+abbrev decreases_loop : tie.decreases-loop-i
 decreases_loop paths k l after₀ i₀ after i = k - i
 
-loop_holds : tie.Need-loop-init invariant_loop decreases_loop
+loop_holds : tie.Need-loop-i-init invariant_loop decreases_loop
 loop_holds c = (omega arith, refl, λ a m h. absurd (omega arith))
 
-detour_from_requires : tie.Need-detour-from-requires invariant_loop decreases_loop
+detour_from_requires : tie.Need-detour_from-row-requires invariant_loop decreases_loop
 detour_from_requires c κs = search rules
 
-mul_after : tie.Need-overflow-mul-after invariant_loop decreases_loop
+mul_after : tie.Need-offset_bounds-after-i invariant_loop decreases_loop
 mul_after c = omega arith
 
-array_set_from_after : tie.Need-array-set-from-after invariant_loop decreases_loop
+array_set_from_after : tie.Need-bounds-after-i invariant_loop decreases_loop
 array_set_from_after c = omega arith
 
-add_i : tie.Need-overflow-add-i invariant_loop decreases_loop
+add_i : tie.Need-overflow_add-i invariant_loop decreases_loop
 add_i c = omega arith
 
-loop_less : tie.Need-loop-smaller invariant_loop decreases_loop
+loop_less : tie.Need-loop-i-smaller invariant_loop decreases_loop
 loop_less c = omega arith
 
-loop_again : tie.Need-loop-preserved invariant_loop decreases_loop
+loop_again : tie.Need-loop-i-preserved invariant_loop decreases_loop
 loop_again c =
-    let at = c.before.before in
-    let start = at.before in
+    let at = c in
+    let start = at in
     let t = entry start.args.paths in
     let l = start.args.l in (
       omega arith,
-      length-set at.loop.after at.loop.i c.detour-from.result ∙ at.loop.invariant.1,
-      table_step (λ i j. max (t i j) (min (t i l) (t l j))) start.args.k at.loop.after at.loop.i
-          c.detour-from.result (omega arith) at.loop.invariant.2
-          c.detour-from.ensures,
+      length-set at.loop-i.after at.loop-i.i c.detour_from-row.result ∙ at.loop-i.invariant.1,
+      table_step (λ i j. max (t i j) (min (t i l) (t l j))) start.args.k at.loop-i.after at.loop-i.i
+          c.detour_from-row.result (omega arith) at.loop-i.invariant.2
+          c.detour_from-row.ensures,
     )
 
 returns : tie.Need-returns invariant_loop decreases_loop
-returns c = λ i j hi hj ne. let start = c.before.before in c.before.loop.invariant.2 i j (omega arith) hj
+returns c = λ i j hi hj ne. let start = c in c.loop-i.invariant.2 i j (omega arith) hj
     ∙ detour_tried start.args.l (entry start.args.paths) i j ne
 
 pub detour_spec : {M : Type 1} → statement M

@@ -12,42 +12,42 @@ use Rattle.rule_schulze.proofs.Filling.{table_step}
 use Rattle.rule_schulze.proofs.rule.links.Statement.{statement}
 use Rattle.rule_schulze.proofs.rule.links.Tie as tie
 
-abbrev invariant_loop : tie.invariant-loop
+abbrev invariant_loop : tie.invariant-loop-i
 invariant_loop votes k links₀ i₀ links i = (i ≤ k) × (length links ≡ most_candidates) × ((a m : ℕ) → a < i → m < k → entry links a m ≡ link (entry votes) a m)
 
-abbrev decreases_loop : tie.decreases-loop
+abbrev decreases_loop : tie.decreases-loop-i
 decreases_loop votes k links₀ i₀ links i = k - i
 
-loop_holds : tie.Need-loop-init invariant_loop decreases_loop
+loop_holds : tie.Need-loop-i-init invariant_loop decreases_loop
 loop_holds c = (omega arith, refl, λ a m l. absurd (omega arith))
 
-links_of_requires : tie.Need-links-of-requires invariant_loop decreases_loop
+links_of_requires : tie.Need-links_of-row-requires invariant_loop decreases_loop
 links_of_requires c κs = search rules
 
-mul_links : tie.Need-overflow-mul-links invariant_loop decreases_loop
+mul_links : tie.Need-offset_bounds-links-i invariant_loop decreases_loop
 mul_links c = omega arith
 
-array_set_from_links : tie.Need-array-set-from-links invariant_loop decreases_loop
+array_set_from_links : tie.Need-bounds-links-i invariant_loop decreases_loop
 array_set_from_links c = omega arith
 
-add_i : tie.Need-overflow-add-i invariant_loop decreases_loop
+add_i : tie.Need-overflow_add-i invariant_loop decreases_loop
 add_i c = omega arith
 
-loop_less : tie.Need-loop-smaller invariant_loop decreases_loop
+loop_less : tie.Need-loop-i-smaller invariant_loop decreases_loop
 loop_less c = omega arith
 
-loop_again : tie.Need-loop-preserved invariant_loop decreases_loop
+loop_again : tie.Need-loop-i-preserved invariant_loop decreases_loop
 loop_again c =
-    let at = c.before.before in
-    let start = at.before in (
+    let at = c in
+    let start = at in (
       omega arith,
-      length-set at.loop.links at.loop.i c.links-of.result ∙ at.loop.invariant.1,
-      table_step (link (entry start.args.votes)) start.args.k at.loop.links at.loop.i
-          c.links-of.result (omega arith) at.loop.invariant.2 c.links-of.ensures,
+      length-set at.loop-i.links at.loop-i.i c.links_of-row.result ∙ at.loop-i.invariant.1,
+      table_step (link (entry start.args.votes)) start.args.k at.loop-i.links at.loop-i.i
+          c.links_of-row.result (omega arith) at.loop-i.invariant.2 c.links_of-row.ensures,
     )
 
 returns : tie.Need-returns invariant_loop decreases_loop
-returns c = λ i j hi hj. c.before.loop.invariant.2 i j (omega arith) hj
+returns c = λ i j hi hj. c.loop-i.invariant.2 i j (omega arith) hj
 
 pub links_spec : {M : Type 1} → statement M
 links_spec =
