@@ -10,7 +10,7 @@ use gates::kind;
 use trustee_gates::evaluate;
 
 // The trustee's number, the round, and how many inputs the list has.
-#[derive(Drop)]
+#[derive(Clone, Copy)]
 pub struct Seat {
     pub trustee: usize,
     pub round: usize,

@@ -5,21 +5,21 @@ use Rattle.trustee_shares.specs.Shares.{part}
 use Rattle.trustee_rounds.proofs.part.own_part.Statement.{statement}
 use Rattle.trustee_rounds.proofs.part.own_part.Tie as tie
 
-shared_slice_read_part_of_kind : tie.Need-shared-slice-read-part-of-kind
+shared_slice_read_part_of_kind : tie.Need-bounds-wires-a
 shared_slice_read_part_of_kind c = search rules
 
-shared_slice_read_part_of_kind_2 : tie.Need-shared-slice-read-part-of-kind-2
+shared_slice_read_part_of_kind_2 : tie.Need-bounds-wires-b
 shared_slice_read_part_of_kind_2 c = search rules
 
-shared_slice_read_part_of_kind_3 : tie.Need-shared-slice-read-part-of-kind-3
+shared_slice_read_part_of_kind_3 : tie.Need-bounds-wires-c
 shared_slice_read_part_of_kind_3 c = search rules
 
-part_of_kind_requires : tie.Need-part-of-kind-requires
+part_of_kind_requires : tie.Need-part_of_kind-requires
 part_of_kind_requires c κs = search rules
 
 returns : tie.Need-returns
 unfolding part
-returns c = c.part-of-kind.ensures
+returns c = c.part_of_kind.ensures
 
 pub own_part_spec : {M : Type 1} → statement M
 own_part_spec =

@@ -14,7 +14,7 @@ use Rattle.trustee_rounds.proofs.Passing.{EnterLeft, enter_start, enter_turn, en
 use Rattle.trustee_rounds.proofs.round.enter.Statement.{statement}
 use Rattle.trustee_rounds.proofs.round.enter.Tie as tie
 
-abbrev invariant_loop : tie.invariant-loop
+abbrev invariant_loop : tie.invariant-loop-g
 invariant_loop table levels triples heard wires₀ marks p round inputs i₀ g₀ wires i g =
     EnterLeft (record {
       trustee = p;
@@ -26,41 +26,12 @@ invariant_loop table levels triples heard wires₀ marks p round inputs i₀ g�
           heard;
     }) table wires₀ wires g i
 
-abbrev decreases_loop : tie.decreases-loop
+abbrev decreases_loop : tie.decreases-loop-g
 decreases_loop table levels triples heard wires₀ marks p round inputs i₀ g₀ wires i g = length levels - g
 
--- The stages of the function, seen from later ones.
-abbrev start_from_slice_known : tie.After-slice-known invariant_loop decreases_loop → tie.Start invariant_loop decreases_loop
-start_from_slice_known c = c.before.before.before.before.before
-
-abbrev start_from_loop_reached : tie.At-loop invariant_loop decreases_loop → tie.Start invariant_loop decreases_loop
-start_from_loop_reached c = c.before.before.before.before.before.before
-
-abbrev numbers_at_from_rounds : tie.After-rounds invariant_loop decreases_loop → tie.After-numbers-at invariant_loop decreases_loop
-numbers_at_from_rounds c = c.before.before
-
-abbrev loop_reached_from_marks : tie.After-marks invariant_loop decreases_loop → tie.At-loop invariant_loop decreases_loop
-loop_reached_from_marks c = c.before.before.before.before.before
-
-abbrev round_from_enter_gate_arg : tie.After-enter-gate-arg invariant_loop decreases_loop → tie.In-loop invariant_loop decreases_loop
-round_from_enter_gate_arg c = c.before.before.before.before.before
-
-abbrev loop_reached_from_mark : tie.After-mark invariant_loop decreases_loop → tie.At-loop invariant_loop decreases_loop
-loop_reached_from_mark c = loop_reached_from_marks c.before.before.before.before.before.before
-
-abbrev round_from_mark : tie.After-mark invariant_loop decreases_loop → tie.In-loop invariant_loop decreases_loop
-round_from_mark c = round_from_enter_gate_arg c.before.before.before.before.before
-
-abbrev numbers_at_from_mark : tie.After-mark invariant_loop decreases_loop → tie.After-numbers-at invariant_loop decreases_loop
-numbers_at_from_mark c = numbers_at_from_rounds c.before.before.before.before.before.before.before
-
-abbrev rounds_from_mark : tie.After-mark invariant_loop decreases_loop → tie.After-rounds invariant_loop decreases_loop
-rounds_from_mark c = c.before.before.before.before.before.before.before
-
-loop_holds : tie.Need-loop-init invariant_loop decreases_loop
+loop_holds : tie.Need-loop-g-init invariant_loop decreases_loop
 loop_holds c =
-    let s = (start_from_slice_known c) in
-    let a = s.args in
+    let a = c.args in
     enter_start (record {
       trustee = a.seat.trustee;
       round = a.seat.round;
@@ -70,91 +41,81 @@ loop_holds c =
       triples = a.triples.now;
       heard = a.heard.now;
     }) a.table.now a.wires.now
-    s.pre.pass.good s.pre.pass.wires_length
+    c.requires.pass.good c.requires.pass.wires_length
 
-numbers_at_requires : tie.Need-numbers-at-requires invariant_loop decreases_loop
+numbers_at_requires : tie.Need-numbers_at-gate-requires invariant_loop decreases_loop
 numbers_at_requires c κs =
-    let at = c.before in
-    let l = at.loop in
-    let s = (start_from_loop_reached at) in
-    let a = s.args in
-    let r = s.pre.pass in
-    omega (arith, r.levels_length, length_gates a.table.now, c.loop-test.true)
+    let l = c.loop-g in
+    let a = c.args in
+    let r = c.requires.pass in
+    omega (arith, r.levels_length, length_gates a.table.now, c.loop-g-test.true)
 
-mul_rounds : tie.Need-overflow-mul-rounds invariant_loop decreases_loop
+mul_rounds : tie.Need-offset_bounds-levels-g invariant_loop decreases_loop
 mul_rounds c = search rules
 
-shared_slice_read_rounds : tie.Need-shared-slice-read-rounds invariant_loop decreases_loop
-shared_slice_read_rounds c = omega (arith, c.before.before.loop-test.true)
+shared_slice_read_rounds : tie.Need-bounds-levels-g invariant_loop decreases_loop
+shared_slice_read_rounds c = omega (arith, c.loop-g-test.true)
 
-rounds_requires : tie.Need-rounds-requires invariant_loop decreases_loop
+rounds_requires : tie.Need-rounds-depth-requires invariant_loop decreases_loop
 rounds_requires c κs = search rules
 
-add_enter_gate : tie.Need-overflow-add-enter-gate invariant_loop decreases_loop
+add_enter_gate : tie.Need-overflow_add-inputs invariant_loop decreases_loop
 add_enter_gate c =
-    let at = (loop_reached_from_marks c) in
-    let l = at.loop in
-    let s = (start_from_loop_reached at) in
-    let a = s.args in
-    let r = s.pre.pass in
-    omega (arith, r.few, r.levels_length, c.before.before.before.before.loop-test.true)
+    let l = c.loop-g in
+    let a = c.args in
+    let r = c.requires.pass in
+    omega (arith, r.few, r.levels_length, c.loop-g-test.true)
 
-enter_gate_requires : tie.Need-enter-gate-requires invariant_loop decreases_loop
+enter_gate_requires : tie.Need-enter_gate-requires invariant_loop decreases_loop
 enter_gate_requires c κs =
-    let at = (loop_reached_from_marks c.before) in
-    let l = at.loop in
-    let s = (start_from_loop_reached at) in
-    let a = s.args in
-    let r = s.pre.pass in
-    let n = c.before.before.before.before.numbers-at in
-    let h = (round_from_enter_gate_arg c).loop-test.taken in
+    let l = c.loop-g in
+    let a = c.args in
+    let r = c.requires.pass in
+    let n = c.numbers_at-gate in
+    let h = c.loop-g-test.true in
     let inside : l.g < length (gates_of a.table.now) = omega (arith, r.levels_length) in
     record {
       marked = refl;
       gate = record {
-        ready = part_ready a.seat.inputs a.table.now l.g l.i l.inv.ahead
-            r.some_input inside n.result n.ensures a.triples.now a.heard.now l.wires l.inv.long
-            r.triples_length s.pre.heard_length;
-        own_in = omega (arith, l.inv.long);
+        ready = part_ready a.seat.inputs a.table.now l.g l.i l.invariant.ahead
+            r.some_input inside n.result n.ensures a.triples.now a.heard.now l.wires l.invariant.long
+            r.triples_length c.requires.heard_length;
+        own_in = omega (arith, l.invariant.long);
       };
     }
 
-mark_requires : tie.Need-mark-requires invariant_loop decreases_loop
+mark_requires : tie.Need-mark-i-requires invariant_loop decreases_loop
 mark_requires c κs = refl
 
-add_i : tie.Need-overflow-add-i invariant_loop decreases_loop
+add_i : tie.Need-overflow_add-i invariant_loop decreases_loop
 add_i c =
-    let at = (loop_reached_from_mark c) in
-    let l = at.loop in
-    let s = (start_from_loop_reached at) in
-    let a = s.args in
-    let r = s.pre.pass in
-    let n = (numbers_at_from_mark c).numbers-at in
-    let h = (round_from_mark c).loop-test.taken in
+    let l = c.loop-g in
+    let a = c.args in
+    let r = c.requires.pass in
+    let n = c.numbers_at-gate in
+    let h = c.loop-g-test.true in
     let inside : l.g < length (gates_of a.table.now) = omega (arith, r.levels_length) in
     omega (
       arith,
       r.few,
       count_most (gates_of a.table.now),
-      mark_small a.seat.inputs a.table.now l.g l.i l.inv.ahead r.some_input inside n.result
-          n.ensures c.mark.result c.mark.ensures,
+      mark_small a.seat.inputs a.table.now l.g l.i l.invariant.ahead r.some_input inside n.result
+          n.ensures c.mark-i.result c.mark-i.ensures,
     )
 
-add_g : tie.Need-overflow-add-g invariant_loop decreases_loop
-add_g c = omega (arith, (round_from_mark c).loop-test.taken)
+add_g : tie.Need-overflow_add-g invariant_loop decreases_loop
+add_g c = omega (arith, c.loop-g-test.true)
 
-loop_less : tie.Need-loop-smaller invariant_loop decreases_loop
-loop_less c = omega (arith, (round_from_mark c).loop-test.taken)
+loop_less : tie.Need-loop-g-smaller invariant_loop decreases_loop
+loop_less c = omega (arith, c.loop-g-test.true)
 
-loop_again : tie.Need-loop-preserved invariant_loop decreases_loop
+loop_again : tie.Need-loop-g-preserved invariant_loop decreases_loop
 loop_again c =
-    let at = (loop_reached_from_mark c) in
-    let l = at.loop in
-    let s = (start_from_loop_reached at) in
-    let a = s.args in
-    let r = s.pre.pass in
-    let n = (numbers_at_from_mark c).numbers-at in
-    let h = (round_from_mark c).loop-test.taken in
+    let l = c.loop-g in
+    let a = c.args in
+    let r = c.requires.pass in
+    let n = c.numbers_at-gate in
+    let h = c.loop-g-test.true in
     let inside : l.g < length (gates_of a.table.now) = omega (arith, r.levels_length) in
     enter_turn (record {
       trustee = a.seat.trustee;
@@ -165,26 +126,22 @@ loop_again c =
       triples = a.triples.now;
       heard = a.heard.now;
     }) a.table.now a.wires.now l.wires
-    l.g l.i l.inv r.some_input inside n.result n.ensures
-    (rounds_from_mark c).rounds.result _ c.mark.result _ _ (rounds_from_mark c).rounds.ensures
-    c.before.before.before.before.enter-gate.ensures c.mark.ensures refl (add-one l.g)
+    l.g l.i l.invariant r.some_input inside n.result n.ensures
+    c.rounds-depth.result _ c.mark-i.result _ _ c.rounds-depth.ensures
+    c.enter_gate.ensures c.mark-i.ensures refl (add-one l.g)
 
-same_length : tie.Need-same-length invariant_loop decreases_loop
+same_length : tie.Need-shape_of-wires invariant_loop decreases_loop
 same_length c =
-    let at = c.before in
-    let l = at.loop in
-    let s = (start_from_loop_reached at) in
-    let a = s.args in
-    let r = s.pre.pass in
+    let l = c.loop-g in
+    let a = c.args in
+    let r = c.requires.pass in
     l.invariant.long ∙ sym r.wires_length
 
 returns : tie.Need-returns invariant_loop decreases_loop
 returns c =
-    let at = c.before in
-    let l = at.loop in
-    let s = (start_from_loop_reached at) in
-    let a = s.args in
-    let r = s.pre.pass in
+    let l = c.loop-g in
+    let a = c.args in
+    let r = c.requires.pass in
     enter_end (record {
       trustee = a.seat.trustee;
       round = a.seat.round;
@@ -194,7 +151,7 @@ returns c =
       triples = a.triples.now;
       heard = a.heard.now;
     }) a.table.now a.wires.now l.wires
-    l.g l.i l.invariant (omega (arith, r.levels_length, c.loop-test.false))
+    l.g l.i l.invariant (omega (arith, r.levels_length, c.loop-g-test.false))
 
 pub enter_spec : {M : Type 1} → statement M
 enter_spec =
