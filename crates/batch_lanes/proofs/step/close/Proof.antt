@@ -44,45 +44,44 @@ module _ (ws board last : List ℕ) (outputs shown : ℕ) (fits : outputs ≤ le
       ap (λ (l : List ℕ). take shown board ++ (last ++ l)) rest
       ∙ ap (λ (l : List ℕ). take shown board ++ l) (append-nil last ∙ e ∙ ap (λ (l : List ℕ). from ++ l) none ∙ append-nil from ∙ from_is)
 
-sub_first : tie.Need-overflow-sub-first
+sub_first : tie.Need-overflow_sub-first
 sub_first c = search rules
 
-mul_copy_words : tie.Need-overflow-mul-copy-words
+mul_copy_words : tie.Need-offset_bounds-wires-first
 mul_copy_words c = search rules
 
-sub_copy_words : tie.Need-overflow-sub-copy-words
+sub_copy_words : tie.Need-slice_bounds-copy_words-count
 sub_copy_words c = search rules
 
-part_copy_words_start : tie.Need-slice-bounds-copy-words-start
+part_copy_words_start : tie.Need-slice_bounds-copy_words-start
 part_copy_words_start c = search rules
 
-part_copy_words_end : tie.Need-slice-bounds-copy-words-end
+part_copy_words_end : tie.Need-slice_bounds-copy_words-end
 part_copy_words_end c = search rules
 
-mul_copy_words_2 : tie.Need-overflow-mul-copy-words-2
+mul_copy_words_2 : tie.Need-offset_bounds-board-shown
 mul_copy_words_2 c = search rules
 
-sub_copy_words_2 : tie.Need-overflow-sub-copy-words-2
+sub_copy_words_2 : tie.Need-slice_bounds-copy_words-count-2
 sub_copy_words_2 c = search rules
 
-part_copy_words_start_2 : tie.Need-slice-bounds-copy-words-start-2
+part_copy_words_start_2 : tie.Need-slice_bounds-copy_words-start-2
 part_copy_words_start_2 c = search rules
 
-part_copy_words_end_2 : tie.Need-slice-bounds-copy-words-end-2
+part_copy_words_end_2 : tie.Need-slice_bounds-copy_words-end-2
 part_copy_words_end_2 c = search rules
 
-copy_words_requires : tie.Need-copy-words-requires
+copy_words_requires : tie.Need-copy_words-requires
 copy_words_requires c κs = search rules
 
-same_length : tie.Need-same-length
+same_length : tie.Need-shape_of-board
 same_length c = search rules
 
 returns : tie.Need-returns
 unfolding from to
 returns c =
-    let s = c.before.before.before.before.before.before.before in
-    closed s.args.wires.now s.args.board.now c.before.before.copy-words.new.1.0
-    s.args.outputs s.args.shown s.requires.enough s.requires.room c.before.before.copy-words.ensures
+    closed c.args.wires.now c.args.board.now c.copy_words.new.to
+    c.args.outputs c.args.shown c.requires.enough c.requires.room c.copy_words.ensures
 
 pub close_spec : {M : Type 1} → statement M
 close_spec =

@@ -11,15 +11,15 @@ use Rattle.gates.proofs.Tests.{rest_eqb}
 use Rattle.batch_lanes.proofs.word.has_length.Statement.{statement}
 use Rattle.batch_lanes.proofs.word.has_length.Tie as tie
 
-sub_result : tie.Need-overflow-sub-result
+sub_result : tie.Need-overflow_sub-result
 sub_result c = search rules
 
-returns : tie.Need-returns
-returns c = let a = c.before.args in rest_eqb (length a.words.now) a.first a.second (omega arith)
+returns : tie.Need-returns-then-first-words
+returns c = let a = c.args in rest_eqb (length a.words.now) a.first a.second (omega arith)
 
-returns_2 : tie.Need-returns-2
+returns_2 : tie.Need-returns-else-first-words
 returns_2 c =
-    let a = c.before.args in
+    let a = c.args in
     sym (ne_eqb (length a.words.now) (a.first + a.second) (λ (h : length a.words.now ≡ a.first + a.second). omega arith))
 
 pub has_length_spec : {M : Type 1} → statement M
