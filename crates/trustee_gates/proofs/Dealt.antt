@@ -19,7 +19,7 @@ and_both : (a b : Bool) → (a && b) ≡ true → (a ≡ true) × (b ≡ true)
 and_both true b e = (refl, e)
 and_both false b e = let z : ◌≡◌ {A = ℕ} 0 1 = cc in absurd (omega arith)
 
-only_bits_lem : (xs : List ℕ) → only_bits xs ≡ true → Bits xs
+pub only_bits_lem : (xs : List ℕ) → only_bits xs ≡ true → Bits xs
 unfolding only_bits
 only_bits_lem xs e i = go (ltb i (length xs)) refl
   where

@@ -1,9 +1,10 @@
 -- Bits modulo 2.
 -- Assumes nothing.
-use mathlib.Core.Logic.{◌≢◌}
+use mathlib.Core.Logic.{◌≢◌, ⊎_elim}
 use mathlib.Core.Path.{◌≡◌, ◌∙◌, refl, sym, ap}
 use Prim.Native.Nat.{ℕ, zero, suc, ◌+◌, ◌*◌, ◌/◌, ◌%◌, ◌≤◌}
 use native.Mathlib.Omega.{arith}
+use Rattle.basics.proofs.Cases.{below_or_not}
 use Rattle.trustee_shares.specs.Shares.{entered, opened, sum_of}
 use Rattle.trustee_shares.proofs.Exchange.{reduced}
 
@@ -16,15 +17,27 @@ odd_times : (h b : ℕ) → (2 * h + 1) * b % 2 ≡ b % 2
 odd_times h zero = omega arith
 odd_times h (suc b) = omega (arith, odd_times h b)
 
-pub times_even : (a b : ℕ) → a % 2 ≡ 0 → 0 ≡ a * b % 2
+times_even : (a b : ℕ) → a % 2 ≡ 0 → 0 ≡ a * b % 2
 times_even a b e =
     let s : a ≡ 2 * (a / 2) = omega arith in
     sym (even_times (a / 2) b) ∙ ap (λ (n : ℕ). n * b % 2) (sym s)
 
-pub times_odd : (a b : ℕ) → a % 2 ≢ 0 → b % 2 ≡ a * b % 2
+times_odd : (a b : ℕ) → a % 2 ≢ 0 → b % 2 ≡ a * b % 2
 times_odd a b n =
     let s : a ≡ 2 * (a / 2) + 1 = omega arith in
     sym (odd_times (a / 2) b) ∙ ap (λ (n : ℕ). n * b % 2) (sym s)
+
+-- factors may be taken modulo 2
+pub times_mods : (a b : ℕ) → a % 2 * (b % 2) ≡ a * b % 2
+times_mods a b =
+    ⊎_elim
+    (λ l.
+    let e : a % 2 ≡ 0 = omega arith in
+    ap (λ (n : ℕ). n * (b % 2)) e ∙ omega (arith, times_even a b e))
+    (λ l.
+    let e : a % 2 ≡ 1 = omega arith in
+    ap (λ (n : ℕ). n * (b % 2)) e ∙ omega (arith, times_odd a b (λ z. omega arith)))
+    (below_or_not (a % 2) 1)
 
 -- a public bit may be taken modulo 2
 pub entered_mod : (p x : ℕ) → entered p (x % 2) % 2 ≡ entered p x % 2

@@ -9,11 +9,11 @@ pub(crate) fn plus(a: u8, b: u8) -> u8
     (a % 2 + b % 2) % 2
 }
 
-// The product of two bits.
+// The product of two bits. No branch depends on them.
 pub(crate) fn times(a: u8, b: u8) -> u8
     ensures { result ≡ (a * b) % 2 }
 {
-    if a % 2 == 0 { 0 } else { b % 2 }
+    (a % 2) * (b % 2)
 }
 
 // Trustee p's part of a public bit: the bit for the first trustee, 0 for the others.

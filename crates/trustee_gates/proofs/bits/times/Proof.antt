@@ -1,15 +1,15 @@
--- `trustee_gates::bits::times` meets its contract, by the parity of the first factor.
+-- `trustee_gates::bits::times` meets its contract: factors may be taken modulo 2.
 -- Assumes nothing.
 use native.Mathlib.Omega.{arith}
-use Rattle.trustee_gates.proofs.Parity.{times_even, times_odd}
+use Rattle.trustee_gates.proofs.Parity.{times_mods}
 use Rattle.trustee_gates.proofs.bits.times.Statement.{statement}
 use Rattle.trustee_gates.proofs.bits.times.Tie as tie
 
-returns : tie.Need-returns-then-a-eq0
-returns c = let a = c.args in times_even a.a a.b (omega arith)
+mul_result : tie.Need-overflow_mul-result
+mul_result c = omega (arith, times_mods c.args.a c.args.b)
 
-returns_2 : tie.Need-returns-else-a-eq0
-returns_2 c = let a = c.args in times_odd a.a a.b (λ e. omega arith)
+returns : tie.Need-returns
+returns c = times_mods c.args.a c.args.b
 
 pub times_spec : {M : Type 1} → statement M
-times_spec = tie.close (tie.spec returns returns_2)
+times_spec = tie.close (tie.spec mul_result returns)
