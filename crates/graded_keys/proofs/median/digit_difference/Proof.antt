@@ -17,18 +17,6 @@ use Rattle.graded_keys.proofs.median.digit_difference.Statement.{statement}
 use Rattle.graded_keys.proofs.median.digit_difference.Tie as tie
 
 -- the start, seen from the first sum
-abbrev from_first : tie.After-parity → tie.Start
-from_first c = c.before.before.before.before
-
--- The stages of the function, seen from later ones.
-abbrev parity_from_parity2 : tie.After-parity2 → tie.After-parity
-parity_from_parity2 c = c.before.before.before.before.before
-
-abbrev parity2_from_slice_known4 : tie.After-slice-known4 → tie.After-parity2
-parity2_from_slice_known4 c = c.before.before.before.before.before.before
-
-abbrev from_second : tie.After-parity2 → tie.After-parity
-from_second c = (parity_from_parity2 c)
 
 -- for each number: its first wire and the others are written, and its stride is small
 x_there : (s : tie.Start) → (s.args.x < s.args.w.wire)
@@ -42,83 +30,83 @@ y_there s = let a = s.args in first_of a.y a.step a.many a.w.wire s.requires.som
 near : (s : tie.Start) → s.args.step ≤ 2000
 near s = stride_most s.args.many s.args.step s.requires.some s.requires.ones.short
 
-sub_rest : tie.Need-overflow-sub-rest
-sub_rest c = omega (arith, c.before.requires.some)
+sub_rest : tie.Need-overflow_sub-rest
+sub_rest c = omega (arith, c.requires.some)
 
-chain_end_requires : tie.Need-chain-end-requires
-chain_end_requires c κs = omega (arith, c.before.requires.ones.room.small)
+chain_end_requires : tie.Need-chain_end-left-requires
+chain_end_requires c κs = omega (arith, c.requires.ones.room.small)
 
-add_parity : tie.Need-overflow-add-parity
-add_parity c = let s = c.before.before.before in omega (arith, (x_there s).0, near s, s.requires.ones.room.small)
+add_parity : tie.Need-overflow_add-x
+add_parity c = let s = c in omega (arith, (x_there s.before.before.before).0, near s.before.before.before, s.requires.ones.room.small)
 
-parity_requires : tie.Need-parity-requires
+parity_requires : tie.Need-parity-first-requires
 parity_requires c κs =
-    let s = c.before.before.before in
+    let s = c in
     let a = s.args in
     record {
       room = room_less a.w _ (difference_span a.many) (omega arith) s.requires.ones.room;
-      below = below_stride a.w.wire (a.x + a.step) a.step (a.many - 1) (x_there s).1;
-      near = omega (arith, near s);
+      below = below_stride a.w.wire (a.x + a.step) a.step (a.many - 1) (x_there s.before.before.before).1;
+      near = omega (arith, near s.before.before.before);
     }
 
-first : (c : tie.After-parity) → let s = from_first c in
-    Stands c.parity.result (s.args.w.wire + (s.args.many - 1)) (s.args.many - 1 + 1)
+first : (c : tie.After-parity-first) → let s = c in
+    Stands c.parity-first.result (s.args.w.wire + (s.args.many - 1)) (s.args.many - 1 + 1)
 first c =
-    let s = from_first c in
+    let s = c in
     let a = s.args in
-    stands_after a.w a.table.now _ c.parity.new.1.0 c.parity.result _ _ _ c.parity.ensures
+    stands_after a.w a.table.now _ c.parity-first.new.table c.parity-first.result _ _ _ c.parity-first.ensures
     (length_chain 6 a.w.wire a.x (a.x + a.step) a.step (a.many - 1))
-    (stands a.w a.w.wire _ _ refl (omega arith) s.pre.ones.room)
+    (stands a.w a.w.wire _ _ refl (omega arith) s.requires.ones.room)
 
-chain_end_requires_2 : tie.Need-chain-end-requires-2
-chain_end_requires_2 c κs = let h = c.before.before in omega (arith, (first h).left.small)
+chain_end_requires_2 : tie.Need-chain_end-right-requires
+chain_end_requires_2 c κs = let h = c in omega (arith, (first h.before.before).left.small)
 
-add_parity_2 : tie.Need-overflow-add-parity-2
-add_parity_2 c = let s = from_first c.before.before.before.before in omega (arith, (y_there s).0, near s, s.pre.ones.room.small)
+add_parity_2 : tie.Need-overflow_add-y
+add_parity_2 c = let s = c in omega (arith, (y_there s.before.before.before.before.before.before.before.before).0, near s.before.before.before.before.before.before.before.before, s.requires.ones.room.small)
 
-parity_requires_2 : tie.Need-parity-requires-2
+parity_requires_2 : tie.Need-parity-second-requires
 parity_requires_2 c κs =
-    let h = c.before.before.before.before in
-    let s = from_first h in
+    let h = c in
+    let s = h in
     let a = s.args in
     record {
-      room = room_of h.parity.result _ _ _ (first h) (omega arith);
-      below = below_stride h.parity.result.wire (a.y + a.step) a.step (a.many - 1) (omega (arith, (y_there s).1, (first h).place));
-      near = omega (arith, near s);
+      room = room_of h.parity-first.result _ _ _ (first h.before.before.before.before) (omega arith);
+      below = below_stride h.parity-first.result.wire (a.y + a.step) a.step (a.many - 1) (omega (arith, (y_there s.before.before.before.before.before.before.before.before).1, (first h.before.before.before.before).place));
+      near = omega (arith, near s.before.before.before.before.before.before.before.before);
     }
 
-second : (c : tie.After-parity2) → let s = from_first (from_second c) in
-    Stands c.parity2.result (differ_at s.args.w.wire s.args.many) 1
+second : (c : tie.After-parity-second) → let s = c in
+    Stands c.parity-second.result (differ_at s.args.w.wire s.args.many) 1
 second c =
-    let h = from_second c in
-    let a = (from_first h).args in
-    stands_after h.parity.result h.parity.last.1.0 _ c.parity2.new.1.0 c.parity2.result _ _ _
-    c.parity2.ensures (length_chain 6 h.parity.result.wire a.y (a.y + a.step) a.step (a.many - 1))
-    (first h)
+    let h = c in
+    let a = h.args in
+    stands_after h.parity-first.result h.parity-first.new.table _ c.parity-second.new.table c.parity-second.result _ _ _
+    c.parity-second.ensures (length_chain 6 h.parity-first.result.wire a.y (a.y + a.step) a.step (a.many - 1))
+    (first h.before.before.before.before.before)
 
 emit_requires : tie.Need-emit-requires
 emit_requires c κs = (second c.before.before.before).left
 
-same_length : tie.Need-same-length
+same_length : tie.Need-shape_of-table
 same_length c = search rules
 
 returns : tie.Need-returns
 unfolding digit_difference
 returns c =
-    let e = c.before.before.emit in
-    let k = (parity2_from_slice_known4 c) in
-    let h = from_second k in
-    let s = from_first h in
+    let e = c.emit in
+    let k = c in
+    let h = k in
+    let s = h in
     let a = s.args in
     let n = a.w.wire in
     let m = a.many in
-    let left = h.before.before.chain-end in
-    let right = k.before.before.chain-end2 in
-    let place : h.parity.result.wire ≡ n + (m - 1) = (first h).place in
-    wrote_then a.w a.table.now _ k.parity2.last.1.0 k.parity2.result _ _ e.new.1.0 e.result
-    (wrote_then a.w a.table.now _ h.parity.last.1.0 h.parity.result _ _ k.parity2.last.1.0 k.parity2.result
-    h.parity.ensures k.parity2.ensures (ap (λ (i : ℕ). parity i a.y (a.y + a.step) a.step (m - 1)) place))
-    (xor_wrote k.parity2.result k.parity2.last.1.0 e.new.1.0 e.result left.result right.result 0 e.ensures)
+    let left = h.chain_end-left in
+    let right = k.chain_end-right in
+    let place : h.parity-first.result.wire ≡ n + (m - 1) = (first h.before.before.before.before.before.before.before.before.before.before.before).place in
+    wrote_then a.w a.table.now _ k.parity-second.new.table k.parity-second.result _ _ e.new.table e.result
+    (wrote_then a.w a.table.now _ h.parity-first.new.table h.parity-first.result _ _ k.parity-second.new.table k.parity-second.result
+    h.parity-first.ensures k.parity-second.ensures (ap (λ (i : ℕ). parity i a.y (a.y + a.step) a.step (m - 1)) place))
+    (xor_wrote k.parity-second.result k.parity-second.new.table e.new.table e.result left.result right.result 0 e.ensures)
     (one_gate 6 left.ensures (right.ensures ∙ ap (λ (i : ℕ). chain_end i a.y (m - 1)) place) refl)
 
 pub digit_difference_spec : {M : Type 1} → statement M

@@ -13,33 +13,33 @@ use Rattle.graded_keys.proofs.median.ones_differ.Tie as tie
 inside : (s : tie.Start) → differ_at s.args.n s.args.count + 1 ≤ s.args.end
 inside s = omega (arith, s.requires.span, ones_span_lem s.args.count s.args.above)
 
-sub_result : tie.Need-overflow-sub-result
-sub_result c = omega (arith, c.before.requires.some)
+sub_result : tie.Need-overflow_sub-result
+sub_result c = omega (arith, c.requires.some)
 
-add_result : tie.Need-overflow-add-result
-add_result c = omega (arith, inside c.before, c.before.requires.small)
+add_result : tie.Need-overflow_add-result
+add_result c = omega (arith, inside c.before, c.requires.small)
 
-sub_result_2 : tie.Need-overflow-sub-result-2
-sub_result_2 c = omega (arith, c.before.requires.some)
+sub_result_2 : tie.Need-overflow_sub-result-then-above-eq0
+sub_result_2 c = omega (arith, c.requires.some)
 
-add_result_2 : tie.Need-overflow-add-result-2
-add_result_2 c = omega (arith, inside c.before, c.before.requires.small)
+add_result_2 : tie.Need-overflow_add-result-then-above-eq0
+add_result_2 c = omega (arith, inside c.before, c.requires.small)
 
-returns : tie.Need-returns
-returns c = let a = c.before.args in
-    sym (differ_single (a.n + ones_span a.count a.above) (differ_at a.n a.count) a.above c.if1.true)
+returns : tie.Need-returns-then-above-eq0
+returns c = let a = c.args in
+    sym (differ_single (a.n + ones_span a.count a.above) (differ_at a.n a.count) a.above c.if-above-eq0.true)
 
-sub_result_3 : tie.Need-overflow-sub-result-3
+sub_result_3 : tie.Need-overflow_sub-result-2
 sub_result_3 c =
-    let a = c.before.args in
-    omega (arith, c.before.requires.span, some_later a.count a.above c.if1.false)
+    let a = c.args in
+    omega (arith, c.requires.span, some_later a.count a.above c.if-above-eq0.false)
 
-returns_2 : tie.Need-returns-2
+returns_2 : tie.Need-returns
 returns_2 c =
-    let a = c.before.args in
-    ap (λ (k : ℕ). k - 2) c.before.requires.span
+    let a = c.args in
+    ap (λ (k : ℕ). k - 2) c.requires.span
     ∙ sym (differ_several (a.n + ones_span a.count a.above) (differ_at a.n a.count) a.above
-    c.if1.false)
+    c.if-above-eq0.false)
 
 pub ones_differ_spec : {M : Type 1} → statement M
 ones_differ_spec = tie.close (tie.spec sub_result add_result sub_result_2 add_result_2 returns sub_result_3 returns_2)

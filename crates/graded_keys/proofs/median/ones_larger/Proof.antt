@@ -9,30 +9,30 @@ use Rattle.graded_keys.proofs.Steps.{larger_single, larger_several, some_later}
 use Rattle.graded_keys.proofs.median.ones_larger.Statement.{statement}
 use Rattle.graded_keys.proofs.median.ones_larger.Tie as tie
 
-sub_chain_end : tie.Need-overflow-sub-chain-end
-sub_chain_end c = omega (arith, c.before.requires.some)
+sub_chain_end : tie.Need-overflow_sub-count
+sub_chain_end c = omega (arith, c.requires.some)
 
-chain_end_requires : tie.Need-chain-end-requires
-chain_end_requires c κs = let a = c.before.args in
-    omega (arith, c.before.requires.span, c.before.requires.small, ones_span_lem a.count a.above)
+chain_end_requires : tie.Need-chain_end-requires
+chain_end_requires c κs = let a = c.args in
+    omega (arith, c.requires.span, c.requires.small, ones_span_lem a.count a.above)
 
-returns : tie.Need-returns
+returns : tie.Need-returns-then-above-eq0
 returns c =
-    let a = c.before.before.args in
-    c.chain-end.ensures ∙ sym (larger_single (a.n + ones_span a.count a.above)
-    (left_digit a.n a.x a.count) a.above c.before.if1.true)
+    let a = c.args in
+    c.chain_end.ensures ∙ sym (larger_single (a.n + ones_span a.count a.above)
+    (left_digit a.n a.x a.count) a.above c.if-above-eq0.true)
 
-sub_result : tie.Need-overflow-sub-result
+sub_result : tie.Need-overflow_sub-result
 sub_result c =
-    let a = c.before.args in
-    omega (arith, c.before.requires.span, some_later a.count a.above c.if1.false)
+    let a = c.args in
+    omega (arith, c.requires.span, some_later a.count a.above c.if-above-eq0.false)
 
-returns_2 : tie.Need-returns-2
+returns_2 : tie.Need-returns
 returns_2 c =
-    let a = c.before.args in
-    ap (λ (k : ℕ). k - 1) c.before.requires.span
+    let a = c.args in
+    ap (λ (k : ℕ). k - 1) c.requires.span
     ∙ sym (larger_several (a.n + ones_span a.count a.above) (left_digit a.n a.x a.count)
-    a.above c.if1.false)
+    a.above c.if-above-eq0.false)
 
 pub ones_larger_spec : {M : Type 1} → statement M
 ones_larger_spec = tie.close (tie.spec sub_chain_end chain_end_requires returns sub_result returns_2)

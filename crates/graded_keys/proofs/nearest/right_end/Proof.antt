@@ -8,58 +8,58 @@ use Rattle.graded_keys.proofs.Steps.{product_most, right_some, right_none}
 use Rattle.graded_keys.proofs.nearest.right_end.Statement.{statement}
 use Rattle.graded_keys.proofs.nearest.right_end.Tie as tie
 
-returns : tie.Need-returns
+returns : tie.Need-returns-then-count-eq0
 returns c =
-    right_none c.before.args.n c.before.args.v c.before.args.above c.before.args.count c.if1.true
+    right_none c.args.n c.args.v c.args.above c.args.count c.if-count-eq0.true
 
 -- the choices before the last one have at most 80 gates
 
-small : (c : tie.Else1) → ((c.before.args.count - 1) * (2 * c.before.args.above + 2) ≤ 80)
-    × ((c.before.args.count - 1) * (2 * c.before.args.above + 2) ≡ (c.before.args.count - 1)
-    * either_span c.before.args.above) × (0 < c.before.args.count)
+small : (c : tie.Else-count-eq0) → ((c.args.count - 1) * (2 * c.args.above + 2) ≤ 80)
+    × ((c.args.count - 1) * (2 * c.args.above + 2) ≡ (c.args.count - 1)
+    * either_span c.args.above) × (0 < c.args.count)
 small c =
-    let a = c.before.args in
+    let a = c.args in
     let k : 2 * a.above + 2 ≡ either_span a.above = omega arith in
     let p : (a.count - 1) * (2 * a.above + 2) ≤ 5 * 16 =
-    product_most (a.count - 1) (2 * a.above + 2) 5 16 (omega (arith, c.before.requires))
-    (omega (arith, c.before.requires)) in
-    (omega arith, ap (λ (j : ℕ). (a.count - 1) * j) k, omega (arith, c.if1.false))
+    product_most (a.count - 1) (2 * a.above + 2) 5 16 (omega (arith, c.requires))
+    (omega (arith, c.requires)) in
+    (omega arith, ap (λ (j : ℕ). (a.count - 1) * j) k, omega (arith, c.if-count-eq0.false))
 
-sub_result : tie.Need-overflow-sub-result
+sub_result : tie.Need-overflow_sub-result
 sub_result c =
-    omega (arith, c.if1.false)
+    omega (arith, c.if-count-eq0.false)
 
-mul_result : tie.Need-overflow-mul-result
+mul_result : tie.Need-overflow_mul-result
 mul_result c =
-    omega (arith, c.before.requires)
+    omega (arith, c.requires)
 
-add_result : tie.Need-overflow-add-result
+add_result : tie.Need-overflow_add-result
 add_result c =
-    omega (arith, c.before.requires)
+    omega (arith, c.requires)
 
-mul_result_2 : tie.Need-overflow-mul-result-2
+mul_result_2 : tie.Need-overflow_mul-result-2
 mul_result_2 c =
     omega (arith, small c)
 
-add_result_2 : tie.Need-overflow-add-result-2
+add_result_2 : tie.Need-overflow_add-result-2
 add_result_2 c =
-    omega (arith, small c, c.before.requires)
+    omega (arith, small c, c.requires)
 
-add_result_3 : tie.Need-overflow-add-result-3
+add_result_3 : tie.Need-overflow_add-result-3
 add_result_3 c =
-    omega (arith, small c, c.before.requires)
+    omega (arith, small c, c.requires)
 
-add_result_4 : tie.Need-overflow-add-result-4
+add_result_4 : tie.Need-overflow_add-result-4
 add_result_4 c =
-    omega (arith, small c, c.before.requires)
+    omega (arith, small c, c.requires)
 
-returns_2 : tie.Need-returns-2
+returns_2 : tie.Need-returns
 returns_2 c =
     omega (
       arith,
       (small c).1,
-      right_some c.before.args.n c.before.args.v c.before.args.above
-          c.before.args.count (small c).2,
+      right_some c.args.n c.args.v c.args.above
+          c.args.count (small c).2,
     )
 
 pub right_end_spec : {M : Type 1} → statement M

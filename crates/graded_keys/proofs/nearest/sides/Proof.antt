@@ -11,54 +11,54 @@ use Rattle.graded_keys.proofs.nearest.sides.Statement.{statement}
 use Rattle.graded_keys.proofs.nearest.sides.Tie as tie
 use Rattle.basics.proofs.Arithmetic.{one_less}
 
-abbrev invariant_loop : tie.invariant-loop
+abbrev invariant_loop : tie.invariant-loop-more
 invariant_loop table₀ x y above high count next₀ left₀ right₀ more₀ table next left right more =
     (left + more * stride above ≤ next.wire) × (right + more * stride above ≤ next.wire)
     × Goes next₀ table₀ (sides next₀.wire x y above high count) next table
     (sides next.wire left right above high more)
 
-abbrev decreases_loop : tie.decreases-loop
+abbrev decreases_loop : tie.decreases-loop-more
 decreases_loop table₀ x y above high count next₀ left₀ right₀ more₀ table next left right more = more
 
-loop_holds : tie.Need-loop-init invariant_loop decreases_loop
+loop_holds : tie.Need-loop-more-init invariant_loop decreases_loop
 loop_holds c =
-    let q = c.before.requires in (
+    let q = c.requires in (
       q.first_below,
       q.second_below,
-      goes_start c.before.args.w c.before.args.table.now
-          (sides c.before.args.w.wire c.before.args.x c.before.args.y c.before.args.above
-          c.before.args.high c.before.args.count)
-          (c.before.args.count * side_span c.before.args.above) c.before.requires.room,
+      goes_start c.args.w c.args.table.now
+          (sides c.args.w.wire c.args.x c.args.y c.args.above
+          c.args.high c.args.count)
+          (c.args.count * side_span c.args.above) c.requires.room,
     )
 
 -- the next words are before the writer's wire
 
-there : (c : tie.In-loop invariant_loop decreases_loop)
-    → (c.before.loop.left + stride c.before.before.before.args.above ≤ c.before.loop.next.wire)
-    × (c.before.loop.right + stride c.before.before.before.args.above ≤ c.before.loop.next.wire)
+there : (c : tie.In-loop-more invariant_loop decreases_loop)
+    → (c.loop-more.left + stride c.args.above ≤ c.loop-more.next.wire)
+    × (c.loop-more.right + stride c.args.above ≤ c.loop-more.next.wire)
 there c =
-    let e = one_less c.before.loop.more (stride c.before.before.before.args.above) c.loop-test.true in
-    (omega (arith, c.before.loop.invariant.0), omega (arith, c.before.loop.invariant.1))
+    let e = one_less c.loop-more.more (stride c.args.above) c.loop-more-test.true in
+    (omega (arith, c.loop-more.invariant.0), omega (arith, c.loop-more.invariant.1))
 
-wires_left : (c : tie.In-loop invariant_loop decreases_loop) → c.before.loop.next.wire + c.before.loop.more
-    * side_span c.before.before.before.args.above ≡ c.before.before.before.args.w.wire
-    + c.before.before.before.args.count * side_span c.before.before.before.args.above
+wires_left : (c : tie.In-loop-more invariant_loop decreases_loop) → c.loop-more.next.wire + c.loop-more.more
+    * side_span c.args.above ≡ c.args.w.wire
+    + c.args.count * side_span c.args.above
 wires_left c =
-    let l = c.before.loop in
-    let a = c.before.before.before.args in
+    let l = c.loop-more in
+    let a = c.args in
     omega (
       arith,
       l.invariant.2.wire_left,
       (sides_block l.next.wire l.left l.right a.above a.high l.more
-          c.before.before.before.requires.cut l.invariant.0 l.invariant.1).long,
-      (sides_block a.w.wire a.x a.y a.above a.high a.count c.before.before.before.requires.cut
-          c.before.before.before.requires.first_below c.before.before.before.requires.second_below).long,
+          c.requires.cut l.invariant.0 l.invariant.1).long,
+      (sides_block a.w.wire a.x a.y a.above a.high a.count c.requires.cut
+          c.requires.first_below c.requires.second_below).long,
     )
 
-side_flags_requires : tie.Need-side-flags-requires invariant_loop decreases_loop
+side_flags_requires : tie.Need-side_flags-next-requires invariant_loop decreases_loop
 side_flags_requires c κs =
-    let a = c.before.before.before.before.args in
-    let l = c.before.before.loop in
+    let a = c.args in
+    let l = c.loop-more in
     record {
       room = goes_room a.w a.table.now (sides a.w.wire a.x a.y a.above a.high a.count)
           l.next l.table (sides l.next.wire l.left l.right a.above a.high l.more) _
@@ -66,103 +66,96 @@ side_flags_requires c κs =
           (omega (
             arith,
             (sides_block l.next.wire l.left l.right a.above a.high l.more
-                c.before.before.before.before.requires.cut l.invariant.0 l.invariant.1).long,
-            one_less l.more (side_span a.above) c.before.loop-test.true,
+                c.requires.cut l.invariant.0 l.invariant.1).long,
+            one_less l.more (side_span a.above) c.loop-more-test.true,
           ))
           (omega (
             arith,
             (sides_block a.w.wire a.x a.y a.above a.high a.count
-                c.before.before.before.before.requires.cut c.before.before.before.before.requires.first_below
-                c.before.before.before.before.requires.second_below).long,
+                c.requires.cut c.requires.first_below
+                c.requires.second_below).long,
           ))
-          c.before.before.before.before.requires.room;
+          c.requires.room;
       first_below = (there c.before).0;
       second_below = (there c.before).1;
-      cut = c.before.before.before.before.requires.cut;
+      cut = c.requires.cut;
     }
 
--- The stages of the function, seen from later ones.
-abbrev start_from_side_flags : tie.After-side-flags invariant_loop decreases_loop → tie.Start invariant_loop decreases_loop
-start_from_side_flags c = c.before.before.before.before.before
-
-abbrev loop_reached_from_slice_known2 : tie.After-slice-known2 invariant_loop decreases_loop → tie.At-loop invariant_loop decreases_loop
-loop_reached_from_slice_known2 c = c.before.before.before.before.before
-
-add_left : tie.Need-overflow-add-left invariant_loop decreases_loop
+add_left : tie.Need-overflow_add-left invariant_loop decreases_loop
 add_left c =
-    omega (arith, (start_from_side_flags c.before.before).pre)
+    omega (arith, c.requires)
 
-add_left_2 : tie.Need-overflow-add-left-2 invariant_loop decreases_loop
+add_left_2 : tie.Need-overflow_add-left-in-loop-more invariant_loop decreases_loop
 add_left_2 c =
     omega (
       arith,
       there c.before.before.before.before,
       wires_left c.before.before.before.before,
-      (start_from_side_flags c.before.before).pre.room.small,
+      c.requires.room.small,
     )
 
-add_right : tie.Need-overflow-add-right invariant_loop decreases_loop
+add_right : tie.Need-overflow_add-right invariant_loop decreases_loop
 add_right c =
-    omega (arith, (start_from_side_flags c.before.before).pre)
+    omega (arith, c.requires)
 
-add_right_2 : tie.Need-overflow-add-right-2 invariant_loop decreases_loop
+add_right_2 : tie.Need-overflow_add-right-in-loop-more invariant_loop decreases_loop
 add_right_2 c =
     omega (
       arith,
       there c.before.before.before.before,
       wires_left c.before.before.before.before,
-      (start_from_side_flags c.before.before).pre.room.small,
+      c.requires.room.small,
     )
 
-sub_more : tie.Need-overflow-sub-more invariant_loop decreases_loop
+sub_more : tie.Need-overflow_sub-more invariant_loop decreases_loop
 sub_more c =
-    omega (arith, c.before.before.before.before.loop-test.true)
+    omega (arith, c.loop-more-test.true)
 
-loop_less : tie.Need-loop-smaller invariant_loop decreases_loop
+loop_less : tie.Need-loop-more-smaller invariant_loop decreases_loop
 loop_less c =
-    omega (arith, c.before.before.before.before.loop-test.true)
+    omega (arith, c.loop-more-test.true)
 
-loop_again : tie.Need-loop-preserved invariant_loop decreases_loop
+loop_again : tie.Need-loop-more-preserved invariant_loop decreases_loop
 loop_again c =
-    let a = (start_from_side_flags c.before.before).args in
-    let l = (loop_reached_from_slice_known2 c).loop in
-    let t = c.before.before.before.before.loop-test.true in
-    let h = c.before.before.side-flags in
+    let a = c.args in
+    let l = c.loop-more in
+    let t = c.loop-more-test.true in
+    let h = c.side_flags-next in
     let ends : h.result.wire ≡ l.next.wire + side_span a.above =
     omega (
       arith,
       h.ensures.wires,
       (side_flags_block l.next.wire l.left l.right a.above a.high
-          (start_from_side_flags c.before.before).pre.cut
+          c.requires.cut
           (omega (arith, there c.before.before.before.before))
           (omega (arith, there c.before.before.before.before))).long,
     ) in
     let e : stride a.above ≡ a.above + 2 = refl in (
-      omega (arith, l.inv.0, one_less l.more (stride a.above) t),
-      omega (arith, l.inv.1, one_less l.more (stride a.above) t),
+      omega (arith, l.invariant.0, one_less l.more (stride a.above) t),
+      omega (arith, l.invariant.1, one_less l.more (stride a.above) t),
       goes_as a.w a.table.now (sides a.w.wire a.x a.y a.above a.high a.count) h.result
-          h.new.1.0 _ _
+          h.new.table _ _
           (ap (λ (k : ℕ). sides k (l.left + (a.above + 2)) (l.right + (a.above + 2)) a.above a.high
           (l.more - 1)) (sym ends))
           (goes_on a.w a.table.now (sides a.w.wire a.x a.y a.above a.high a.count)
-          l.next l.table _ _ h.new.1.0 h.result
+          l.next l.table _ _ h.new.table h.result
           (goes_as a.w a.table.now (sides a.w.wire a.x a.y a.above a.high a.count)
           l.next l.table _ _ (sides_step l.next.wire l.left l.right a.above a.high l.more
-          t) l.inv.2)
+          t) l.invariant.2)
           h.ensures),
     )
 
-same_length : tie.Need-same-length invariant_loop decreases_loop
+same_length : tie.Need-shape_of-table invariant_loop decreases_loop
 same_length c =
-    c.before.loop.invariant.2.long
+    c.loop-more.invariant.2.long
 
 returns : tie.Need-returns invariant_loop decreases_loop
 returns c =
-    let a = c.before.before.before.args in
-    let l = c.before.loop in
+    let a = c.args in
+    let l = c.loop-more in
     goes_end a.w a.table.now (sides a.w.wire a.x a.y a.above a.high a.count) l.next
     l.table _ (sides_none l.next.wire l.left l.right a.above a.high l.more
-    c.loop-test.false) l.invariant.2
+    c.loop-more-test.false) l.invariant.2
 
 pub sides_spec : {M : Type 1} → statement M
 sides_spec = tie.close (tie.spec invariant_loop decreases_loop loop_holds side_flags_requires add_left add_left_2 add_right
