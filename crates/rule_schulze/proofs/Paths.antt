@@ -15,14 +15,12 @@ use Rattle.basics.proofs.Cases.{same_or_not, below_or_not}
 use Rattle.basics.proofs.Tabulate.{length_tabulate}
 use Rattle.rule_schulze.specs.Schulze.{weakest, all_candidates, without, simple_paths, strongest}
 use Rattle.rule_schulze.specs.Closure.{detour, closure}
-use Rattle.rule_schulze.specs.Winner.{On, Distinct, SimplePath, Strongest}
+use Rattle.rule_schulze.specs.Winner.{On, Distinct, EachLink, SimplePath, Strongest}
 use Rattle.rule_schulze.proofs.Members.{on_or_not, in_map, of_map, in_without, of_without, without_most, in_candidates, of_candidates, of_selections, in_selections, maximum_largest, maximum_of}
 
 module _ (s : ℕ → ℕ → ℕ) where
-  -- each link on the path from i over these candidates to j is at least T
   abbrev pub Via : ℕ → ℕ → List ℕ → ℕ → Type 0
-  Via T i [] j = T ≤ s i j
-  Via T i (l ∷ q) j = (T ≤ s i l) × Via T l q j
+  Via = EachLink s
 
   pub via_strong : (T i : ℕ) (q : List ℕ) (j : ℕ) → T ≤ weakest s i q j → Via T i q j
   unfolding weakest

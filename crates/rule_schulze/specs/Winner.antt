@@ -17,6 +17,11 @@ pub record SimplePath (k i : ℕ) (between : List ℕ) (j : ℕ) : Type 0 where
   pub below : (x : ℕ) → On x between → x < k
   pub once : Distinct (i ∷ j ∷ between)
 
+-- Each link of the path from i over `between` to j has at least the strength x. s has the strengths of the links.
+abbrev pub EachLink : (ℕ → ℕ → ℕ) → ℕ → ℕ → List ℕ → ℕ → Type 0
+EachLink s x i [] j = x ≤ s i j
+EachLink s x i (l ∷ between) j = (x ≤ s i l) × EachLink s x l between j
+
 -- Some such path from i to j has the strength x, and none is stronger. s has the strengths of the links.
 pub record Strongest (s : ℕ → ℕ → ℕ) (k i j x : ℕ) : Type 0 where
   pub attained : (between : List ℕ) × SimplePath k i between j × (weakest s i between j ≡ x)
