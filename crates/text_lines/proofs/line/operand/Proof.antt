@@ -5,7 +5,6 @@ use mathlib.Core.Bool.{Bool, true}
 use Prim.Native.Nat.{ℕ}
 use native.Mathlib.Numerals.{add-one}
 use lib.ListN.{drop}
-use borrow.Author.Tests.{not-true, not-false}
 use Rattle.text_lines.specs.Decimal.{number_in}
 use Rattle.text_lines.specs.Line.{operand_in}
 use Rattle.text_lines.specs.inner.Found.{number_found}
@@ -14,61 +13,54 @@ use borrow.Author.Rules.{rules}
 use Rattle.text_lines.proofs.line.operand.Statement.{statement}
 use Rattle.text_lines.proofs.line.operand.Tie as tie
 
-returns : tie.Need-returns
+returns : tie.Need-returns-then-not-used
 unfolding number_found operand_in
 returns c =
-    let a = c.before.before.args in
+    let a = c.args in
     record {
-      found = sym (ap (λ (u : Bool). operand_in u (drop a.at a.text.now)) (not-true a.used c.if1.true));
-      within = c.before.before.requires;
+      found = sym (ap (λ (u : Bool). operand_in u (drop a.at a.text.now)) (c.if-not-used.true));
+      within = c.requires;
     }
 
 -- from here on the operand is in use
-in_use : (c : tie.Else1) → operand_in c.before.before.args.used
-    (drop c.before.before.args.at c.before.before.args.text.now)
-    ≡ operand_in true (drop c.before.before.args.at c.before.before.args.text.now)
-in_use c = ap (λ (u : Bool). operand_in u (drop c.before.before.args.at c.before.before.args.text.now))
-    (not-false c.before.before.args.used c.if1.false)
+in_use : (c : tie.Else-not-used) → operand_in c.args.used
+    (drop c.args.at c.args.text.now)
+    ≡ operand_in true (drop c.args.at c.args.text.now)
+in_use c = ap (λ (u : Bool). operand_in u (drop c.args.at c.args.text.now))
+    (c.if-not-used.false)
 
-returns_2 : tie.Need-returns-2
+returns_2 : tie.Need-returns-then-text-at
 unfolding number_found
 returns_2 c =
-    let a = c.before.before.before.args in
-    record { found = sym (in_use c.before ∙ operand_none a.text.now a.at c.if2.true); within = tt }
+    let a = c.args in
+    record { found = sym (in_use c.before ∙ operand_none a.text.now a.at c.if-text-at.true); within = tt }
 
-shared_slice_read_if3 : tie.Need-shared-slice-read-if3
+shared_slice_read_if3 : tie.Need-bounds-text-at
 shared_slice_read_if3 c = search rules
 
--- The stages of the function, seen from later ones.
-abbrev start_from_then3 : tie.Then3 → tie.Start
-start_from_then3 c = c.before.before.before.before.before
-
-abbrev start_from_number : tie.After-number → tie.Start
-start_from_number c = c.before.before.before.before.before.before
-
-returns_3 : tie.Need-returns-3
+returns_3 : tie.Need-returns-then-text-at-ne-SPACE
 unfolding number_found
 returns_3 c =
-    let a = (start_from_then3 c).args in
+    let a = c.args in
     record {
       found = sym (in_use c.before.before.before
-          ∙ operand_other a.text.now a.at c.before.before.if2.false c.if3.true);
+          ∙ operand_other a.text.now a.at c.if-text-at.false c.if-text-at-ne-SPACE.true);
       within = tt;
     }
 
-add_number : tie.Need-overflow-add-number
+add_number : tie.Need-overflow_add-at
 add_number c = search rules
 
 number_requires : tie.Need-number-requires
 number_requires c κs = search rules
 
-returns_4 : tie.Need-returns-4
+returns_4 : tie.Need-returns
 returns_4 c =
-    let a = (start_from_number c).args in
+    let a = c.args in
     record {
       found = c.number.ensures.found ∙ ap (λ (k : ℕ). number_in (drop k a.text.now)) (add-one a.at)
           ∙ sym (in_use c.before.before.before.before
-          ∙ operand_number a.text.now a.at c.before.before.before.if2.false c.before.if3.false);
+          ∙ operand_number a.text.now a.at c.if-text-at.false c.if-text-at-ne-SPACE.false);
       within = c.number.ensures.within;
     }
 

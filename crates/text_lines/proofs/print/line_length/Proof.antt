@@ -8,67 +8,63 @@ use borrow.Author.Rules.{rules}
 use Rattle.text_lines.proofs.print.line_length.Statement.{statement}
 use Rattle.text_lines.proofs.print.line_length.Tie as tie
 
-operands_requires : tie.Need-operands-requires
+operands_requires : tie.Need-operands-count-requires
 operands_requires c κs = search rules
 
-count_requires : tie.Need-count-requires
+count_requires : tie.Need-count-kind_length-requires
 count_requires c κs = search rules
 
-operand_length_requires : tie.Need-operand-length-requires
+operand_length_requires : tie.Need-operand_length-a_length-requires
 operand_length_requires c κs = search rules
 
-operand_length_requires_2 : tie.Need-operand-length-requires-2
+operand_length_requires_2 : tie.Need-operand_length-b_length-requires
 operand_length_requires_2 c κs = search rules
 
-operand_length_requires_3 : tie.Need-operand-length-requires-3
+operand_length_requires_3 : tie.Need-operand_length-c_length-requires
 operand_length_requires_3 c κs = search rules
 
 -- bounds for the lengths of the parts
-record Short (c : tie.After-operand-length3) : Type 0 where
-  kind : c.before.before.before.count.result ≤ 10
-  a : c.before.before.operand-length.result ≤ 11
-  b : c.before.operand-length2.result ≤ 11
-  c' : c.operand-length3.result ≤ 11
+record Short (c : tie.After-operand_length-c_length) : Type 0 where
+  kind : c.count-kind_length.result ≤ 10
+  a : c.operand_length-a_length.result ≤ 11
+  b : c.operand_length-b_length.result ≤ 11
+  c' : c.operand_length-c_length.result ≤ 11
 
--- The stages of the function, seen from later ones.
-abbrev start_from_operand_length3 : tie.After-operand-length3 → tie.Start
-start_from_operand_length3 c = c.before.before.before.before.before.before
-
-short : (c : tie.After-operand-length3) → Short c
+short : (c : tie.After-operand_length-c_length) → Short c
 short c =
-    let s = (start_from_operand_length3 c).args in
-    let m = c.before.before.before.before.operands.result in
+    let s = c.args in
+    let m = c.operands-count.result in
     record {
-      kind = omega (arith, c.before.before.before.count.ensures, decimal_most s.kind);
-      a = omega (arith, c.before.before.operand-length.ensures, operand_most (ltb 0 m) s.a);
-      b = omega (arith, c.before.operand-length2.ensures, operand_most (ltb 1 m) s.b);
-      c' = omega (arith, c.operand-length3.ensures, operand_most (ltb 2 m) s.c);
+      kind = omega (arith, c.count-kind_length.ensures, decimal_most s.kind);
+      a = omega (arith, c.operand_length-a_length.ensures, operand_most (ltb 0 m) s.a);
+      b = omega (arith, c.operand_length-b_length.ensures, operand_most (ltb 1 m) s.b);
+      c' = omega (arith, c.operand_length-c_length.ensures, operand_most (ltb 2 m) s.c);
     }
 
-add_result : tie.Need-overflow-add-result
+add_result : tie.Need-overflow_add-result
 add_result c = omega (arith, short c)
 
-add_result_2 : tie.Need-overflow-add-result-2
+add_result_2 : tie.Need-overflow_add-result-2
 add_result_2 c = omega (arith, short c)
 
-add_result_3 : tie.Need-overflow-add-result-3
+add_result_3 : tie.Need-overflow_add-result-3
 add_result_3 c = omega (arith, short c)
 
-add_result_4 : tie.Need-overflow-add-result-4
+add_result_4 : tie.Need-overflow_add-result-4
 add_result_4 c = omega (arith, short c)
 
 returns : tie.Need-returns
 returns c =
-    let s = (start_from_operand_length3 c).args in
-    let m = c.before.before.before.before.operands in
+    let s = c.args in
+    let m = c.operands-count in
     let long = line_long m.result (record { kind = s.kind; a = s.a; b = s.b; c = s.c }) m.ensures in
     record {
       is = omega (
         arith,
-        c.before.before.before.count.ensures,
-        c.before.before.operand-length.ensures,
-        c.before.operand-length2.ensures,
-        c.operand-length3.ensures,
+        c.count-kind_length.ensures,
+        c.operand_length-a_length.ensures,
+        c.operand_length-b_length.ensures,
+        c.operand_length-c_length.ensures,
       );
       short = omega (arith, short c);
     }

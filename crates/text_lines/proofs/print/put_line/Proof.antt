@@ -15,130 +15,93 @@ use borrow.Author.Rules.{rules}
 use Rattle.text_lines.proofs.print.put_line.Statement.{statement}
 use Rattle.text_lines.proofs.print.put_line.Tie as tie
 
-operands_requires : tie.Need-operands-requires
+operands_requires : tie.Need-operands-count-requires
 operands_requires c κs = search rules
 
 -- all parts have room
-fits : (c : tie.After-operands) →
-    let s = c.before.before.before.args in
-    let m = c.operands.result in
+fits : (c : tie.After-operands-count) →
+    let s = c.args in
+    let m = c.operands-count.result in
     s.at + (length (decimal s.kind) + length (operand_text (ltb 0 m) s.a)
     + length (operand_text (ltb 1 m) s.b) + length (operand_text (ltb 2 m) s.c) + 1) ≤ length s.output.now
 fits c =
-    let s = c.before.before.before.args in
+    let s = c.args in
     omega (
       arith,
-      line_long c.operands.result (record { kind = s.kind; a = s.a; b = s.b; c = s.c })
-          c.operands.ensures,
-      c.before.before.before.requires,
+      line_long c.operands-count.result (record { kind = s.kind; a = s.a; b = s.b; c = s.c })
+          c.operands-count.ensures,
+      c.requires,
     )
 
 -- the characters stored so far, after each part
 abbrev kind_text : tie.Start → List ℕ
 kind_text s = decimal s.args.kind
 
--- The stages of the function, seen from later ones.
-abbrev start_from_put : tie.After-put → tie.Start
-start_from_put c = c.before.before.before.before.before
+kind_stored : (c : tie.After-put-kind_end)
+    → Stored c.args.output.now c.args.at
+    (decimal c.args.kind) c.put-kind_end.new.output c.put-kind_end.result
+kind_stored c = c.put-kind_end.ensures
 
-abbrev operands_from_put_operand_arg : tie.After-put-operand-arg → tie.After-operands
-operands_from_put_operand_arg c = c.before.before.before.before.before
+abbrev a_text : tie.After-put_operand-a_end → List ℕ
+a_text c = decimal c.args.kind
+    ++ operand_text (ltb 0 c.operands-count.result) c.args.a
 
-abbrev start_from_put_operand : tie.After-put-operand → tie.Start
-start_from_put_operand c = start_from_put c.before.before.before.before
+a_stored : (c : tie.After-put_operand-a_end)
+    → Stored c.args.output.now c.args.at (a_text c)
+    c.put_operand-a_end.new.output c.put_operand-a_end.result
+a_stored c = stored_then (kind_stored c.before.before.before.before) c.put_operand-a_end.ensures
 
-abbrev operands_from_put_operand : tie.After-put-operand → tie.After-operands
-operands_from_put_operand c = c.before.before.before.before.before.before
-
-abbrev operands_from_output2 : tie.After-output2 → tie.After-operands
-operands_from_output2 c = c.before.before.before.before.before.before.before
-
-abbrev start_from_put_operand2 : tie.After-put-operand2 → tie.Start
-start_from_put_operand2 c = start_from_put c.before.before.before.before.before.before.before.before
-
-abbrev operands_from_put_operand2 : tie.After-put-operand2 → tie.After-operands
-operands_from_put_operand2 c = operands_from_put_operand_arg c.before.before.before.before.before
-
-abbrev operands_from_output3 : tie.After-output3 → tie.After-operands
-operands_from_output3 c = operands_from_put_operand_arg c.before.before.before.before.before.before
-
-abbrev put_operand_from_output3 : tie.After-output3 → tie.After-put-operand
-put_operand_from_output3 c = c.before.before.before.before.before
-
-abbrev start_from_put_operand3 : tie.After-put-operand3 → tie.Start
-start_from_put_operand3 c = start_from_put_operand c.before.before.before.before.before.before.before.before
-
-abbrev operands_from_put_operand3 : tie.After-put-operand3 → tie.After-operands
-operands_from_put_operand3 c = operands_from_put_operand c.before.before.before.before.before.before.before.before
-
-abbrev put_operand_from_put_operand3 : tie.After-put-operand3 → tie.After-put-operand
-put_operand_from_put_operand3 c = c.before.before.before.before.before.before.before.before
-
-kind_stored : (c : tie.After-put)
-    → Stored (start_from_put c).args.output.now (start_from_put c).args.at
-    (decimal (start_from_put c).args.kind) c.put.new.1.1.0 c.put.result
-kind_stored c = c.put.ensures
-
-abbrev a_text : tie.After-put-operand → List ℕ
-a_text c = decimal (start_from_put_operand c).args.kind
-    ++ operand_text (ltb 0 (operands_from_put_operand c).operands.result) (start_from_put_operand c).args.a
-
-a_stored : (c : tie.After-put-operand)
-    → Stored (start_from_put_operand c).args.output.now (start_from_put_operand c).args.at (a_text c)
-    c.put-operand.new.1.1.1.0 c.put-operand.result
-a_stored c = stored_then (kind_stored c.before.before.before.before) c.put-operand.ensures
-
-abbrev b_text : tie.After-put-operand2 → List ℕ
+abbrev b_text : tie.After-put_operand-b_end → List ℕ
 b_text c = a_text c.before.before.before.before
-    ++ operand_text (ltb 1 (operands_from_put_operand2 c).operands.result) (start_from_put_operand2 c).args.b
+    ++ operand_text (ltb 1 c.operands-count.result) c.args.b
 
-b_stored : (c : tie.After-put-operand2)
-    → Stored (start_from_put_operand2 c).args.output.now (start_from_put_operand2 c).args.at (b_text c)
-    c.put-operand2.new.1.1.1.0 c.put-operand2.result
-b_stored c = stored_then (a_stored c.before.before.before.before) c.put-operand2.ensures
+b_stored : (c : tie.After-put_operand-b_end)
+    → Stored c.args.output.now c.args.at (b_text c)
+    c.put_operand-b_end.new.output c.put_operand-b_end.result
+b_stored c = stored_then (a_stored c.before.before.before.before) c.put_operand-b_end.ensures
 
-abbrev c_text : tie.After-put-operand3 → List ℕ
+abbrev c_text : tie.After-put_operand-c_end → List ℕ
 c_text c = b_text c.before.before.before.before
-    ++ operand_text (ltb 2 (operands_from_put_operand3 c).operands.result) (start_from_put_operand3 c).args.c
+    ++ operand_text (ltb 2 c.operands-count.result) c.args.c
 
-c_stored : (c : tie.After-put-operand3)
-    → Stored (start_from_put_operand3 c).args.output.now (start_from_put_operand3 c).args.at (c_text c)
-    c.put-operand3.new.1.1.1.0 c.put-operand3.result
-c_stored c = stored_then (b_stored c.before.before.before.before) c.put-operand3.ensures
+c_stored : (c : tie.After-put_operand-c_end)
+    → Stored c.args.output.now c.args.at (c_text c)
+    c.put_operand-c_end.new.output c.put_operand-c_end.result
+c_stored c = stored_then (b_stored c.before.before.before.before) c.put_operand-c_end.ensures
 
 -- their lengths
-a_long : (c : tie.After-put-operand) → length (a_text c) ≡ length (decimal (start_from_put_operand c).args.kind)
-    + length (operand_text (ltb 0 (operands_from_put_operand c).operands.result)
-    (start_from_put_operand c).args.a)
-a_long c = length-append (decimal (start_from_put_operand c).args.kind)
-    (operand_text (ltb 0 (operands_from_put_operand c).operands.result) (start_from_put_operand c).args.a)
+a_long : (c : tie.After-put_operand-a_end) → length (a_text c) ≡ length (decimal c.args.kind)
+    + length (operand_text (ltb 0 c.operands-count.result)
+    c.args.a)
+a_long c = length-append (decimal c.args.kind)
+    (operand_text (ltb 0 c.operands-count.result) c.args.a)
 
-b_long : (c : tie.After-put-operand2) → length (b_text c) ≡ length (a_text c.before.before.before.before)
-    + length (operand_text (ltb 1 (operands_from_put_operand2 c).operands.result)
-    (start_from_put_operand2 c).args.b)
+b_long : (c : tie.After-put_operand-b_end) → length (b_text c) ≡ length (a_text c.before.before.before.before)
+    + length (operand_text (ltb 1 c.operands-count.result)
+    c.args.b)
 b_long c = length-append (a_text c.before.before.before.before)
-    (operand_text (ltb 1 (operands_from_put_operand2 c).operands.result) (start_from_put_operand2 c).args.b)
+    (operand_text (ltb 1 c.operands-count.result) c.args.b)
 
-c_long : (c : tie.After-put-operand3) → length (c_text c) ≡ length (b_text c.before.before.before.before)
-    + length (operand_text (ltb 2 (operands_from_put_operand3 c).operands.result)
-    (start_from_put_operand3 c).args.c)
+c_long : (c : tie.After-put_operand-c_end) → length (c_text c) ≡ length (b_text c.before.before.before.before)
+    + length (operand_text (ltb 2 c.operands-count.result)
+    c.args.c)
 c_long c = length-append (b_text c.before.before.before.before)
-    (operand_text (ltb 2 (operands_from_put_operand3 c).operands.result) (start_from_put_operand3 c).args.c)
+    (operand_text (ltb 2 c.operands-count.result) c.args.c)
 
-put_requires : tie.Need-put-requires
+put_requires : tie.Need-put-kind_end-requires
 put_requires c κs = omega (arith, fits c.before)
 
-put_operand_requires : tie.Need-put-operand-requires
+put_operand_requires : tie.Need-put_operand-a_end-requires
 put_operand_requires c κs =
     let st = kind_stored c.before.before.before in
-    omega (arith, st.next, stored_long st, fits (operands_from_put_operand_arg c))
+    omega (arith, st.next, stored_long st, fits c.before.before.before.before.before)
 
-put_operand_requires_2 : tie.Need-put-operand-requires-2
+put_operand_requires_2 : tie.Need-put_operand-b_end-requires
 put_operand_requires_2 c κs =
     let st = a_stored c.before.before.before in
-    omega (arith, st.next, stored_long st, a_long c.before.before.before, fits (operands_from_output2 c.before.before))
+    omega (arith, st.next, stored_long st, a_long c.before.before.before, fits c.before.before.before.before.before.before.before.before.before)
 
-put_operand_requires_3 : tie.Need-put-operand-requires-3
+put_operand_requires_3 : tie.Need-put_operand-c_end-requires
 put_operand_requires_3 c κs =
     let st = b_stored c.before.before.before in
     omega (
@@ -146,12 +109,12 @@ put_operand_requires_3 c κs =
       st.next,
       stored_long st,
       b_long c.before.before.before,
-      a_long (put_operand_from_output3 c.before.before),
-      fits (operands_from_output3 c.before.before),
+      a_long c.before.before.before.before.before.before.before,
+      fits c.before.before.before.before.before.before.before.before.before.before.before.before.before,
     )
 
 -- the line feed has room
-feed_fits : (c : tie.After-put-operand3) → c.put-operand3.result + 1 ≤ length c.put-operand3.new.1.1.1.0
+feed_fits : (c : tie.After-put_operand-c_end) → c.put_operand-c_end.result + 1 ≤ length c.put_operand-c_end.new.output
 feed_fits c =
     let st = c_stored c in
     omega (
@@ -160,30 +123,30 @@ feed_fits c =
       stored_long st,
       c_long c,
       b_long c.before.before.before.before,
-      a_long (put_operand_from_put_operand3 c),
-      fits (operands_from_put_operand3 c),
+      a_long c.before.before.before.before.before.before.before.before,
+      fits c.before.before.before.before.before.before.before.before.before.before.before.before.before.before,
     )
 
-whole : (c : tie.After-put-operand3) →
-    let s = (start_from_put_operand3 c).args in
-    let r = c.put-operand3.new.1.1.1.0 in
+whole : (c : tie.After-put_operand-c_end) →
+    let s = c.args in
+    let r = c.put_operand-c_end.new.output in
     Stored s.output.now s.at (line_of (record { kind = s.kind; a = s.a; b = s.b; c = s.c }))
-    (sets r c.put-operand3.result (10 ∷ [])) (c.put-operand3.result + 1)
+    (sets r c.put_operand-c_end.result (10 ∷ [])) (c.put_operand-c_end.result + 1)
 whole c =
-    let s = (start_from_put_operand3 c).args in
-    let r = c.put-operand3.new.1.1.1.0 in
+    let s = c.args in
+    let r = c.put_operand-c_end.new.output in
     let st = stored_then (c_stored c) {ys = 10 ∷ []} (record { next = refl; is = refl }) in
-    let e = line_with_lem (operands_from_put_operand3 c).operands.result
-    (record { kind = s.kind; a = s.a; b = s.b; c = s.c }) (operands_from_put_operand3 c).operands.ensures in
+    let e = line_with_lem c.operands-count.result
+    (record { kind = s.kind; a = s.a; b = s.b; c = s.c }) c.operands-count.ensures in
     record { is = st.is ∙ ap (sets s.output.now s.at) e; next = omega (arith, st.next, ap length e) }
 
-slice_write_output : tie.Need-slice-write-output
+slice_write_output : tie.Need-bounds-output-c_end
 slice_write_output c = omega (arith, feed_fits c.before.before)
 
-add_result : tie.Need-overflow-add-result
+add_result : tie.Need-overflow_add-result
 add_result c = omega (arith, feed_fits c.before.before)
 
-same_length : tie.Need-same-length
+same_length : tie.Need-shape_of-output
 same_length c = stored_long (whole c.before.before)
 
 returns : tie.Need-returns
