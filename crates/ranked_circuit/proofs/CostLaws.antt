@@ -18,7 +18,10 @@ use Rattle.gate_words.specs.Adder.{full_adder, half_adder}
 use Rattle.gate_words.specs.Counter.{level, adders, level_sum, count_levels, count_digits_as, count_digits, counter, count_size}
 use Rattle.ranked_circuit.specs.Blocks.{compare, strictly, order, order_end, order_cut, order_size, cut_end, smaller, larger, larger_if}
 use Rattle.ranked_circuit.specs.Contests.{meeting}
+use Rattle.jury.specs.Width.{width_of}
 use Rattle.ranked_circuit.specs.RankedList.{ranked_list}
+use Rattle.ranked_circuit.specs.OwnRanking.{own_ranking}
+use Rattle.ranked_circuit.specs.Cost.{conditional_gates, RankingConditional}
 use Rattle.ranked_circuit.proofs.Figures.{Each, more_of, figure_is}
 
 -- a conditional gate counts 1, any other 0
@@ -291,7 +294,7 @@ costs n w =
     }
 
 -- C: a conditional gate for each adder of the counters, 2 w + 1 for each comparison of two candidates, and so on
-pub conditional_are : (r n w : ℕ) → r ≤ 5 → conditional_count (ranked_list (suc (suc (suc r))) n w) ≡
+conditional_are : (r n w : ℕ) → r ≤ 5 → conditional_count (ranked_list (suc (suc (suc r))) n w) ≡
     suc (suc (suc r)) * suc (suc r) * (count_size n 0 w / 3) + suc (suc (suc r)) * suc (suc r) / 2 * (2 * w + 1) + 2
     * suc (suc r) * suc w + suc (suc r) * suc r * (4 * w + 3) + suc r * (suc (suc r) * suc r) * (4 * w + 2)
     + suc (suc r) * (2 * w + 1) + suc (suc r) * suc r / 2 * (6 * w + 8) + 2 * suc r * suc r * more_of w + suc (suc (suc r)) * suc r
@@ -299,3 +302,15 @@ conditional_are r n w h =
     let total = figure_is conditional_count (record { none = count_nil; both = count_append }) n w
     (count_size n 0 w / 3) (2 * w + 1) (suc w) (4 * w + 3) (4 * w + 2) (6 * w + 8) 1 0 (costs n w) r h in
     omega arith
+
+pub ranking_conditional : RankingConditional
+unfolding own_ranking conditional_gates
+ranking_conditional zero n l m = absurd (omega arith)
+ranking_conditional (suc zero) n l m = absurd (omega arith)
+ranking_conditional (suc (suc zero)) n l m = absurd (omega arith)
+ranking_conditional (suc (suc (suc r))) n l m =
+    let k = suc (suc (suc r)) in
+    let w = width_of n - 1 in
+    conditional_are r n w (omega arith)
+    ∙ ap (λ (j : ℕ). conditional_gates k j (suc r) n w) {x = suc (suc r)} {y = k - 1} (omega arith)
+    ∙ ap (λ (i : ℕ). conditional_gates k (k - 1) i n w) {x = suc r} {y = k - 2} (omega arith)

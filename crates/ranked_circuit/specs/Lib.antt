@@ -5,3 +5,4 @@ pub mod Paths
 pub mod Contests
 pub mod RankedList
 pub mod OwnRanking
+pub mod Cost
