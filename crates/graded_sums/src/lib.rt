@@ -1,3 +1,5 @@
 // Writes the circuit of one candidate into a table.
+#![tactic(auto)]
+
 pub mod key;
 mod sums;

@@ -55,21 +55,10 @@ candidate_wrote p w t c t₁ w₁ t₂ w₂ t₃ w₃ t₄ w₄ t₅ w₅ a₁ e
     a₅ (ap (λ (m : ℕ). worst_word p m c) e₂)
 
 -- the start, seen from later stages
-abbrev from_rows : tie.After-rows → tie.Start
-from_rows c = c.before.before.before
 
-abbrev from_levels : tie.After-all-levels → tie.After-rows
-from_levels c = c.before.before.before.before
-
-abbrev from_worst : tie.After-worst-levels → tie.After-all-levels
-from_worst c = c.before.before.before.before
-
-abbrev from_words : tie.After-key-words → tie.After-worst-levels
-from_words c = c.before.before.before.before
-
-rows_requires : tie.Need-rows-requires
+rows_requires : tie.Need-rows-rowed-requires
 rows_requires c κs =
-    let s = c.before.before in
+    let s = c in
     let q = s.requires in
     record {
       planned = q.planned;
@@ -80,82 +69,82 @@ rows_requires c κs =
           q.room;
     }
 
-rowed : (c : tie.After-rows) → let s = from_rows c in
-    Stands c.rows.result (sums_at s.args.p s.args.w.wire) (behind_rows s.args.p)
+rowed : (c : tie.After-rows-rowed) → let s = c in
+    Stands c.rows-rowed.result (sums_at s.args.p s.args.w.wire) (behind_rows s.args.p)
 rowed c =
-    let s = from_rows c in
+    let s = c in
     let a = s.args in
-    let q = s.pre in
-    stands_after a.w a.table.now _ c.rows.new.1.0 c.rows.result _ _ _ c.rows.ensures
+    let q = s.requires in
+    stands_after a.w a.table.now _ c.rows-rowed.new.table c.rows-rowed.result _ _ _ c.rows-rowed.ensures
     (next_rows_block a.p q.planned a.w.wire a.c 0 (a.p.grades - 3) q.inputs q.candidate
     (omega (arith, q.planned.d_least))).long
     (stands a.w a.w.wire _ _ refl (omega (arith, parts a.p q.planned)) q.room)
 
 -- all rows are before the levels
-before : (c : tie.After-rows) → let s = from_rows c in
-    RowsBefore s.args.p s.args.w.wire c.rows.result.wire (0 + (s.args.p.grades - 2))
-before c = let a = (from_rows c).args in
-    rows_there a.p a.w.wire c.rows.result.wire (0 + (a.p.grades - 2)) (omega arith)
+before : (c : tie.After-rows-rowed) → let s = c in
+    RowsBefore s.args.p s.args.w.wire c.rows-rowed.result.wire (0 + (s.args.p.grades - 2))
+before c = let a = c.args in
+    rows_there a.p a.w.wire c.rows-rowed.result.wire (0 + (a.p.grades - 2)) (omega arith)
     (omega (arith, (rowed c).place))
 
-all_levels_requires : tie.Need-all-levels-requires
+all_levels_requires : tie.Need-all_levels-counted-requires
 all_levels_requires c κs =
-    let r = c.before.before.before in
-    let q = (from_rows r).requires in
+    let r = c in
+    let q = r.requires in
     record {
       part = record {
         planned = q.planned;
         candidate = q.candidate;
         inputs = q.inputs;
         room =
-            room_of r.rows.result _ _ _ (rowed r) (omega arith);
+            room_of r.rows-rowed.result _ _ _ (rowed r.before.before.before) (omega arith);
       };
-      rows = omega (arith, (rowed r).place);
+      rows = omega (arith, (rowed r.before.before.before).place);
       there = omega arith;
     }
 
-levelled : (c : tie.After-all-levels) → let s = from_rows (from_levels c) in
-    Stands c.all-levels.result (worst_at s.args.p s.args.w.wire) (behind_levels s.args.p)
+levelled : (c : tie.After-all_levels-counted) → let s = c in
+    Stands c.all_levels-counted.result (worst_at s.args.p s.args.w.wire) (behind_levels s.args.p)
 levelled c =
-    let r = from_levels c in
-    let s = from_rows r in
+    let r = c in
+    let s = r in
     let a = s.args in
-    let q = s.pre in
-    stands_after r.rows.result r.rows.last.1.0 _ c.all-levels.new.1.0 c.all-levels.result _ _ _
-    c.all-levels.ensures
-    (all_levels_block a.p q.planned a.w.wire r.rows.result.wire a.c 0 (a.p.grades - 2)
-    q.inputs q.candidate (before r)).long
-    (rowed r)
+    let q = s.requires in
+    stands_after r.rows-rowed.result r.rows-rowed.new.table _ c.all_levels-counted.new.table c.all_levels-counted.result _ _ _
+    c.all_levels-counted.ensures
+    (all_levels_block a.p q.planned a.w.wire r.rows-rowed.result.wire a.c 0 (a.p.grades - 2)
+    q.inputs q.candidate (before r.before.before.before.before)).long
+    (rowed r.before.before.before.before)
 
-worst_levels_requires : tie.Need-worst-levels-requires
+worst_levels_requires : tie.Need-worst_levels-worst-requires
 worst_levels_requires c κs =
-    let l = c.before.before.before in
-    let q = (from_rows (from_levels l)).requires in
+    let l = c in
+    let q = l.requires in
     record {
       planned = q.planned;
       candidate = q.candidate;
-      inputs = omega (arith, q.inputs, (levelled l).place);
-      room = room_of l.all-levels.result _ _ _ (levelled l) (omega arith);
+      inputs = omega (arith, q.inputs, (levelled l.before.before.before).place);
+      room = room_of l.all_levels-counted.result _ _ _ (levelled l.before.before.before) (omega arith);
     }
 
-counted : (c : tie.After-worst-levels) → let s = from_rows (from_levels (from_worst c)) in
-    Stands c.worst-levels.result (key_of s.args.p s.args.w.wire) (key_gates s.args.p)
+counted : (c : tie.After-worst_levels-worst) → let s = c in
+    Stands c.worst_levels-worst.result (key_of s.args.p s.args.w.wire) (key_gates s.args.p)
 counted c =
-    let l = from_worst c in
-    let s = from_rows (from_levels l) in
+    let l = c in
+    let s = l in
     let a = s.args in
-    let q = s.pre in
-    stands_after l.all-levels.result l.all-levels.last.1.0 _ c.worst-levels.new.1.0
-    c.worst-levels.result _ _ _ c.worst-levels.ensures
-    (worst_levels_block a.p q.planned l.all-levels.result.wire a.c
-    (omega (arith, q.inputs, (levelled l).place)) q.candidate).long
-    (levelled l)
+    let q = s.requires in
+    stands_after l.all_levels-counted.result l.all_levels-counted.new.table _ c.worst_levels-worst.new.table
+    c.worst_levels-worst.result _ _ _ c.worst_levels-worst.ensures
+    (worst_levels_block a.p q.planned l.all_levels-counted.result.wire a.c
+    (omega (arith, q.inputs, (levelled l.before.before.before.before).place)) q.candidate).long
+    (levelled l.before.before.before.before)
 
-key_words_requires : tie.Need-key-words-requires
+key_words_requires : tie.Need-key_words-words-requires
 key_words_requires c κs =
-    let k = c.before.before.before in
-    let r = from_levels (from_worst k) in
-    let q = (from_rows r).pre in
+    let k = c in
+    let r = k in
+    let q = r.requires in
     record {
       of = record {
         part = record {
@@ -163,65 +152,61 @@ key_words_requires c κs =
           candidate = q.candidate;
           inputs = q.inputs;
           room =
-              room_of k.worst-levels.result _ _ _ (counted k) (omega arith);
+              room_of k.worst_levels-worst.result _ _ _ (counted k.before.before.before) (omega arith);
         };
-        rows = omega (arith, (rowed r).place);
-        there = omega (arith, (rowed r).place, (counted k).place);
+        rows = omega (arith, (rowed r.before.before.before.before.before.before.before.before.before.before.before).place);
+        there = omega (arith, (rowed r.before.before.before.before.before.before.before.before.before.before.before).place, (counted k.before.before.before).place);
       };
-      levels = omega (arith, (rowed r).place, (counted k).place);
+      levels = omega (arith, (rowed r.before.before.before.before.before.before.before.before.before.before.before).place, (counted k.before.before.before).place);
     }
 
-worded : (c : tie.After-key-words) → let s = from_rows (from_levels (from_worst (from_words c))) in
-    Stands c.key-words.result (key_of s.args.p s.args.w.wire + (s.args.p.grades - 2)
+worded : (c : tie.After-key_words-words) → let s = c in
+    Stands c.key_words-words.result (key_of s.args.p s.args.w.wire + (s.args.p.grades - 2)
     * word_span s.args.p) (word_span s.args.p)
 worded c =
-    let k = from_words c in
-    let r = from_levels (from_worst k) in
-    let s = from_rows r in
+    let k = c in
+    let r = k in
+    let s = r in
     let a = s.args in
-    let q = s.pre in
-    stands_after k.worst-levels.result k.worst-levels.last.1.0 _ c.key-words.new.1.0
-    c.key-words.result _ _ _ c.key-words.ensures
-    (key_words_block a.p q.planned k.worst-levels.result.wire a.w.wire r.rows.result.wire a.c
-    0 (a.p.grades - 2) q.inputs q.candidate (before r) (omega (arith, (rowed r).place, (counted k).place))).long
-    (counted k)
+    let q = s.requires in
+    stands_after k.worst_levels-worst.result k.worst_levels-worst.new.table _ c.key_words-words.new.table
+    c.key_words-words.result _ _ _ c.key_words-words.ensures
+    (key_words_block a.p q.planned k.worst_levels-worst.result.wire a.w.wire r.rows-rowed.result.wire a.c
+    0 (a.p.grades - 2) q.inputs q.candidate (before r.before.before.before.before.before.before.before.before.before.before.before.before) (omega (arith, (rowed r.before.before.before.before.before.before.before.before.before.before.before.before).place, (counted k.before.before.before.before).place))).long
+    (counted k.before.before.before.before)
 
-worst_word_requires : tie.Need-worst-word-requires
+worst_word_requires : tie.Need-worst_word-requires
 worst_word_requires c κs =
-    let h = c.before.before.before in
-    let l = from_worst (from_words h) in
-    let q = (from_rows (from_levels l)).requires in
+    let h = c in
+    let l = h in
+    let q = l.requires in
     record {
       part = record {
         planned = q.planned;
         candidate = q.candidate;
         inputs =
-            omega (arith, q.inputs, (levelled l).place);
-        room = (worded h).left;
+            omega (arith, q.inputs, (levelled l.before.before.before.before.before.before.before.before.before.before.before).place);
+        room = (worded h.before.before.before).left;
       };
-      levels = omega (arith, (levelled l).place, (worded h).place);
+      levels = omega (arith, (levelled l.before.before.before.before.before.before.before.before.before.before.before).place, (worded h.before.before.before).place);
     }
 
-same_length : tie.Need-same-length
+same_length : tie.Need-shape_of-table
 same_length c = search rules
-
--- The stages of the function, seen from later ones.
-abbrev key_words_from_slice_known6 : tie.After-slice-known6 → tie.After-key-words
-key_words_from_slice_known6 c = c.before.before.before.before.before.before
 
 returns : tie.Need-returns
 returns c =
-    let v = c.before.before.worst-word in
-    let h = (key_words_from_slice_known6 c) in
-    let k = from_words h in
-    let l = from_worst k in
-    let r = from_levels l in
-    let a = (from_rows r).args in
-    candidate_wrote a.p a.w a.table.now a.c r.rows.last.1.0 r.rows.result
-    l.all-levels.last.1.0 l.all-levels.result k.worst-levels.last.1.0 k.worst-levels.result
-    h.key-words.last.1.0 h.key-words.result v.new.1.0 v.result
-    r.rows.ensures (rowed r).place l.all-levels.ensures (levelled l).place k.worst-levels.ensures
-    h.key-words.ensures v.ensures
+    let v = c.worst_word in
+    let h = c in
+    let k = h in
+    let l = k in
+    let r = l in
+    let a = r.args in
+    candidate_wrote a.p a.w a.table.now a.c r.rows-rowed.new.table r.rows-rowed.result
+    l.all_levels-counted.new.table l.all_levels-counted.result k.worst_levels-worst.new.table k.worst_levels-worst.result
+    h.key_words-words.new.table h.key_words-words.result v.new.table v.result
+    r.rows-rowed.ensures (rowed r.before.before.before.before.before.before.before.before.before.before.before.before.before.before.before.before.before.before).place l.all_levels-counted.ensures (levelled l.before.before.before.before.before.before.before.before.before.before.before.before.before.before).place k.worst_levels-worst.ensures
+    h.key_words-words.ensures v.ensures
 
 pub candidate_spec : {M : Type 1} → statement M
 candidate_spec = tie.close (tie.spec rows_requires all_levels_requires worst_levels_requires key_words_requires

@@ -11,17 +11,17 @@ use Rattle.graded_circuit.proofs.PlanFacts.{first_countable}
 use Rattle.graded_sums.proofs.key.key_word.Statement.{statement}
 use Rattle.graded_sums.proofs.key.key_word.Tie as tie
 
-row_at_requires : tie.Need-row-at-requires
+row_at_requires : tie.Need-row_at-row-requires
 row_at_requires c κs =
-    let q = c.before.requires.of in
+    let q = c.requires.of in
     record {
       of = record { planned = q.part.planned; candidate = q.part.candidate; grade = omega (arith, q.grade) };
       small = omega (arith, q.row, q.there, q.part.room.small);
     }
 
-count_digits_requires : tie.Need-count-digits-requires
+count_digits_requires : tie.Need-count_digits-requires
 count_digits_requires c κs =
-    let s = c.before.before.before in
+    let s = c in
     let q = s.requires.of.part in
     record {
       room = q.room;
@@ -32,17 +32,17 @@ count_digits_requires c κs =
       countable = first_countable s.args.p q.planned;
     }
 
-same_length : tie.Need-same-length
+same_length : tie.Need-shape_of-table
 same_length c = search rules
 
 returns : tie.Need-returns
 returns c =
-    let h = c.before.before.count-digits in
-    let t = c.before.before.before.before in
-    let a = t.before.before.args in
+    let h = c.count_digits in
+    let t = c in
+    let a = t.args in
     subst (λ (x : ℕ). Wrote a.w a.table.now
-    (count_digits_as 2 3 a.base x a.p.ballots a.p.offset a.p.digits) h.new.1.0 h.result)
-    t.row_at.ensures h.ensures
+    (count_digits_as 2 3 a.base x a.p.ballots a.p.offset a.p.digits) h.new.table h.result)
+    t.row_at-row.ensures h.ensures
 
 pub key_word_spec : {M : Type 1} → statement M
 key_word_spec = tie.close (tie.spec row_at_requires count_digits_requires same_length returns)

@@ -15,23 +15,23 @@ use Rattle.graded_sums.proofs.Writers.{words_turn, words_end, rows_there, size_m
 use Rattle.graded_sums.proofs.key.key_words.Statement.{statement}
 use Rattle.graded_sums.proofs.key.key_words.Tie as tie
 
-abbrev invariant_loop : tie.invariant-loop
+abbrev invariant_loop : tie.invariant-loop-g
 invariant_loop table₀ p n m c size next₀ base₀ g₀ table next base g =
     (g ≤ p.grades) × (base ≡ sum_levels_from p m g) × (next₀.wire ≤ next.wire)
     × Goes next₀ table₀ (key_words p n m c 0 (p.grades - 2)) next table (key_words p n m c g (p.grades - 2 - g))
 
-abbrev decreases_loop : tie.decreases-loop
+abbrev decreases_loop : tie.decreases-loop-g
 decreases_loop table₀ p n m c size next₀ base₀ g₀ table next base g = p.grades - g
 
-count_size_requires : tie.Need-count-size-requires invariant_loop decreases_loop
+count_size_requires : tie.Need-count_size-size-requires invariant_loop decreases_loop
 count_size_requires c κs =
-    let s = c.before in
+    let s = c in
     let f = s.requires.of.part.planned in
     record { few = omega (arith, f.n_most); small = omega (arith, size_most s.args.p f); countable = first_countable s.args.p f }
 
-loop_holds : tie.Need-loop-init invariant_loop decreases_loop
+loop_holds : tie.Need-loop-g-init invariant_loop decreases_loop
 loop_holds c =
-    let s = c.before.before in
+    let s = c in
     let a = s.args in
     let e : a.p.grades - 2 ≡ a.p.grades - 2 - 0 = omega arith in
     let whole = key_words a.p a.n a.m a.c 0 (a.p.grades - 2) in (
@@ -43,46 +43,39 @@ loop_holds c =
           (goes_start a.w a.table.now whole ((a.p.grades - 2) * word_span a.p) s.requires.of.part.room),
     )
 
-add_if1 : tie.Need-overflow-add-if1 invariant_loop decreases_loop
-add_if1 c = omega (arith, c.loop.invariant.0, c.before.before.before.requires.of.part.planned.d_most)
-
--- The stages of the function, seen from later ones.
-abbrev start_from_else1 : tie.Else1 invariant_loop decreases_loop → tie.Start invariant_loop decreases_loop
-start_from_else1 c = c.before.before.before.before.before
-
-abbrev start_from_then1 : tie.Then1 invariant_loop decreases_loop → tie.Start invariant_loop decreases_loop
-start_from_then1 c = c.before.before.before.before.before
+add_if1 : tie.Need-overflow_add-g invariant_loop decreases_loop
+add_if1 c = omega (arith, c.loop-g.invariant.0, c.requires.of.part.planned.d_most)
 
 -- in a turn, the levels of this grade are written
-levels_there : (c : tie.Then1 invariant_loop decreases_loop) → let l = c.before.before.loop in l.base
-    + sum_size (start_from_then1 c).args.p ≤ (start_from_then1 c).args.w.wire
+levels_there : (c : tie.In-loop-g invariant_loop decreases_loop) → let l = c.loop-g in l.base
+    + sum_size c.args.p ≤ c.args.w.wire
 levels_there c =
-    let l = c.before.before.loop in
-    let s = (start_from_then1 c) in
+    let l = c.loop-g in
+    let s = c in
     let p = s.args.p in
-    let t : l.g + 2 < p.grades = c.if1.true in
+    let t : l.g + 2 < p.grades = c.loop-g-test.true in
     omega (
       arith,
       l.invariant.1,
-      s.pre.levels,
+      s.requires.levels,
       suc-mul l.g (sum_size p),
       mul-le-mul_right {m = suc l.g} {n = p.grades - 2} (sum_size p) (omega arith),
     )
 
-key_word_requires : tie.Need-key-word-requires invariant_loop decreases_loop
+key_word_requires : tie.Need-key_word-next-requires invariant_loop decreases_loop
 key_word_requires c κs =
-    let l = c.before.before.before.loop in
-    let s = (start_from_then1 c.before) in
+    let l = c.loop-g in
+    let s = c in
     let a = s.args in
     let p = a.p in
-    let q = s.pre.of in
+    let q = s.requires.of in
     let f = q.part.planned in
-    let t : l.g + 2 < p.grades = c.before.if1.true in
+    let t : l.g + 2 < p.grades = c.loop-g-test.true in
     let left = p.grades - 2 - l.g in
     let all : l.g + left ≡ p.grades - 2 = omega arith in
     let every : 0 + (p.grades - 2) ≡ p.grades - 2 = omega arith in
     let before : (u : ℕ) → u ≤ p.grades - 2 → RowsBefore p a.n a.m u = λ u few. rows_there p a.n a.m u few q.rows in
-    let end : sum_levels_from p a.m (p.grades - 2) ≤ l.next.wire = omega (arith, s.pre.levels, l.invariant.2) in
+    let end : sum_levels_from p a.m (p.grades - 2) ≤ l.next.wire = omega (arith, s.requires.levels, l.invariant.2) in
     record {
       of = record {
         part = record {
@@ -113,54 +106,54 @@ key_word_requires c κs =
       levels = omega (arith, levels_there c.before, l.invariant.2);
     }
 
-add_base : tie.Need-overflow-add-base invariant_loop decreases_loop
+add_base : tie.Need-overflow_add-base invariant_loop decreases_loop
 add_base c =
-    let i = c.before.before.before.before in
-    let s = (start_from_then1 i) in
-    omega (arith, levels_there i, s.pre.of.part.room.small, i.before.before.before.count-size.ensures)
+    let i = c in
+    let s = i in
+    omega (arith, levels_there i.before.before.before.before, s.requires.of.part.room.small, i.count_size-size.ensures)
 
-add_g : tie.Need-overflow-add-g invariant_loop decreases_loop
+add_g : tie.Need-overflow_add-g-in-loop-g invariant_loop decreases_loop
 add_g c =
-    let i = c.before.before.before.before in
-    omega (arith, i.before.before.loop.invariant.0, (start_from_then1 i).pre.of.part.planned.d_most)
+    let i = c in
+    omega (arith, i.loop-g.invariant.0, i.requires.of.part.planned.d_most)
 
-loop_less : tie.Need-loop-smaller invariant_loop decreases_loop
-loop_less c = omega (arith, c.before.before.before.before.if1.true)
+loop_less : tie.Need-loop-g-smaller invariant_loop decreases_loop
+loop_less c = omega (arith, c.loop-g-test.true)
 
-loop_again : tie.Need-loop-preserved invariant_loop decreases_loop
+loop_again : tie.Need-loop-g-preserved invariant_loop decreases_loop
 loop_again c =
-    let h = c.before.before.key-word in
-    let i = c.before.before.before.before in
-    let l = i.before.before.loop in
-    let a = (start_from_then1 i).args in
+    let h = c.key_word-next in
+    let i = c in
+    let l = i.loop-g in
+    let a = i.args in
     let p = a.p in
-    let t : l.g + 2 < p.grades = i.if1.true in
+    let t : l.g + 2 < p.grades = i.loop-g-test.true in
     let whole = key_words p a.n a.m a.c 0 (p.grades - 2) in (
       omega arith,
       omega (
         arith,
         l.invariant.1,
-        i.before.before.before.count-size.ensures,
+        i.count_size-size.ensures,
         ap (λ (k : ℕ). k * sum_size p)
             (add-one l.g),
         suc-mul l.g (sum_size p),
       ),
       omega (arith, l.invariant.2, h.ensures.wires),
-      goes_on a.w a.table.now whole l.next l.table _ _ h.new.1.0 h.result
+      goes_on a.w a.table.now whole l.next l.table _ _ h.new.table h.result
           (goes_as a.w a.table.now whole l.next l.table _ _
           (words_turn p a.n a.c a.m l.g l.base t l.invariant.1) l.invariant.3)
           h.ensures,
     )
 
-same_length : tie.Need-same-length invariant_loop decreases_loop
-same_length c = c.before.before.loop.invariant.3.long
+same_length : tie.Need-shape_of-table invariant_loop decreases_loop
+same_length c = c.loop-g.invariant.3.long
 
 returns : tie.Need-returns invariant_loop decreases_loop
 returns c =
-    let l = c.before.before.loop in
-    let a = (start_from_else1 c).args in
+    let l = c.loop-g in
+    let a = c.args in
     goes_end a.w a.table.now (key_words a.p a.n a.m a.c 0 (a.p.grades - 2)) l.next l.table
-    _ (words_end a.p a.n a.c a.m l.g (a.p.grades - 2) (omega (arith, c.if1.false))) l.invariant.3
+    _ (words_end a.p a.n a.c a.m l.g (a.p.grades - 2) (omega (arith, c.loop-g-test.false))) l.invariant.3
 
 pub key_words_spec : {M : Type 1} → statement M
 key_words_spec = tie.close (tie.spec invariant_loop decreases_loop count_size_requires loop_holds add_if1 key_word_requires

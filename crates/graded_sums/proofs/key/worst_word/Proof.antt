@@ -12,17 +12,17 @@ use Rattle.graded_circuit.proofs.PlanFacts.{worst_countable}
 use Rattle.graded_sums.proofs.key.worst_word.Statement.{statement}
 use Rattle.graded_sums.proofs.key.worst_word.Tie as tie
 
-sub_bits_at : tie.Need-overflow-sub-bits-at
-sub_bits_at c = omega (arith, c.before.before.requires.part.planned.d_least)
+sub_bits_at : tie.Need-overflow_sub-p
+sub_bits_at c = omega (arith, c.requires.part.planned.d_least)
 
-bits_at_requires : tie.Need-bits-at-requires
+bits_at_requires : tie.Need-bits_at-bits-requires
 bits_at_requires c κs =
-    let q = c.before.before.requires.part in
+    let q = c.requires.part in
     record { planned = q.planned; candidate = q.candidate; grade = omega (arith, q.planned.d_least) }
 
-count_digits_requires : tie.Need-count-digits-requires
+count_digits_requires : tie.Need-count_digits-requires
 count_digits_requires c κs =
-    let s = c.before.before.before.before in
+    let s = c in
     let q = s.requires.part in
     record {
       room = q.room;
@@ -33,18 +33,18 @@ count_digits_requires c κs =
       countable = worst_countable s.args.p q.planned;
     }
 
-same_length : tie.Need-same-length
+same_length : tie.Need-shape_of-table
 same_length c = search rules
 
 returns : tie.Need-returns
 unfolding worst_word
 returns c =
-    let h = c.before.before.count-digits in
-    let t = c.before.before.before.before in
-    let a = t.before.before.before.args in
+    let h = c.count_digits in
+    let t = c in
+    let a = t.args in
     subst (λ (x : ℕ). Wrote a.w a.table.now
-    (count_digits_as 3 2 a.base x a.p.ballots a.p.worst a.p.digits) h.new.1.0 h.result)
-    t.bits_at.ensures h.ensures
+    (count_digits_as 3 2 a.base x a.p.ballots a.p.worst a.p.digits) h.new.table h.result)
+    t.bits_at-bits.ensures h.ensures
 
 pub worst_word_spec : {M : Type 1} → statement M
 worst_word_spec = tie.close (tie.spec sub_bits_at bits_at_requires count_digits_requires same_length returns)

@@ -14,49 +14,39 @@ use Rattle.graded_sums.proofs.Writers.{levels_turn, levels_end, rows_there}
 use Rattle.graded_sums.proofs.sums.all_levels.Statement.{statement}
 use Rattle.graded_sums.proofs.sums.all_levels.Tie as tie
 
-abbrev invariant_loop : tie.invariant-loop
+abbrev invariant_loop : tie.invariant-loop-g
 invariant_loop table₀ p n c next₀ g₀ table next g =
     (g ≤ p.grades) × (next.wire ≡ sum_levels_from p next₀.wire g)
     × Goes next₀ table₀ (all_levels p n next₀.wire c 0 (p.grades - 2)) next table
     (all_levels p n next₀.wire c g (p.grades - 2 - g))
 
-abbrev decreases_loop : tie.decreases-loop
+abbrev decreases_loop : tie.decreases-loop-g
 decreases_loop table₀ p n c next₀ g₀ table next g = p.grades - g
 
-loop_holds : tie.Need-loop-init invariant_loop decreases_loop
+loop_holds : tie.Need-loop-g-init invariant_loop decreases_loop
 loop_holds c =
-    let a = c.before.args in
+    let a = c.args in
     let e : a.p.grades - 2 ≡ a.p.grades - 2 - 0 = omega arith in
     let whole = all_levels a.p a.n a.w.wire a.c 0 (a.p.grades - 2) in (
       omega arith,
       omega (arith, zero-mul (sum_size a.p)),
       goes_as a.w a.table.now whole a.w a.table.now _ _
           (ap (all_levels a.p a.n a.w.wire a.c 0) e)
-          (goes_start a.w a.table.now whole ((a.p.grades - 2) * sum_size a.p) c.before.requires.part.room),
+          (goes_start a.w a.table.now whole ((a.p.grades - 2) * sum_size a.p) c.requires.part.room),
     )
 
-add_if1 : tie.Need-overflow-add-if1 invariant_loop decreases_loop
-add_if1 c = omega (arith, c.loop.invariant.0, c.before.before.requires.part.planned.d_most)
-
--- The stages of the function, seen from later ones.
-abbrev start_from_sum_levels_arg : tie.After-sum-levels-arg invariant_loop decreases_loop → tie.Start invariant_loop decreases_loop
-start_from_sum_levels_arg c = c.before.before.before.before.before
-
-abbrev start_from_sum_levels : tie.After-sum-levels invariant_loop decreases_loop → tie.Start invariant_loop decreases_loop
-start_from_sum_levels c = c.before.before.before.before.before.before
-
-abbrev loop_reached_from_slice_known2 : tie.After-slice-known2 invariant_loop decreases_loop → tie.At-loop invariant_loop decreases_loop
-loop_reached_from_slice_known2 c = c.before.before.before.before.before.before
+add_if1 : tie.Need-overflow_add-g invariant_loop decreases_loop
+add_if1 c = omega (arith, c.loop-g.invariant.0, c.requires.part.planned.d_most)
 
 -- in a turn, the bits that the sum counts are wires, and there is room for its levels
-sum_levels_requires : tie.Need-sum-levels-requires invariant_loop decreases_loop
+sum_levels_requires : tie.Need-sum_levels-next-requires invariant_loop decreases_loop
 sum_levels_requires c κs =
-    let l = c.before.before.before.loop in
-    let s = (start_from_sum_levels_arg c) in
+    let l = c.loop-g in
+    let s = c in
     let a = s.args in
-    let q = s.pre in
+    let q = s.requires in
     let f = q.part.planned in
-    let t : l.g + 2 < a.p.grades = c.before.if1.true in
+    let t : l.g + 2 < a.p.grades = c.loop-g-test.true in
     let left = a.p.grades - 2 - l.g in
     let m = a.w.wire in
     let before : (u : ℕ) → u ≤ a.p.grades - 2 → RowsBefore a.p a.n m u = λ u few. rows_there a.p a.n m u few q.rows in
@@ -86,22 +76,22 @@ sum_levels_requires c κs =
       there = omega arith;
     }
 
-add_g : tie.Need-overflow-add-g invariant_loop decreases_loop
+add_g : tie.Need-overflow_add-g-in-loop-g invariant_loop decreases_loop
 add_g c =
-    let l = (loop_reached_from_slice_known2 c).loop in
-    omega (arith, l.inv.0, (start_from_sum_levels c.before.before).pre.part.planned.d_most)
+    let l = c.loop-g in
+    omega (arith, l.invariant.0, c.requires.part.planned.d_most)
 
-loop_less : tie.Need-loop-smaller invariant_loop decreases_loop
-loop_less c = omega (arith, c.before.before.before.before.if1.true)
+loop_less : tie.Need-loop-g-smaller invariant_loop decreases_loop
+loop_less c = omega (arith, c.loop-g-test.true)
 
-loop_again : tie.Need-loop-preserved invariant_loop decreases_loop
+loop_again : tie.Need-loop-g-preserved invariant_loop decreases_loop
 loop_again c =
-    let h = c.before.before.sum-levels in
-    let i = c.before.before.before.before in
-    let l = i.before.before.loop in
-    let a = i.before.before.before.before.args in
+    let h = c.sum_levels-next in
+    let i = c in
+    let l = i.loop-g in
+    let a = i.args in
     let p = a.p in
-    let t : l.g + 2 < p.grades = i.if1.true in
+    let t : l.g + 2 < p.grades = i.loop-g-test.true in
     let m = a.w.wire in
     let whole = all_levels p a.n m a.c 0 (p.grades - 2) in (
       omega arith,
@@ -114,22 +104,22 @@ loop_again c =
         ap (λ (k : ℕ). k * sum_size p) (add-one l.g),
         suc-mul l.g (sum_size p),
       ),
-      goes_on a.w a.table.now whole l.next l.table _ _ h.new.1.0 h.result
+      goes_on a.w a.table.now whole l.next l.table _ _ h.new.table h.result
           (goes_as a.w a.table.now whole l.next l.table _ _
           (levels_turn p a.n a.c m l.g l.next.wire t l.invariant.1) l.invariant.2)
           h.ensures,
     )
 
-same_length : tie.Need-same-length invariant_loop decreases_loop
-same_length c = c.before.before.loop.invariant.2.long
+same_length : tie.Need-shape_of-table invariant_loop decreases_loop
+same_length c = c.loop-g.invariant.2.long
 
 returns : tie.Need-returns invariant_loop decreases_loop
 returns c =
-    let l = c.before.before.loop in
-    let a = c.before.before.before.before.args in
+    let l = c.loop-g in
+    let a = c.args in
     let m = a.w.wire in
     goes_end a.w a.table.now (all_levels a.p a.n m a.c 0 (a.p.grades - 2)) l.next l.table _
-    (levels_end a.p a.n a.c m l.g (a.p.grades - 2) (omega (arith, c.if1.false))) l.invariant.2
+    (levels_end a.p a.n a.c m l.g (a.p.grades - 2) (omega (arith, c.loop-g-test.false))) l.invariant.2
 
 pub all_levels_spec : {M : Type 1} → statement M
 all_levels_spec = tie.close (tie.spec invariant_loop decreases_loop loop_holds add_if1 sum_levels_requires add_g loop_less loop_again same_length returns)

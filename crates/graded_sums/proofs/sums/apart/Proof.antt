@@ -6,8 +6,8 @@ use Rattle.graded_sums.proofs.Writers.{apart_most}
 use Rattle.graded_sums.proofs.sums.apart.Statement.{statement}
 use Rattle.graded_sums.proofs.sums.apart.Tie as tie
 
-mul_result : tie.Need-overflow-mul-result
-mul_result c = omega (arith, apart_most c.before.args.p c.before.requires)
+mul_result : tie.Need-overflow_mul-result
+mul_result c = omega (arith, apart_most c.args.p c.requires)
 
 returns : tie.Need-returns
 returns c = refl

@@ -6,12 +6,12 @@ use Rattle.graded_sums.proofs.Writers.{bits_most}
 use Rattle.graded_sums.proofs.sums.bits_at.Statement.{statement}
 use Rattle.graded_sums.proofs.sums.bits_at.Tie as tie
 
-mul_result : tie.Need-overflow-mul-result
-mul_result c = let a = c.before.args in let q = c.before.requires in
+mul_result : tie.Need-overflow_mul-result
+mul_result c = let a = c.args in let q = c.requires in
     omega (arith, bits_most a.p q.planned a.c a.g q.candidate q.grade)
 
-add_result : tie.Need-overflow-add-result
-add_result c = let a = c.before.args in let q = c.before.requires in
+add_result : tie.Need-overflow_add-result
+add_result c = let a = c.args in let q = c.requires in
     omega (arith, bits_most a.p q.planned a.c a.g q.candidate q.grade)
 
 returns : tie.Need-returns

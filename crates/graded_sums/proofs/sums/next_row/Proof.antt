@@ -15,56 +15,52 @@ use Rattle.graded_sums.proofs.Writers.{apart_most, row_apart_most}
 use Rattle.graded_sums.proofs.sums.next_row.Statement.{statement}
 use Rattle.graded_sums.proofs.sums.next_row.Tie as tie
 
-row_at_requires : tie.Need-row-at-requires
+row_at_requires : tie.Need-row_at-row-requires
 row_at_requires c κs =
-    let q = c.before.requires in
+    let q = c.requires in
     record {
       of = record { planned = q.part.planned; candidate = q.part.candidate; grade = omega (arith, q.grade) };
       small = omega (arith, q.row, q.part.room.small);
     }
 
-row_apart_requires : tie.Need-row-apart-requires
-row_apart_requires c κs = c.before.before.requires.part.planned
+row_apart_requires : tie.Need-row_apart-step-requires
+row_apart_requires c κs = c.requires.part.planned
 
-add_bits_at : tie.Need-overflow-add-bits-at
-add_bits_at c = let q = c.before.before.before.requires in omega (arith, q.grade, q.part.planned.d_most)
+add_bits_at : tie.Need-overflow_add-g
+add_bits_at c = let q = c.requires in omega (arith, q.grade, q.part.planned.d_most)
 
-bits_at_requires : tie.Need-bits-at-requires
+bits_at_requires : tie.Need-bits_at-bits-requires
 bits_at_requires c κs =
-    let q = c.before.before.before.requires in
+    let q = c.requires in
     record { planned = q.part.planned; candidate = q.part.candidate; grade = omega (arith, q.grade) }
 
-apart_requires : tie.Need-apart-requires
-apart_requires c κs = c.before.before.before.before.requires.part.planned
-
--- The stages of the function, seen from later ones.
-abbrev start_from_apart : tie.After-apart → tie.Start
-start_from_apart c = c.before.before.before.before.before
+apart_requires : tie.Need-apart-stride-requires
+apart_requires c κs = c.requires.part.planned
 
 -- the wire of the next grade's bits
-bits_are : (c : tie.After-apart) → c.before.bits_at.result
-    ≡ bits_at (start_from_apart c).args.p (start_from_apart c).args.c (suc (start_from_apart c).args.g)
-bits_are c = let a = (start_from_apart c).args in c.before.bits_at.ensures ∙ ap (bits_at a.p a.c) (add-one a.g)
+bits_are : (c : tie.After-apart-stride) → c.bits_at-bits.result
+    ≡ bits_at c.args.p c.args.c (suc c.args.g)
+bits_are c = let a = c.args in c.bits_at-bits.ensures ∙ ap (bits_at a.p a.c) (add-one a.g)
 
-xor_rows_requires : tie.Need-xor-rows-requires
+xor_rows_requires : tie.Need-xor_rows-requires
 xor_rows_requires c κs =
-    let t = c.before in
-    let s = (start_from_apart t) in
+    let t = c in
+    let s = t in
     let a = s.args in
-    let q = s.pre in
+    let q = s.requires in
     let f = q.part.planned in
     let wires : ℕ → ℕ → Type 0 = λ x y. Below a.w.wire x y a.p.ballots in
     record {
       room = q.part.room;
-      first_below = subst₂ wires (sym t.before.before.before.row_at.ensures) (sym t.before.before.Row-Apart.ensures)
+      first_below = subst₂ wires (sym t.row_at-row.ensures) (sym t.row_apart-step.ensures)
           (counted_below a.p f a.n a.w.wire a.c a.g q.part.inputs q.part.candidate q.row);
-      first_near = omega (arith, t.before.before.Row-Apart.ensures, row_apart_most a.p f a.g);
-      second_below = subst₂ wires (sym (bits_are t)) (sym t.apart.ensures)
+      first_near = omega (arith, t.row_apart-step.ensures, row_apart_most a.p f a.g);
+      second_below = subst₂ wires (sym (bits_are t.before)) (sym t.apart-stride.ensures)
           (bits_below a.p f a.w.wire a.c (suc a.g) (omega (arith, q.part.inputs, q.row)) q.part.candidate q.grade);
-      second_near = omega (arith, t.apart.ensures, apart_most a.p f);
+      second_near = omega (arith, t.apart-stride.ensures, apart_most a.p f);
     }
 
-same_length : tie.Need-same-length
+same_length : tie.Need-shape_of-table
 same_length c = search rules
 
 same_rows : {x x' dx dx' y y' dy dy' : ℕ} (m : ℕ) → x ≡ x' → dx ≡ dx' → y ≡ y' → dy ≡ dy' → xor_rows x dx y dy m ≡ xor_rows x' dx' y' dy' m
@@ -74,12 +70,12 @@ same_rows {x} {x'} {dx} {dx'} {y} {y'} {dy} {dy'} m p q r s =
 
 returns : tie.Need-returns
 returns c =
-    let h = c.before.before.xor-rows in
-    let t = c.before.before.before.before in
-    let a = (start_from_apart t).args in
-    wrote_as a.w a.table.now _ _ h.new.1.0 h.result
-    (same_rows a.p.ballots t.before.before.before.row_at.ensures t.before.before.Row-Apart.ensures
-    (bits_are t) t.apart.ensures)
+    let h = c.xor_rows in
+    let t = c in
+    let a = t.args in
+    wrote_as a.w a.table.now _ _ h.new.table h.result
+    (same_rows a.p.ballots t.row_at-row.ensures t.row_apart-step.ensures
+    (bits_are t.before.before.before.before) t.apart-stride.ensures)
     h.ensures
 
 pub next_row_spec : {M : Type 1} → statement M

@@ -15,46 +15,36 @@ use Rattle.graded_sums.proofs.Writers.{rows_turn, rows_end}
 use Rattle.graded_sums.proofs.sums.rows.Statement.{statement}
 use Rattle.graded_sums.proofs.sums.rows.Tie as tie
 
-abbrev invariant_loop : tie.invariant-loop
+abbrev invariant_loop : tie.invariant-loop-g
 invariant_loop table₀ p c n next₀ g₀ table next g =
     (g ≤ p.grades) × (next.wire ≡ n + g * p.ballots)
     × Goes next₀ table₀ (rows p n c 0 (p.grades - 3)) next table (rows p n c g (p.grades - 3 - g))
 
-abbrev decreases_loop : tie.decreases-loop
+abbrev decreases_loop : tie.decreases-loop-g
 decreases_loop table₀ p c n next₀ g₀ table next g = p.grades - g
 
-loop_holds : tie.Need-loop-init invariant_loop decreases_loop
+loop_holds : tie.Need-loop-g-init invariant_loop decreases_loop
 loop_holds c =
-    let a = c.before.args in
+    let a = c.args in
     let e : a.p.grades - 3 ≡ a.p.grades - 3 - 0 = omega arith in
     let whole = rows a.p a.w.wire a.c 0 (a.p.grades - 3) in (
       omega arith,
       omega (arith, zero-mul a.p.ballots),
       goes_as a.w a.table.now whole a.w a.table.now _ _ (ap (rows a.p a.w.wire a.c 0) e)
-          (goes_start a.w a.table.now whole ((a.p.grades - 3) * a.p.ballots) c.before.requires.room),
+          (goes_start a.w a.table.now whole ((a.p.grades - 3) * a.p.ballots) c.requires.room),
     )
 
-add_if1 : tie.Need-overflow-add-if1 invariant_loop decreases_loop
-add_if1 c = omega (arith, c.loop.invariant.0, c.before.before.requires.planned.d_most)
-
--- The stages of the function, seen from later ones.
-abbrev start_from_next_row_arg : tie.After-next-row-arg invariant_loop decreases_loop → tie.Start invariant_loop decreases_loop
-start_from_next_row_arg c = c.before.before.before.before.before
-
-abbrev start_from_next_row : tie.After-next-row invariant_loop decreases_loop → tie.Start invariant_loop decreases_loop
-start_from_next_row c = c.before.before.before.before.before.before
-
-abbrev loop_reached_from_slice_known2 : tie.After-slice-known2 invariant_loop decreases_loop → tie.At-loop invariant_loop decreases_loop
-loop_reached_from_slice_known2 c = c.before.before.before.before.before.before
+add_if1 : tie.Need-overflow_add-g invariant_loop decreases_loop
+add_if1 c = omega (arith, c.loop-g.invariant.0, c.requires.planned.d_most)
 
 -- in a turn, there is room for a row
-next_row_requires : tie.Need-next-row-requires invariant_loop decreases_loop
+next_row_requires : tie.Need-next_row-next-requires invariant_loop decreases_loop
 next_row_requires c κs =
-    let l = c.before.before.before.loop in
-    let s = (start_from_next_row_arg c) in
+    let l = c.loop-g in
+    let s = c in
     let a = s.args in
-    let q = s.pre in
-    let t : l.g + 3 < a.p.grades = c.before.if1.true in
+    let q = s.requires in
+    let t : l.g + 3 < a.p.grades = c.loop-g-test.true in
     let left = a.p.grades - 3 - l.g in
     let n = a.w.wire in
     record {
@@ -82,21 +72,21 @@ next_row_requires c κs =
       there = omega arith;
     }
 
-add_g : tie.Need-overflow-add-g invariant_loop decreases_loop
+add_g : tie.Need-overflow_add-g-in-loop-g invariant_loop decreases_loop
 add_g c =
-    let l = (loop_reached_from_slice_known2 c).loop in
-    omega (arith, l.inv.0, (start_from_next_row c.before.before).pre.planned.d_most)
+    let l = c.loop-g in
+    omega (arith, l.invariant.0, c.requires.planned.d_most)
 
-loop_less : tie.Need-loop-smaller invariant_loop decreases_loop
-loop_less c = omega (arith, c.before.before.before.before.if1.true)
+loop_less : tie.Need-loop-g-smaller invariant_loop decreases_loop
+loop_less c = omega (arith, c.loop-g-test.true)
 
-loop_again : tie.Need-loop-preserved invariant_loop decreases_loop
+loop_again : tie.Need-loop-g-preserved invariant_loop decreases_loop
 loop_again c =
-    let h = c.before.before.next_row in
-    let i = c.before.before.before.before in
-    let l = i.before.before.loop in
-    let a = i.before.before.before.before.args in
-    let t : l.g + 3 < a.p.grades = i.if1.true in
+    let h = c.next_row-next in
+    let i = c in
+    let l = i.loop-g in
+    let a = i.args in
+    let t : l.g + 3 < a.p.grades = i.loop-g-test.true in
     let n = a.w.wire in
     let whole = rows a.p n a.c 0 (a.p.grades - 3) in (
       omega arith,
@@ -109,21 +99,21 @@ loop_again c =
         ap (λ (k : ℕ). k * a.p.ballots) (add-one l.g),
         suc-mul l.g a.p.ballots,
       ),
-      goes_on a.w a.table.now whole l.next l.table _ _ h.new.1.0 h.result
+      goes_on a.w a.table.now whole l.next l.table _ _ h.new.table h.result
           (goes_as a.w a.table.now whole l.next l.table _ _ (rows_turn a.p n a.c l.g t) l.invariant.2)
           h.ensures,
     )
 
-same_length : tie.Need-same-length invariant_loop decreases_loop
-same_length c = c.before.before.loop.invariant.2.long
+same_length : tie.Need-shape_of-table invariant_loop decreases_loop
+same_length c = c.loop-g.invariant.2.long
 
 returns : tie.Need-returns invariant_loop decreases_loop
 returns c =
-    let l = c.before.before.loop in
-    let a = c.before.before.before.before.args in
+    let l = c.loop-g in
+    let a = c.args in
     let n = a.w.wire in
     goes_end a.w a.table.now (rows a.p n a.c 0 (a.p.grades - 3)) l.next l.table _
-    (rows_end a.p n a.c l.g (a.p.grades - 3) (omega (arith, c.if1.false))) l.invariant.2
+    (rows_end a.p n a.c l.g (a.p.grades - 3) (omega (arith, c.loop-g-test.false))) l.invariant.2
 
 pub rows_spec : {M : Type 1} → statement M
 rows_spec = tie.close (tie.spec invariant_loop decreases_loop loop_holds add_if1 next_row_requires add_g loop_less loop_again same_length returns)
