@@ -1,5 +1,5 @@
 /* Writes the list of a jury of two blends, three grades and three ballots, runs it and prints who wins.
- * Build: cc -o example c/example.c target/staticlib/libjugyvaros.a
+ * Build: cc -o example c/example.c crates/jugyvaros/out/libjugyvaros.a
  * or, once installed: cc -o example example.c $(pkg-config --cflags --libs jugyvaros) */
 #include <stdio.h>
 #include <stdlib.h>

@@ -1,4 +1,4 @@
-"""Runs programs of target/bin, and counts comparisons, for tests/rehearsal.py, tests/season.py and tests/tools.py."""
+"""Runs the built programs, and counts comparisons, for tests/rehearsal.py, tests/season.py and tests/tools.py."""
 
 import subprocess
 import sys
@@ -11,7 +11,7 @@ class Program:
     """A program that reads standard input to its end and then prints its answer."""
 
     def __init__(self, name):
-        self.path = ROOT / "target" / "bin" / name
+        self.path = ROOT / "crates" / name / "out" / name
 
     def said(self, data):
         return subprocess.run([self.path], input=data, stdout=subprocess.PIPE, check=True).stdout.decode()

@@ -415,21 +415,20 @@ def installed():
 
 # A toolchain that proves nothing: it prints what a real one would, or fails if there is a file named `fail`.
 FAKE_RT = """#!/bin/sh
-echo called >> calls
-test -e fail && echo 'error: a reason' && exit 1
-echo 'rt: gates proved (1 s)'
+echo called >> {folder}/calls
+test -e {folder}/fail && echo 'error: a reason' && exit 1
+echo 'rt: chose --jobs 2 for gates'
 echo 'fn gates::kind::apply: proved'
-echo 'rt: jury proved (unchanged since it was last proved)'
-echo 'rt: c_tally proved (2 s)'
-echo 'rt: ok, 3 crates proved'
+echo 'crate gates: modules loaded=0 checked=33'
+echo 'logic=proved functions=1'
+echo 'library jury: modules loaded=18 checked=0'
+echo 'crate jugyvaros: modules loaded=0 checked=2'
+echo 'logic=proved functions=2'
+mkdir -p out
+test "$1" = run || cp {archive} out/
 """
-FAKE_LIBRARY = """#!/bin/sh
-mkdir -p target/staticlib && cp {archive} target/staticlib/
-echo 'rt: target/staticlib/libc_tally.a has its functions'
-"""
-PROGRESS = """rt: gates proved (1 s)
-rt: c_tally proved (2 s)
-rt: target/staticlib/libc_tally.a has its functions
+PROGRESS = """tools/library: gates is proved
+tools/library: jugyvaros is proved
 """
 
 
@@ -438,9 +437,12 @@ def built():
     with tempfile.TemporaryDirectory() as name:
         folder = pathlib.Path(name)
         shutil.copytree(ROOT / "python/jugyvaros", folder / "python/jugyvaros")
-        archive = ROOT / "target/staticlib/libjugyvaros.a"
-        scripts = {"tools/library": FAKE_LIBRARY.format(archive=archive), "bin/rt": FAKE_RT}
-        for path, text in {**scripts, "crates.txt": "gates:\nc_tally: gates\n", "crates/gates/src/lib.rt": ""}.items():
+        archive = "crates/jugyvaros/out/libjugyvaros.a"
+        texts = {"tools/library": (ROOT / "tools/library").read_text(),
+                 "bin/rt": FAKE_RT.format(folder=folder, archive=ROOT / archive),
+                 "crates.txt": "gates:\njugyvaros staticlib: gates\nrehearsal: gates\n",
+                 **{f"crates/{crate}/src/lib.rt": "" for crate in ("gates", "jugyvaros", "rehearsal")}}
+        for path, text in texts.items():
             (folder / path).parent.mkdir(parents=True, exist_ok=True)
             (folder / path).write_text(text)
             (folder / path).chmod(0o755)
@@ -454,21 +456,22 @@ def built():
         first, again = said(), said()
         assert (first.stdout, first.stderr) == ("2\n", PROGRESS), first
         assert (again.stdout, again.stderr, calls()) == ("2\n", "", 1), again
-        later = (folder / "target/staticlib/libjugyvaros.a").stat().st_mtime + 5
+        later = (folder / archive).stat().st_mtime + 5
         os.utime(folder / "crates/gates/src/lib.rt", (later, later))
         assert said().stdout == "2\n" and calls() == 2
-        program = folder / "target/bin/rehearsal"
+        program = folder / "crates/rehearsal/out/rehearsal"
         program.parent.mkdir()
         program.touch()
-        for path, when in ((program, 1), (folder / "crates.txt", 2), (folder / "crates/gates/src/lib.rt", 2)):
-            os.utime(path, (when, when))
+        os.utime(program, (1, 1))
+        for path in texts:
+            os.utime(folder / path, (2, 2))
         for _ in range(2):
             assert said("print(jugyvaros.repository.program('rehearsal').name)").stdout == "rehearsal\n"
         assert calls() == 3                                  # only once more: the second time the program is not older
         (folder / "fail").touch()
         os.utime(folder / "crates/gates/src/lib.rt", (later + 60, later + 60))
         lines = said().stderr.splitlines()
-        assert "error: a reason" in lines and "NotBuilt: rt check c_tally failed" in lines[-1], lines
+        assert "error: a reason" in lines and f"NotBuilt: {folder}/tools/library failed" in lines[-1], lines
         (folder / "bin/rt").unlink()
         last = said(PATH=f"{folder}/bin").stderr.splitlines()[-1]
         assert "NotBuilt: rt is not installed" in last, last

@@ -1,7 +1,7 @@
 #!/usr/bin/env python3
 """Runs the rehearsal program on many inputs and compares what it prints with the reference.
 
-    python3 tests/rehearsal.py    needs target/bin/rehearsal (rt check rehearsal builds it) and the library
+    python3 tests/rehearsal.py    needs crates/rehearsal/out/rehearsal (rt ci or rt run) and the library
 
 Inputs: the example in [rehearsal], the files in examples/ with their results, empty and short inputs, inputs that come
 in pieces, the longest good input, inputs around and above the number of bytes that are kept, faults in shape and

@@ -1,7 +1,7 @@
 #!/usr/bin/env python3
 """Runs the season sheet on many inputs and compares what it prints with an independent sum; tries tools/season.
 
-    python3 tests/season.py    needs target/bin/season_sheet and target/bin/rehearsal (rt check), and the library
+    python3 tests/season.py    needs season_sheet and rehearsal in their out/ (rt ci or rt run) and the library
 
 Inputs: no run, one, 4,096 and 4,097; all lengths near 12 and near 49,152; every value of each byte of a shape, every
 mask for every k; faults in pairs; inputs that come in pieces; the largest totals; random sheets, some of them

@@ -1,6 +1,6 @@
 """tools/list: the own list as text and back, its errors for bad texts, and the exported circuit, evaluated here.
 
-    python3 tests/text_tools.py    needs target/staticlib/libjugyvaros.a
+    python3 tests/text_tools.py    needs crates/jugyvaros/out/libjugyvaros.a
 """
 
 import importlib.machinery

@@ -2,7 +2,7 @@
 """The exported calls on an urn against an independent model, over the static library: soundness of every urn of two
 and three slots over small bytes, every kind of damage, urns of 256 slots, pairs of faults, long random sequences of
 calls, tables of every length made into empty urns, and previews of different urns with the same answer. Needs a C
-compiler and target/staticlib/libjugyvaros.a. All buffers have guards on both sides (core.py)."""
+compiler and crates/jugyvaros/out/libjugyvaros.a. All buffers have guards on both sides (core.py)."""
 import itertools
 import random
 import sys

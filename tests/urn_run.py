@@ -1,7 +1,7 @@
 #!/usr/bin/env python3
 """The run on an urn against the reference, over the static library: chains in any order of slots, an n that is not the
 number of ballots, damaged urns, every fault with every other, full urns, short answer arrays, and random calls. Needs a
-C compiler and target/staticlib/libjugyvaros.a."""
+C compiler and crates/jugyvaros/out/libjugyvaros.a."""
 import itertools
 import random
 import sys

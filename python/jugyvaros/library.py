@@ -2,7 +2,7 @@
 
 The library is, in this order,
   1. the shared object that the environment variable JUGYVAROS_LIBRARY names,
-  2. in a checkout of the repository, target/staticlib/libjugyvaros.so, built first if a source is newer,
+  2. in a checkout of the repository, crates/jugyvaros/out/libjugyvaros.so, built first if a source is newer,
   3. the copy that `pip install` put beside this file.
 """
 

@@ -8,9 +8,9 @@ from __future__ import annotations
 import os
 import pathlib
 import re
+import shutil
 import subprocess
 import sys
-from collections.abc import Sequence
 from typing import Union
 
 _PARENT = pathlib.Path(__file__).resolve().parents[2]
@@ -18,8 +18,9 @@ _IS_CHECKOUT = (_PARENT / "tools/library").exists() and (_PARENT / "crates.txt")
 ROOT: pathlib.Path | None = _PARENT if _IS_CHECKOUT else None
 Word = Union[str, pathlib.Path]
 LAST_LINES = 20
-# a crate that was proved just now, or its archive
-_PROGRESS = re.compile(r"rt: \w+ proved \(\d|rt: target/")
+# what a check says of a crate before its verdict, and what tools/library says of one that is proved
+_CRATE = re.compile(r"crate (\w+): ")
+_PROGRESS = re.compile(r"tools/library: \w+ is proved")
 
 
 class NotBuilt(Exception):
@@ -40,42 +41,45 @@ def _is_older(made: pathlib.Path) -> bool:
     when = made.stat().st_mtime
     if (root() / "crates.txt").stat().st_mtime > when:
         return True
-    folders = os.walk(root() / "crates")
-    return any(os.stat(os.path.join(folder, name)).st_mtime > when for folder, _, names in folders for name in names)
+    for folder, folders, names in os.walk(root() / "crates"):
+        if "out" in folders:                                 # what rt made of a crate
+            folders.remove("out")
+        if any(os.stat(os.path.join(folder, name)).st_mtime > when for name in names):
+            return True
+    return False
 
 
-def _build(*command: Word) -> None:
-    """Runs a build command. Standard error gets a line for each crate that is done, and the last lines of a failure."""
-    seen = []
+def _build(*command: Word, below: str = ".", needs: str | None = None) -> None:
+    """Runs a build command in a folder of the repository. Standard error gets a line for each crate that is proved, and
+    the last lines of a failure. `needs` is the command of others that it calls."""
+    seen, crate = [], ""
     try:
-        process = subprocess.Popen(
-            command, cwd=root(), stdin=subprocess.DEVNULL, stdout=subprocess.PIPE, stderr=subprocess.STDOUT, text=True)
+        if needs and shutil.which(needs) is None:
+            raise FileNotFoundError
+        process = subprocess.Popen(command, cwd=root() / below, stdin=subprocess.DEVNULL, stdout=subprocess.PIPE,
+                                   stderr=subprocess.STDOUT, text=True)
     except FileNotFoundError:
-        missing = f"{command[0]} is not installed, and the core has to be built"
+        missing = f"{needs or command[0]} is not installed, and the core has to be built"
         raise NotBuilt(f"{missing}; put it on PATH, or set JUGYVAROS_LIBRARY") from None
     assert process.stdout is not None
     for line in process.stdout:
         seen.append(line)
-        if _PROGRESS.match(line):
+        named = _CRATE.match(line)
+        crate = named[1] if named else crate
+        if line.startswith("logic=proved"):
+            print(f"rt: {crate} is proved", file=sys.stderr, flush=True)
+        elif _PROGRESS.match(line):
             print(line, end="", file=sys.stderr, flush=True)
     if process.wait():
         sys.stderr.write("".join(seen[-LAST_LINES:]))
         raise NotBuilt(f"{' '.join(map(str, command))} failed; its last lines are above")
 
 
-def _export_crates() -> Sequence[str]:
-    """The crates whose functions C can call."""
-    names = (line.split(":")[0] for line in (root() / "crates.txt").read_text().splitlines())
-    return [name for name in names if name.startswith("c_")]
-
-
 def archive() -> pathlib.Path:
-    """target/staticlib/libjugyvaros.a, proved and built first if a source is newer."""
-    made = root() / "target/staticlib/libjugyvaros.a"
+    """crates/jugyvaros/out/libjugyvaros.a, proved and built first if a source is newer."""
+    made = root() / "crates/jugyvaros/out/libjugyvaros.a"
     if _is_older(made):
-        # `rt check` prints a line for each crate that is done; tools/library then finds everything proved
-        _build("rt", "check", *_export_crates())
-        _build(root() / "tools/library")
+        _build(root() / "tools/library", needs="rt")
     return made
 
 
@@ -96,10 +100,11 @@ def link(source: pathlib.Path, made: pathlib.Path) -> None:
 
 
 def program(name: str) -> pathlib.Path:
-    """A program of the repository in target/bin, proved and built first if a source is newer."""
-    made = root() / "target/bin" / name
+    """A program of the repository in its crate's out/, proved and built first if a source is newer."""
+    made = root() / "crates" / name / "out" / name
     if _is_older(made):
-        _build("rt", "check", name)
+        # this also runs it, on no input
+        _build("rt", "run", below=f"crates/{name}")
         # the build does not rewrite a program whose sources were only touched; touch it, so that it is not built again
         made.touch()
     return made

@@ -1,8 +1,8 @@
 """Builds the wheel for pip, with the standard library only: nothing is fetched, so it works without a network.
 
 The wheel holds the package and a copy of the core's shared object: the file that JUGYVAROS_LIBRARY names, if it is set;
-otherwise one linked from the checkout's target/staticlib/libjugyvaros.a, which is proved and built first if a source is
-newer.
+otherwise one linked from the checkout's crates/jugyvaros/out/libjugyvaros.a, which is proved and built first if a
+source is newer.
 """
 
 import base64
