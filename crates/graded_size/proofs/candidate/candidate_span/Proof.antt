@@ -22,65 +22,65 @@ record Parts (p : Plan) (rows sum worst : ℕ) : Type 0 where
   narrow : p.digits ≤ 7
   some : 2 ≤ p.grades
 
-rows_span_requires : tie.Need-rows-span-requires
+rows_span_requires : tie.Need-rows_span-rows-requires
 rows_span_requires c κs = c.requires
 
-count_size_requires : tie.Need-count-size-requires
+count_size_requires : tie.Need-count_size-sum-requires
 count_size_requires c κs =
-    let p = c.before.args.p in
-    let f = c.before.requires in
+    let p = c.args.p in
+    let f = c.requires in
     record { few = omega (arith, f.n_most); small = omega (arith, sum_small p f); countable = first_countable p f }
 
-count_size_requires_2 : tie.Need-count-size-requires-2
+count_size_requires_2 : tie.Need-count_size-worst-requires
 count_size_requires_2 c κs =
-    let p = c.before.before.args.p in
-    let f = c.before.before.requires in
+    let p = c.args.p in
+    let f = c.requires in
     record { few = omega (arith, f.n_most); small = omega (arith, worst_small p f); countable = worst_countable p f }
 
-parts : (c : tie.After-count-size2)
-    → Parts c.before.before.before.args.p c.before.before.rows-span.result
-    c.before.count-size.result c.count-size2.result
+parts : (c : tie.After-count_size-worst)
+    → Parts c.args.p c.rows_span-rows.result
+    c.count_size-sum.result c.count_size-worst.result
 parts c =
-    let p = c.before.before.before.args.p in
-    let f = c.before.before.before.requires in
+    let p = c.args.p in
+    let f = c.requires in
     record {
-      rows_are = c.before.before.rows-span.ensures;
-      sums_are = ap (λ (k : ℕ). (p.grades - 2) * k) c.before.count-size.ensures;
-      worst_is = c.count-size2.ensures;
+      rows_are = c.rows_span-rows.ensures;
+      sums_are = ap (λ (k : ℕ). (p.grades - 2) * k) c.count_size-sum.ensures;
+      worst_is = c.count_size-worst.ensures;
       few = parts_small p f;
       narrow = digits_most p f;
       some = f.d_least;
     }
 
-sub_result : tie.Need-overflow-sub-result
+sub_result : tie.Need-overflow_sub-result
 sub_result c = omega (arith, (parts c.before).some)
 
-mul_result : tie.Need-overflow-mul-result
+mul_result : tie.Need-overflow_mul-result
 mul_result c = let q = parts c.before in omega (arith, q.sums_are, q.few)
 
-add_result : tie.Need-overflow-add-result
+add_result : tie.Need-overflow_add-result
 add_result c = let q = parts c.before in omega (arith, q.rows_are, q.sums_are, q.few)
 
-add_result_2 : tie.Need-overflow-add-result-2
+add_result_2 : tie.Need-overflow_add-result-2
 add_result_2 c = let q = parts c.before in omega (arith, q.rows_are, q.sums_are, q.worst_is, q.few)
 
-sub_result_2 : tie.Need-overflow-sub-result-2
+sub_result_2 : tie.Need-overflow_sub-result-2
 sub_result_2 c = omega (arith, (parts c.before.before).some)
 
-add_result_3 : tie.Need-overflow-add-result-3
+add_result_3 : tie.Need-overflow_add-result-3
 add_result_3 c = omega (arith, (parts c.before.before.before).narrow)
 
-mul_result_2 : tie.Need-overflow-mul-result-2
+mul_result_2 : tie.Need-overflow_mul-result-2
 mul_result_2 c = omega (arith, (parts c.before.before.before).few)
 
-add_result_4 : tie.Need-overflow-add-result-4
+add_result_4 : tie.Need-overflow_add-result-4
 add_result_4 c = let q = parts c.before.before.before in omega (arith, q.rows_are, q.sums_are, q.worst_is, q.few)
 
 returns : tie.Need-returns
 returns c =
-    let t = c.before.before.before in
-    let q = parts t in
-    omega (arith, q.rows_are, q.sums_are, q.worst_is, candidate_span_lem t.before.before.before.args.p)
+    let t = c in
+    let q = parts t.before.before.before in
+    omega (arith, q.rows_are, q.sums_are, q.worst_is, candidate_span_lem t.args.p)
 
 pub candidate_span_spec : {M : Type 1} → statement M
 candidate_span_spec =

@@ -8,19 +8,19 @@ use Rattle.graded_size.proofs.Spans.{parts_small}
 use Rattle.graded_size.proofs.candidate.rows_span.Statement.{statement}
 use Rattle.graded_size.proofs.candidate.rows_span.Tie as tie
 
-returns : tie.Need-returns
+returns : tie.Need-returns-then-p-eq2
 returns c =
-    let p = c.before.before.args.p in
-    let e : 0 ≡ p.grades - 3 = omega (arith, c.if1.true) in
+    let p = c.args.p in
+    let e : 0 ≡ p.grades - 3 = omega (arith, c.if-p-eq2.true) in
     sym (zero-mul p.ballots) ∙ ap (λ (k : ℕ). k * p.ballots) e
 
-sub_result : tie.Need-overflow-sub-result
-sub_result c = omega (arith, c.before.if1.false, c.before.before.before.requires.d_least)
+sub_result : tie.Need-overflow_sub-result
+sub_result c = omega (arith, c.if-p-eq2.false, c.requires.d_least)
 
-mul_result : tie.Need-overflow-mul-result
-mul_result c = let s = c.before.before.before.before in omega (arith, parts_small s.args.p s.requires)
+mul_result : tie.Need-overflow_mul-result
+mul_result c = let s = c in omega (arith, parts_small s.args.p s.requires)
 
-returns_2 : tie.Need-returns-2
+returns_2 : tie.Need-returns
 returns_2 c = refl
 
 pub rows_span_spec : {M : Type 1} → statement M

@@ -26,76 +26,76 @@ record Whole (p : Plan) (each contest low high : ℕ) : Type 0 where
   high_few : high ≤ 1500
   few : p.candidates ≤ 8
 
-whole : (c : tie.After-best-of-four-span2)
-    → Whole c.before.before.before.before.before.before.args.p
-    c.before.before.before.before.before.candidate-span.result
-    c.before.before.before.before.contest-span.result c.before.best-of-four-span.result c.best-of-four-span2.result
+whole : (c : tie.After-best_of_four_span-high)
+    → Whole c.args.p
+    c.candidate_span-each.result
+    c.contest_span-contest.result c.best_of_four_span-low.result c.best_of_four_span-high.result
 whole c =
-    let p = c.before.before.before.before.before.before.args.p in
-    let f = c.before.before.before.before.before.before.requires.plan in
+    let p = c.args.p in
+    let f = c.requires.plan in
     let k = p.candidates in
-    let e = ap (λ (x : ℕ). k * x) c.before.before.before.before.before.candidate-span.ensures in
+    let e = ap (λ (x : ℕ). k * x) c.candidate_span-each.ensures in
     record {
       all = e;
       all_few = omega (arith, e, all_small p f);
-      contest_is = c.before.before.before.before.contest-span.ensures;
-      contest_few = omega (arith, c.before.before.before.before.contest-span.ensures, contest_small p f);
-      low_is = c.before.best-of-four-span.ensures;
-      low_few = omega (arith, c.before.best-of-four-span.ensures, four_small p f (k / 2) (omega (arith, f.k_most)));
-      high_is = c.best-of-four-span2.ensures;
-      high_few = omega (arith, c.best-of-four-span2.ensures, four_small p f (k - k / 2) (omega (arith, f.k_most)));
+      contest_is = c.contest_span-contest.ensures;
+      contest_few = omega (arith, c.contest_span-contest.ensures, contest_small p f);
+      low_is = c.best_of_four_span-low.ensures;
+      low_few = omega (arith, c.best_of_four_span-low.ensures, four_small p f (k / 2) (omega (arith, f.k_most)));
+      high_is = c.best_of_four_span-high.ensures;
+      high_few = omega (arith, c.best_of_four_span-high.ensures, four_small p f (k - k / 2) (omega (arith, f.k_most)));
       few = f.k_most;
     }
 
-candidate_span_requires : tie.Need-candidate-span-requires
+candidate_span_requires : tie.Need-candidate_span-each-requires
 candidate_span_requires c κs = search rules
 
-contest_span_requires : tie.Need-contest-span-requires
+contest_span_requires : tie.Need-contest_span-contest-requires
 contest_span_requires c κs = search rules
 
-sub_key : tie.Need-overflow-sub-key
+sub_key : tie.Need-overflow_sub-key
 sub_key c = search rules
 
-add_key : tie.Need-overflow-add-key
-add_key c = omega (arith, digits_most c.before.before.before.before.args.p c.before.before.before.before.requires.plan)
+add_key : tie.Need-overflow_add-key
+add_key c = omega (arith, digits_most c.args.p c.requires.plan)
 
-mul_key : tie.Need-overflow-mul-key
-mul_key c = omega (arith, contest_small c.before.before.before.before.args.p c.before.before.before.before.requires.plan)
+mul_key : tie.Need-overflow_mul-key
+mul_key c = omega (arith, contest_small c.args.p c.requires.plan)
 
-best_of_four_span_requires : tie.Need-best-of-four-span-requires
+best_of_four_span_requires : tie.Need-best_of_four_span-low-requires
 best_of_four_span_requires c κs = search rules
 
-sub_best_of_four_span : tie.Need-overflow-sub-best-of-four-span
+sub_best_of_four_span : tie.Need-overflow_sub-count
 sub_best_of_four_span c = search rules
 
-best_of_four_span_requires_2 : tie.Need-best-of-four-span-requires-2
+best_of_four_span_requires_2 : tie.Need-best_of_four_span-high-requires
 best_of_four_span_requires_2 c κs = search rules
 
-mul_result : tie.Need-overflow-mul-result
+mul_result : tie.Need-overflow_mul-result
 mul_result c = omega (arith, whole c)
 
-add_result : tie.Need-overflow-add-result
+add_result : tie.Need-overflow_add-result
 add_result c = omega (arith, whole c)
 
-add_result_2 : tie.Need-overflow-add-result-2
+add_result_2 : tie.Need-overflow_add-result-2
 add_result_2 c = omega (arith, whole c)
 
-add_result_3 : tie.Need-overflow-add-result-3
+add_result_3 : tie.Need-overflow_add-result-3
 add_result_3 c = omega (arith, whole c)
 
-add_result_4 : tie.Need-overflow-add-result-4
+add_result_4 : tie.Need-overflow_add-result-4
 add_result_4 c = omega (arith, whole c)
 
-add_result_5 : tie.Need-overflow-add-result-5
+add_result_5 : tie.Need-overflow_add-result-5
 add_result_5 c = omega (arith, whole c)
 
 returns : tie.Need-returns
 returns c = omega (
   arith,
   whole c,
-  (circuit_block c.before.before.before.before.before.before.args.p
-      c.before.before.before.before.before.before.requires.plan
-      c.before.before.before.before.before.before.requires.several).long,
+  (circuit_block c.args.p
+      c.requires.plan
+      c.requires.several).long,
 )
 
 pub circuit_span_spec : {M : Type 1} → statement M
