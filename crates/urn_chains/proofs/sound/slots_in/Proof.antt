@@ -11,40 +11,40 @@ use borrow.Author.Rules.{rules}
 use Rattle.urn_chains.proofs.sound.slots_in.Statement.{statement}
 use Rattle.urn_chains.proofs.sound.slots_in.Tie as tie
 
-add_size : tie.Need-overflow-add-size
+add_size : tie.Need-overflow_add-size
 add_size c =
     omega (arith, c.requires)
 
-rem_if1 : tie.Need-nonzero-rem-if1
+rem_if1 : tie.Need-nonzero_rem-length
 rem_if1 c = search rules
 
-returns : tie.Need-returns
+returns : tie.Need-returns-then-length-size-ne0
 unfolding slot_bytes
 returns c =
-    let a = c.before.args in
-    ap (λ (t : Bool). cond t (slot_count a.bytes a.length) 0) (sym (length_rest a.bytes a.length c.if1.true))
+    let a = c.args in
+    ap (λ (t : Bool). cond t (slot_count a.bytes a.length) 0) (sym (length_rest a.bytes a.length c.if-length-size-ne0.true))
 
-div_slots : tie.Need-nonzero-div-slots
+div_slots : tie.Need-nonzero_div-slots
 div_slots c = search rules
 
-returns_2 : tie.Need-returns-2
+returns_2 : tie.Need-returns-then-slots-lt-LEAST_SLOTS
 unfolding slot_bytes slot_count
 returns_2 c =
-    let a = c.before.before.args in
-    ap (λ (t : Bool). cond t (slot_count a.bytes a.length) 0) (sym (length_few a.bytes a.length c.if2.true))
+    let a = c.args in
+    ap (λ (t : Bool). cond t (slot_count a.bytes a.length) 0) (sym (length_few a.bytes a.length c.if-slots-lt-LEAST_SLOTS.true))
 
-returns_3 : tie.Need-returns-3
+returns_3 : tie.Need-returns-then-slots-gt-MOST_SLOTS
 unfolding slot_bytes slot_count
 returns_3 c =
-    let a = c.before.before.before.args in
-    ap (λ (t : Bool). cond t (slot_count a.bytes a.length) 0) (sym (length_many a.bytes a.length c.if3.true))
+    let a = c.args in
+    ap (λ (t : Bool). cond t (slot_count a.bytes a.length) 0) (sym (length_many a.bytes a.length c.if-slots-gt-MOST_SLOTS.true))
 
-returns_4 : tie.Need-returns-4
+returns_4 : tie.Need-returns
 unfolding slot_bytes slot_count
 returns_4 c =
-    let a = c.before.before.before.args in
+    let a = c.args in
     ap (λ (t : Bool). cond t (slot_count a.bytes a.length) 0)
-    (sym (length_all a.bytes a.length c.before.before.if1.false c.before.if2.false c.if3.false))
+    (sym (length_all a.bytes a.length c.if-length-size-ne0.false c.if-slots-lt-LEAST_SLOTS.false c.if-slots-gt-MOST_SLOTS.false))
 
 pub slots_in_spec : {M : Type 1} → statement M
 slots_in_spec =

@@ -14,52 +14,48 @@ use native.Mathlib.Omega.{arith}
 use Rattle.urn_chains.proofs.sound.test.Statement.{statement}
 use Rattle.urn_chains.proofs.sound.test.Tie as tie
 
-mul_slots_in : tie.Need-overflow-mul-slots-in
+mul_slots_in : tie.Need-overflow_mul-k
 mul_slots_in c =
-    omega (arith, few_bytes c.before.args.k c.before.args.d c.before.requires)
+    omega (arith, few_bytes c.args.k c.args.d c.requires)
 
-slots_in_requires : tie.Need-slots-in-requires
+slots_in_requires : tie.Need-slots_in-slots-requires
 slots_in_requires c κs =
-    few_bytes c.before.args.k c.before.args.d c.before.requires
+    few_bytes c.args.k c.args.d c.requires
 
-returns : tie.Need-returns
+returns : tie.Need-returns-then-slots-eq0
 unfolding sound
 returns c =
-    let s = c.before.before.before in
-    let a = s.args in
+    let a = c.args in
     let b = a.k * a.d in
     let m = length a.urn.now in
     unsound_is _ _ (ap (λ (t : Bool). t && sound_slots a.k a.d (urn_slots a.k a.d a.urn.now))
-    (counted_false (urn_length b m) (slot_count b m) _ c.before.slots-in.ensures c.if1.true
+    (counted_false (urn_length b m) (slot_count b m) _ c.slots_in-slots.ensures c.if-slots-eq0.true
     (count_least b m)))
 
-test_slots_requires : tie.Need-test-slots-requires
+test_slots_requires : tie.Need-test_slots-requires
 test_slots_requires c κs =
-    let s = c.before.before.before in
-    let a = s.args in
+    let a = c.args in
     let b = a.k * a.d in
     let m = length a.urn.now in
     record {
-      graded = s.requires;
+      graded = c.requires;
       table =
-          table b a.urn.now _ (few_bytes a.k a.d s.requires)
-          (counted_true (urn_length b m) (slot_count b m) _ c.before.slots-in.ensures c.if1.false)
-          (counted_is (urn_length b m) (slot_count b m) _ c.before.slots-in.ensures c.if1.false);
+          table b a.urn.now _ (few_bytes a.k a.d c.requires)
+          (counted_true (urn_length b m) (slot_count b m) _ c.slots_in-slots.ensures c.if-slots-eq0.false)
+          (counted_is (urn_length b m) (slot_count b m) _ c.slots_in-slots.ensures c.if-slots-eq0.false);
     }
 
-returns_2 : tie.Need-returns-2
+returns_2 : tie.Need-returns
 unfolding sound urn_slots
 returns_2 c =
-    let e = c.before in
-    let s = e.before.before.before in
-    let a = s.args in
+    let a = c.args in
     let b = a.k * a.d in
     let m = length a.urn.now in
-    let good = counted_true (urn_length b m) (slot_count b m) _ e.before.slots-in.ensures e.if1.false in
-    c.test-slots.ensures
+    let good = counted_true (urn_length b m) (slot_count b m) _ c.slots_in-slots.ensures c.if-slots-eq0.false in
+    c.test_slots.ensures
     ∙ ap (λ (n : ℕ). soundness (sound_slots a.k a.d (slots_of b n a.urn.now))
     (length (ballot_chain (slots_of b n a.urn.now))))
-    (counted_is (urn_length b m) (slot_count b m) _ e.before.slots-in.ensures e.if1.false)
+    (counted_is (urn_length b m) (slot_count b m) _ c.slots_in-slots.ensures c.if-slots-eq0.false)
     ∙ ap (λ (t : Bool). soundness (t && sound_slots a.k a.d (slots_of b (slot_count b m) a.urn.now))
     (length (ballot_chain (slots_of b (slot_count b m) a.urn.now)))) (sym good)
 

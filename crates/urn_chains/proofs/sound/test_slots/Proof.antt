@@ -17,156 +17,131 @@ use borrow.Author.Rules.{rules}
 use Rattle.urn_chains.proofs.sound.test_slots.Statement.{statement}
 use Rattle.urn_chains.proofs.sound.test_slots.Tie as tie
 
--- The start of the call, seen from after the test of slot 0, and from after each walk.
-abbrev from_head : tie.Else1 → tie.Start
-from_head c = c.before.before.before.before
-
-abbrev from_ballots : tie.Else2 → tie.Start
-from_ballots c = from_head c.before.before.before
-
-abbrev from_free : tie.Else3 → tie.Start
-from_free c = from_ballots c.before.before.before.before
-
 -- the test of slot 0, from its bytes
-head_told : (c : tie.After-is-zero) →
-    let a = c.before.before.before.args in
+head_told : (c : tie.After-is_zero) →
+    let a = c.args in
     all_zero (take (a.k * a.d) (drop 2 a.urn.now)) ≡ c.is_zero.result
 head_told c =
-    let a = c.before.before.before.args in
+    let a = c.args in
     ap (λ (n : ℕ). all_zero (take n (drop 2 a.urn.now))) {x = a.k * a.d} {y = 2 + a.k * a.d - 2}
     (omega arith) ∙ sym c.is_zero.ensures
 
 -- what the walks found, each along its chain; the walk along the free chain began with the marks of the other
-ballots_counted : (c : tie.Else2) →
-    let a = (from_ballots c).args in
-    c.before.before.walk-ballots.result.count
+ballots_counted : (c : tie.Else-not-ballots) →
+    let a = c.args in
+    c.walk_ballots-ballots.result.count
     ≡ length (chain a.slots (get_or a.urn.now 0 0) (slots_of (a.k * a.d) a.slots a.urn.now))
-ballots_counted c = c.before.before.walk-ballots.ensures.counted (not-false _ c.if2.false)
+ballots_counted c = c.walk_ballots-ballots.ensures.counted (not-false _ c.if-not-ballots.false)
 
-free_counted : (c : tie.Else3) →
-    let a = (from_free c).args in
-    c.before.before.walk-free.result.count
+free_counted : (c : tie.Else-not-free) →
+    let a = c.args in
+    c.walk_free-free.result.count
     ≡ length (chain a.slots (get_or a.urn.now 1 0) (slots_of (a.k * a.d) a.slots a.urn.now))
-free_counted c = c.before.before.walk-free.ensures.counted (not-false _ c.if3.false)
+free_counted c = c.walk_free-free.ensures.counted (not-false _ c.if-not-free.false)
 
-free_told : (c : tie.After-struct-known2) →
-    let a = (from_ballots c.before.before.before).args in
+free_told : (c : tie.After-struct_known-2-1) →
+    let a = c.args in
     let ss = slots_of (a.k * a.d) a.slots a.urn.now in
     free_from ss a.slots (get_or a.urn.now 1 0) (mark_all (chain a.slots (get_or a.urn.now 0 0) ss) no_marks)
-    ≡ c.before.walk-free.result.good
+    ≡ c.walk_free-free.result.good
 free_told c =
-    let e = c.before.before.before in
-    let a = (from_ballots e).args in
+    let a = c.args in
     let ss = slots_of (a.k * a.d) a.slots a.urn.now in
     ap (free_from ss a.slots (get_or a.urn.now 1 0))
-    (sym (e.before.before.walk-ballots.ensures.marked (not-false _ e.if2.false)))
-    ∙ sym c.before.walk-free.ensures.told
+    (sym (c.walk_ballots-ballots.ensures.marked (not-false _ c.if-not-ballots.false)))
+    ∙ sym c.walk_free-free.ensures.told
 
-mul_bytes : tie.Need-overflow-mul-bytes
+mul_bytes : tie.Need-overflow_mul-bytes
 mul_bytes c = search rules
 
-add_size : tie.Need-overflow-add-size
+add_size : tie.Need-overflow_add-size
 add_size c = search rules
 
-sub_is_zero : tie.Need-overflow-sub-is-zero
+sub_is_zero : tie.Need-slice_bounds-is_zero-count
 sub_is_zero c = search rules
 
-part_is_zero_start : tie.Need-slice-bounds-is-zero-start
+part_is_zero_start : tie.Need-slice_bounds-is_zero-start
 part_is_zero_start c = search rules
 
-part_is_zero_end : tie.Need-slice-bounds-is-zero-end
+part_is_zero_end : tie.Need-slice_bounds-is_zero-end
 part_is_zero_end c =
-    let s = c.before in
-    let a = s.args in
-    let p = s.requires.table in
+    let a = c.args in
+    let p = c.requires.table in
     omega (arith, slot_within 0 a.slots (a.k * a.d) (omega (arith, p.least)), p.size, size_is (a.k * a.d))
 
-is_zero_requires : tie.Need-is-zero-requires
+is_zero_requires : tie.Need-is_zero-requires
 is_zero_requires c κs = search rules
 
-returns : tie.Need-returns
+returns : tie.Need-returns-then-not-is_zero
 returns c =
-    let s = c.before.before.before.before in
-    let a = s.args in
+    let a = c.args in
     unsound_is _ _
-    (never_true _ (λ e. clash _ (sound_tests a.k a.d a.slots a.urn.now s.requires.table e).head
-    (head_told c.before ∙ not-true _ c.if1.true)))
+    (never_true _ (λ e. clash _ (sound_tests a.k a.d a.slots a.urn.now c.requires.table e).head
+    (head_told c.before ∙ c.if-not-is_zero.true)))
 
-walk_ballots_requires : tie.Need-walk-ballots-requires
+walk_ballots_requires : tie.Need-walk_ballots-ballots-requires
 walk_ballots_requires c κs = search rules
 
-returns_2 : tie.Need-returns-2
+returns_2 : tie.Need-returns-then-not-ballots
 returns_2 c =
-    let s = from_head c.before.before.before in
-    let a = s.args in
+    let a = c.args in
     unsound_is _ _
-    (never_true _ (λ e. clash _ (sound_tests a.k a.d a.slots a.urn.now s.pre.table e).ballots
-    (sym c.before.before.walk-ballots.ensures.told ∙ not-true _ c.if2.true)))
+    (never_true _ (λ e. clash _ (sound_tests a.k a.d a.slots a.urn.now c.requires.table e).ballots
+    (sym c.walk_ballots-ballots.ensures.told ∙ not-true _ c.if-not-ballots.true)))
 
-walk_free_requires : tie.Need-walk-free-requires
+walk_free_requires : tie.Need-walk_free-free-requires
 walk_free_requires c κs =
-    let s = from_ballots c.before in
-    s.pre.table
+    c.requires.table
 
-returns_3 : tie.Need-returns-3
+returns_3 : tie.Need-returns-then-not-free
 returns_3 c =
-    let s = from_ballots c.before.before.before.before in
-    let a = s.args in
+    let a = c.args in
     unsound_is _ _
-    (never_true _ (λ e. clash _ (sound_tests a.k a.d a.slots a.urn.now s.pre.table e).free
-    (free_told c.before ∙ not-true _ c.if3.true)))
+    (never_true _ (λ e. clash _ (sound_tests a.k a.d a.slots a.urn.now c.requires.table e).free
+    (free_told c.before ∙ not-true _ c.if-not-free.true)))
 
-add_if4 : tie.Need-overflow-add-if4
+add_if4 : tie.Need-overflow_add-ballots
 add_if4 c =
-    let e = c.before.before in
-    let s = from_free e in
-    let a = s.args in
+    let a = c.args in
     let ss = slots_of (a.k * a.d) a.slots a.urn.now in
     omega (
       arith,
-      ballots_counted e.before.before.before.before,
-      free_counted e,
+      ballots_counted c.before.before.before.before.before.before,
+      free_counted c.before.before,
       chain_most a.slots (get_or a.urn.now 0 0) ss,
       chain_most a.slots (get_or a.urn.now 1 0) ss,
-      s.pre.table.most,
+      c.requires.table.most,
     )
 
-sub_if4 : tie.Need-overflow-sub-if4
+sub_if4 : tie.Need-overflow_sub-slots
 sub_if4 c =
-    let e = c.before.before in
-    let s = from_free e in
-    omega (arith, s.pre.table.least)
+    omega (arith, c.requires.table.least)
 
-returns_4 : tie.Need-returns-4
+returns_4 : tie.Need-returns-then-ballots-free
 returns_4 c =
-    let e = c.before.before.before in
-    let s = from_free e in
-    let a = s.args in
+    let a = c.args in
     unsound_is _ _
-    (never_true _ (λ q. c.if4.true (ap (λ (m : ℕ). m + e.before.before.walk-free.result.count)
-    (ballots_counted e.before.before.before.before)
+    (never_true _ (λ q. c.if-ballots-free.true (ap (λ (m : ℕ). m + c.walk_free-free.result.count)
+    (ballots_counted c.before.before.before.before.before.before.before)
     ∙ ap (λ (m : ℕ). length (chain a.slots (get_or a.urn.now 0 0)
-    (slots_of (a.k * a.d) a.slots a.urn.now)) + m) (free_counted e)
-    ∙ (sound_tests a.k a.d a.slots a.urn.now s.pre.table q).count)))
+    (slots_of (a.k * a.d) a.slots a.urn.now)) + m) (free_counted c.before.before.before)
+    ∙ (sound_tests a.k a.d a.slots a.urn.now c.requires.table q).count)))
 
-returns_5 : tie.Need-returns-5
+returns_5 : tie.Need-returns
 returns_5 c =
-    let e = c.before.before.before in
-    let s = from_free e in
-    let a = s.args in
-    let b = e.before.before.before.before in
+    let a = c.args in
     sound_is _ _ _
-    (tests_sound a.k a.d a.slots a.urn.now s.pre.table
+    (tests_sound a.k a.d a.slots a.urn.now c.requires.table
     (record {
-      head = head_told b.before.before.before.before ∙ not-false _ b.before.before.before.if1.false;
-      ballots = sym b.before.before.walk-ballots.ensures.told ∙ not-false _ b.if2.false;
-      free = free_told e.before ∙ not-false _ e.if3.false;
+      head = head_told c.before.before.before.before.before.before.before.before.before.before.before ∙ c.if-not-is_zero.false;
+      ballots = sym c.walk_ballots-ballots.ensures.told ∙ not-false _ c.if-not-ballots.false;
+      free = free_told c.before.before.before.before ∙ not-false _ c.if-not-free.false;
       count = ap (λ (m : ℕ). m + length
           (chain a.slots (get_or a.urn.now 1 0) (slots_of (a.k * a.d) a.slots a.urn.now)))
-          (sym (ballots_counted b)) ∙ ap (λ (m : ℕ). b.before.before.walk-ballots.result.count + m)
-          (sym (free_counted e)) ∙ c.if4.false;
+          (sym (ballots_counted c.before.before.before.before.before.before.before)) ∙ ap (λ (m : ℕ). c.walk_ballots-ballots.result.count + m)
+          (sym (free_counted c.before.before.before)) ∙ c.if-ballots-free.false;
     }))
-    (ballots_counted b ∙ sym (count_by_bytes (a.k * a.d) a.slots a.urn.now s.pre.table))
+    (ballots_counted c.before.before.before.before.before.before.before ∙ sym (count_by_bytes (a.k * a.d) a.slots a.urn.now c.requires.table))
 
 pub test_slots_spec : {M : Type 1} → statement M
 test_slots_spec =

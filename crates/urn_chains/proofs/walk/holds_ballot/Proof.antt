@@ -11,41 +11,39 @@ use borrow.Author.Rules.{rules}
 use Rattle.urn_chains.proofs.walk.holds_ballot.Statement.{statement}
 use Rattle.urn_chains.proofs.walk.holds_ballot.Tie as tie
 
-returns : tie.Need-returns
+returns : tie.Need-returns-then-juror-eq0
 returns c =
-    let a = c.before.before.args in
-    sym (ap (λ (t : Bool). t && good_ballot a.k a.d a.ballot.now) (no_juror a.juror c.if1.true))
+    let a = c.args in
+    sym (ap (λ (t : Bool). t && good_ballot a.k a.d a.ballot.now) (no_juror a.juror c.if-juror-eq0.true))
 
 test_requires : tie.Need-test-requires
 unfolding jury_of_one
 test_requires c κs =
-    graded_T (jury_of_one c.before.before.args.k c.before.before.args.d) c.before.before.requires
+    graded_T (jury_of_one c.args.k c.args.d) c.requires
 
-enum_told : tie.Need-enum-told
+enum_told : tie.Need-enum_told-1
 enum_told c = search rules
 
-enum_told_2 : tie.Need-enum-told-2
+enum_told_2 : tie.Need-enum_told-in-Refused
 enum_told_2 c = search rules
 
-returns_2 : tie.Need-returns-2
+returns_2 : tie.Need-returns-in-Accepted
 unfolding jury_of_one refused_for no_reason
 returns_2 c =
-    let s = c.before.before.before.before.before in
-    let a = s.args in
+    let a = c.args in
     sym (ap (λ (t : Bool). t && good_ballot a.k a.d a.ballot.now)
-    (some_juror a.juror c.before.before.before.if1.false (omega arith))
-    ∙ good_graded a.k a.d a.ballot.now s.requires
-    ∙ ap no_reason (sym c.before.before.test.ensures ∙ ap refused_for c.enum_told.given.1))
+    (some_juror a.juror c.if-juror-eq0.false (omega arith))
+    ∙ good_graded a.k a.d a.ballot.now c.requires
+    ∙ ap no_reason (sym c.test.ensures ∙ ap refused_for c.in-Accepted.is))
 
-returns_3 : tie.Need-returns-3
+returns_3 : tie.Need-returns-in-Refused
 unfolding jury_of_one refused_for no_reason
 returns_3 c =
-    let s = c.before.before.before.before.before in
-    let a = s.args in
+    let a = c.args in
     sym (ap (λ (t : Bool). t && good_ballot a.k a.d a.ballot.now)
-    (some_juror a.juror c.before.before.before.if1.false (omega arith))
-    ∙ good_graded a.k a.d a.ballot.now s.requires
-    ∙ ap no_reason (sym c.before.before.test.ensures ∙ ap refused_for c.enum-told2.given.1))
+    (some_juror a.juror c.if-juror-eq0.false (omega arith))
+    ∙ good_graded a.k a.d a.ballot.now c.requires
+    ∙ ap no_reason (sym c.test.ensures ∙ ap refused_for c.in-Refused.is))
 
 pub holds_ballot_spec : {M : Type 1} → statement M
 holds_ballot_spec =

@@ -15,11 +15,11 @@ use Rattle.urn_chains.proofs.walk.is_zero.Statement.{statement}
 use Rattle.urn_chains.proofs.walk.is_zero.Tie as tie
 use Rattle.basics.proofs.Flags.{and_second_fails}
 
-abbrev invariant_loop : tie.invariant-loop
+abbrev invariant_loop : tie.invariant-loop-i
 invariant_loop bytes zero₀ i₀ zero i =
     (i ≤ length bytes) × ((zero && all_zero (drop i bytes)) ≡ all_zero bytes)
 
-abbrev decreases_loop : tie.decreases-loop
+abbrev decreases_loop : tie.decreases-loop-i
 decreases_loop bytes zero₀ i₀ zero i =
     length bytes - i
 
@@ -28,47 +28,45 @@ done : (z t : Bool) → t ≡ true → (z && t) ≡ z
 done true t e = e
 done false t e = refl
 
-loop_holds : tie.Need-loop-init invariant_loop decreases_loop
+loop_holds : tie.Need-loop-i-init invariant_loop decreases_loop
 loop_holds c =
     (omega arith, refl)
 
-shared_slice_read_if1 : tie.Need-shared-slice-read-if1 invariant_loop decreases_loop
+shared_slice_read_if1 : tie.Need-bounds-bytes-i invariant_loop decreases_loop
 shared_slice_read_if1 c = search rules
 
-add_i : tie.Need-overflow-add-i invariant_loop decreases_loop
+add_i : tie.Need-overflow_add-i invariant_loop decreases_loop
 add_i c = search rules
 
-loop_less : tie.Need-loop-smaller invariant_loop decreases_loop
+loop_less : tie.Need-loop-i-smaller invariant_loop decreases_loop
 loop_less c = search rules
 
-loop_again : tie.Need-loop-preserved invariant_loop decreases_loop
+loop_again : tie.Need-loop-i-preserved invariant_loop decreases_loop
 loop_again c =
-    let at = c.before.before.before in
-    let xs = at.before.args.bytes.now in
-    let rest = all_zero (drop (at.loop.i + 1) xs) in
+    let xs = c.args.bytes.now in
+    let rest = all_zero (drop (c.loop-i.i + 1) xs) in
     ⊎_elim
     (λ w. (
       omega arith,
-      ap (λ (z : Bool). z && rest) w.1
-          ∙ sym (and_second_fails at.loop.zero (all_zero (drop at.loop.i xs))
-          (zero_here xs at.loop.i (omega arith) w.0.taken)) ∙ at.loop.invariant.1,
+      ap (λ (z : Bool). z && rest) w.zero-is
+          ∙ sym (and_second_fails c.loop-i.zero (all_zero (drop c.loop-i.i xs))
+          (zero_here xs c.loop-i.i (omega arith) w.if-bytes-i-ne0.true)) ∙ c.loop-i.invariant.1,
     ))
     (λ w. (
       omega arith,
-      ap (λ (z : Bool). z && rest) w.1
-          ∙ ap (λ (u : Bool). at.loop.zero && u)
-          (ap (λ (j : ℕ). all_zero (drop j xs)) (add-one at.loop.i)
-          ∙ sym (zero_later xs at.loop.i (omega arith) w.0.left))
-          ∙ at.loop.invariant.1,
+      ap (λ (z : Bool). z && rest) w.zero-is
+          ∙ ap (λ (u : Bool). c.loop-i.zero && u)
+          (ap (λ (j : ℕ). all_zero (drop j xs)) (add-one c.loop-i.i)
+          ∙ sym (zero_later xs c.loop-i.i (omega arith) w.if-bytes-i-ne0.false))
+          ∙ c.loop-i.invariant.1,
     ))
-    c.if1.branch
+    c.if-bytes-i-ne0.branch-raw
 
 returns : tie.Need-returns invariant_loop decreases_loop
 unfolding all all_zero
 returns c =
-    let at = c.before in
-    sym (done at.loop.zero _ (ap all_zero
-    (drop_of_length-le at.before.args.bytes.now {i = at.loop.i} (omega arith)))) ∙ at.loop.invariant.1
+    sym (done c.loop-i.zero _ (ap all_zero
+    (drop_of_length-le c.args.bytes.now {i = c.loop-i.i} (omega arith)))) ∙ c.loop-i.invariant.1
 
 pub is_zero_spec : {M : Type 1} → statement M
 is_zero_spec =

@@ -4,7 +4,7 @@ use mathlib.Core.Path.{◌≡◌, ◌∙◌, sym, ap}
 use mathlib.Core.Bool.{Bool, ◌&&◌}
 use Prim.Native.Nat.{ℕ, ◌+◌, ◌-◌, ◌*◌, ◌≤◌}
 use lib.ListN.{length, get_or, take, drop}
-use borrow.Author.Tests.{not-true, not-false, eq-eqb, ne_eqb}
+use borrow.Author.Tests.{eq-eqb, ne_eqb}
 use Rattle.urn_chains.specs.Slots.{slot_bytes, slots_of}
 use Rattle.urn_chains.specs.Sound.{all_zero}
 use Rattle.urn_chains.specs.inner.Walk.{free_at}
@@ -16,108 +16,104 @@ use Rattle.urn_chains.proofs.walk.look_at_free.Statement.{statement}
 use Rattle.urn_chains.proofs.walk.look_at_free.Tie as tie
 
 -- the slot lies within the urn
-inside : (c : tie.Else1) → c.before.before.args.slot * (2 + c.before.before.args.bytes)
-    + (2 + c.before.before.args.bytes) ≤ length c.before.before.args.urn.now
+inside : (c : tie.Else-slots-slot) → c.args.slot * (2 + c.args.bytes)
+    + (2 + c.args.bytes) ≤ length c.args.urn.now
 unfolding slot_bytes
 inside c =
-    let a = c.before.before.args in
-    omega (arith, slot_within a.slot a.slots a.bytes c.if1.false, c.before.before.requires.table.size)
+    let a = c.args in
+    omega (arith, slot_within a.slot a.slots a.bytes c.if-slots-slot.false, c.requires.table.size)
 
 -- the test of the slot is the definition's
-held : (c : tie.After-is-zero)
-    → free_at (slots_of c.before.before.before.before.before.before.args.bytes
-    c.before.before.before.before.before.before.args.slots
-    c.before.before.before.before.before.before.args.urn.now)
-    c.before.before.before.before.before.before.args.slot ≡ c.is_zero.result
+held : (c : tie.After-is_zero)
+    → free_at (slots_of c.args.bytes
+    c.args.slots
+    c.args.urn.now)
+    c.args.slot ≡ c.is_zero.result
 unfolding slot_bytes
 held c =
-    let e = c.before.before.before.before in
-    let a = e.before.before.args in
-    let p = e.before.before.requires in
+    let a = c.args in
+    let p = c.requires in
     let at = a.slot * (2 + a.bytes) in
-    free_by_bytes a.bytes a.slots a.urn.now a.slot p.chained e.if1.false p.table.size
+    free_by_bytes a.bytes a.slots a.urn.now a.slot p.chained c.if-slots-slot.false p.table.size
     ∙ ap (λ (t : Bool). t && all_zero (take a.bytes (drop (at + 2) a.urn.now)))
-    (eq-eqb (get_or a.urn.now (at + 1) 0) 0 c.before.before.if2.false)
+    (eq-eqb (get_or a.urn.now (at + 1) 0) 0 c.if-juror-ne0.false)
     ∙ ap (λ (n : ℕ). all_zero (take n (drop (at + 2) a.urn.now))) {x = a.bytes} {y = at + (2 + a.bytes) - (at + 2)} (omega arith)
     ∙ sym c.is_zero.ensures
 
-returns : tie.Need-returns
+returns : tie.Need-returns-then-slots-slot
 returns c =
-    let a = c.before.before.args in
-    look_wrong _ _ (free_out a.bytes a.slots a.urn.now a.slot c.before.before.requires.chained c.if1.true)
+    let a = c.args in
+    look_wrong _ _ (free_out a.bytes a.slots a.urn.now a.slot c.requires.chained c.if-slots-slot.true)
 
-add_size : tie.Need-overflow-add-size
+add_size : tie.Need-overflow_add-size
 add_size c =
-    omega (arith, c.before.before.requires.table.few)
+    omega (arith, c.requires.table.few)
 
-mul_at : tie.Need-overflow-mul-at
+mul_at : tie.Need-overflow_mul-at
 mul_at c =
     omega (arith, inside c)
 
-add_from : tie.Need-overflow-add-from
+add_from : tie.Need-overflow_add-from
 add_from c =
     omega (arith, inside c)
 
-add_end : tie.Need-overflow-add-end
+add_end : tie.Need-overflow_add-end
 add_end c =
     omega (arith, inside c)
 
-add_juror : tie.Need-overflow-add-juror
+add_juror : tie.Need-overflow_add-juror
 add_juror c =
     omega (arith, inside c)
 
-shared_slice_read_juror : tie.Need-shared-slice-read-juror
+shared_slice_read_juror : tie.Need-bounds-urn-at
 shared_slice_read_juror c =
     omega (arith, inside c.before)
 
-returns_2 : tie.Need-returns-2
+returns_2 : tie.Need-returns-then-juror-ne0
 unfolding slot_bytes
 returns_2 c =
-    let e = c.before.before in
-    let a = e.before.before.args in
-    let p = e.before.before.requires in
+    let a = c.args in
+    let p = c.requires in
     let at = a.slot * (2 + a.bytes) in
     look_wrong _ _
-    (free_by_bytes a.bytes a.slots a.urn.now a.slot p.chained e.if1.false p.table.size
+    (free_by_bytes a.bytes a.slots a.urn.now a.slot p.chained c.if-slots-slot.false p.table.size
     ∙ ap (λ (t : Bool). t && all_zero (take a.bytes (drop (at + 2) a.urn.now)))
-    (ne_eqb (get_or a.urn.now (at + 1) 0) 0 c.if2.true))
+    (ne_eqb (get_or a.urn.now (at + 1) 0) 0 c.if-juror-ne0.true))
 
-sub_is_zero : tie.Need-overflow-sub-is-zero
+sub_is_zero : tie.Need-slice_bounds-is_zero-count
 sub_is_zero c = search rules
 
-part_is_zero_start : tie.Need-slice-bounds-is-zero-start
+part_is_zero_start : tie.Need-slice_bounds-is_zero-start
 part_is_zero_start c = search rules
 
-part_is_zero_end : tie.Need-slice-bounds-is-zero-end
+part_is_zero_end : tie.Need-slice_bounds-is_zero-end
 part_is_zero_end c =
     inside c.before.before
 
-is_zero_requires : tie.Need-is-zero-requires
+is_zero_requires : tie.Need-is_zero-requires
 is_zero_requires c κs = search rules
 
-returns_3 : tie.Need-returns-3
+returns_3 : tie.Need-returns-then-not-is_zero
 returns_3 c =
-    look_wrong _ _ (held c.before ∙ not-true _ c.if3.true)
+    look_wrong _ _ (held c.before ∙ c.if-not-is_zero.true)
 
 wide_requires : tie.Need-wide-requires
 wide_requires c κs = search rules
 
-shared_slice_read_wide : tie.Need-shared-slice-read-wide
+shared_slice_read_wide : tie.Need-bounds-urn-at-2
 shared_slice_read_wide c =
     omega (arith, inside c.before.before.before.before.before.before.before)
 
 wide_requires_2 : tie.Need-wide-requires-2
 wide_requires_2 c κs = search rules
 
-returns_4 : tie.Need-returns-4
+returns_4 : tie.Need-returns
 unfolding slot_bytes
 returns_4 c =
-    let h = c.before.before.before.before in
-    let e = h.before.before.before.before in
-    let a = e.before.before.args in
-    look_well _ _ _ _ (held h ∙ not-false _ c.before.before.before.if3.false)
-    (c.before.before.wide.ensures ∙ sym (juror_is a.bytes a.slots a.urn.now a.slot e.if1.false))
-    (c.wide2.ensures ∙ sym (next_is a.bytes a.slots a.urn.now a.slot e.if1.false))
+    let a = c.args in
+    look_well _ _ _ _ (held c.before.before.before.before ∙ c.if-not-is_zero.false)
+    (c.wide.ensures ∙ sym (juror_is a.bytes a.slots a.urn.now a.slot c.if-slots-slot.false))
+    (c.wide-2.ensures ∙ sym (next_is a.bytes a.slots a.urn.now a.slot c.if-slots-slot.false))
 
 pub look_at_free_spec : {M : Type 1} → statement M
 look_at_free_spec =

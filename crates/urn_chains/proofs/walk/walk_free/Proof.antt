@@ -15,127 +15,110 @@ use borrow.Author.Rules.{rules}
 use Rattle.urn_chains.proofs.walk.walk_free.Statement.{statement}
 use Rattle.urn_chains.proofs.walk.walk_free.Tie as tie
 
-abbrev invariant_loop : tie.invariant-loop
+abbrev invariant_loop : tie.invariant-loop-slot
 invariant_loop urn bytes slots marks₀ count₀ slot₀ marks count slot =
     OnFree (slots_of bytes slots urn) slots (get_or urn 1 0) marks₀ marks count slot
 
-abbrev decreases_loop : tie.decreases-loop
+abbrev decreases_loop : tie.decreases-loop-slot
 decreases_loop urn bytes slots marks₀ count₀ slot₀ marks count slot =
     slots - count
 
 -- there are 256 marks
 met_size : (s : tie.Start invariant_loop decreases_loop) → length s.args.met ≡ 256
-met_size s = s.well-formed.1.1.1.0.1.0.1
+met_size s = s.well_formed.1.1.1.0.1.0.1
 
 -- what the look at a turn's slot found
-well : (c : tie.After-known-told invariant_loop decreases_loop) →
-    let at = c.before.before.before.before.before.before in
-    let a = at.before.before.before.before.args in
+well : (c : tie.In-Sound invariant_loop decreases_loop) →
+    let a = c.args in
     let ss = slots_of a.bytes a.slots a.urn.now in
-    (free_at ss at.loop.slot ≡ true) × (c.before.look.given.0.0 ≡ (slot_at ss at.loop.slot).juror)
-    × (c.before.look.given.0.1.0 ≡ (slot_at ss at.loop.slot).next)
+    (free_at ss c.loop-slot.slot ≡ true) × (c.in-Sound.juror ≡ (slot_at ss c.loop-slot.slot).juror)
+    × (c.in-Sound.next ≡ (slot_at ss c.loop-slot.slot).next)
 well c =
-    looked_well _ _ _ _ (sym c.before.before.before.look-at-free.ensures ∙ c.before.look.given.1)
+    looked_well _ _ _ _ (sym c.look_at_free-look.ensures ∙ c.in-Sound.is)
 
 -- so the slot is small enough to have a mark
-slot_marked : (c : tie.After-known-told invariant_loop decreases_loop) → c.before.before.before.before.before.before.loop.slot < 256
+slot_marked : (c : tie.In-Sound invariant_loop decreases_loop) → c.loop-slot.slot < 256
 slot_marked c =
-    let at = c.before.before.before.before.before.before in
-    let s = at.before.before.before.before in
-    let a = s.args in
+    let a = c.args in
     let ss = slots_of a.bytes a.slots a.urn.now in
-    omega (arith, free_below ss at.loop.slot (well c).0, slots_length a.bytes a.slots a.urn.now, s.requires.most)
+    omega (arith, free_below ss c.loop-slot.slot (well c).0, slots_length a.bytes a.slots a.urn.now, c.requires.most)
 
-shared_slice_read_wide : tie.Need-shared-slice-read-wide invariant_loop decreases_loop
+shared_slice_read_wide : tie.Need-bounds-urn-1 invariant_loop decreases_loop
 shared_slice_read_wide c =
-    let s = c.before.before in
-    let l : 1 < length s.args.urn.now = omega (arith, s.requires.size, size_least s.args.bytes s.args.slots s.requires.least) in
+    let l : 1 < length c.args.urn.now = omega (arith, c.requires.size, size_least c.args.bytes c.args.slots c.requires.least) in
     l
 
-wide_requires : tie.Need-wide-requires invariant_loop decreases_loop
+wide_requires : tie.Need-wide-slot-requires invariant_loop decreases_loop
 wide_requires c κs =
     tt
 
-loop_holds : tie.Need-loop-init invariant_loop decreases_loop
+loop_holds : tie.Need-loop-slot-init invariant_loop decreases_loop
 loop_holds c =
-    let s = c.before.before.before in
-    let a = s.args in
-    free_start (slots_of a.bytes a.slots a.urn.now) a.slots (get_or a.urn.now 1 0) c.wide.result
-    a.met (met_size s) c.wide.ensures
+    let a = c.args in
+    free_start (slots_of a.bytes a.slots a.urn.now) a.slots (get_or a.urn.now 1 0) c.wide-slot.result
+    a.met (met_size c.before.before.before) c.wide-slot.ensures
 
-returns : tie.Need-returns invariant_loop decreases_loop
+returns : tie.Need-returns-then-count-slots invariant_loop decreases_loop
 returns c =
-    let at = c.before.before in
-    let a = at.before.before.before.before.args in
-    not_walked _ _ _ _ _ (free_fail _ a.slots _ _ _ _ _ at.loop.invariant
-    (omega (arith, c.before.loop-test.true)) (λ l. absurd (omega (arith, c.if1.true))))
+    let a = c.args in
+    not_walked _ _ _ _ _ (free_fail _ a.slots _ _ _ _ _ c.loop-slot.invariant
+    (omega (arith, c.loop-slot-test.true)) (λ l. absurd (omega (arith, c.if-count-slots.true))))
 
-look_at_free_requires : tie.Need-look-at-free-requires invariant_loop decreases_loop
+look_at_free_requires : tie.Need-look_at_free-look-requires invariant_loop decreases_loop
 look_at_free_requires c κs =
-    let at = c.before.before in
-    let s = at.before.before.before.before in
-    record { table = s.requires; chained = omega (arith, c.before.loop-test.true) }
+    record { table = c.requires; chained = omega (arith, c.loop-slot-test.true) }
 
-enum_known_look : tie.Need-enum-known-look invariant_loop decreases_loop
+enum_known_look : tie.Need-enum_known-look invariant_loop decreases_loop
 enum_known_look c =
     search rules
 
-enum_told : tie.Need-enum-told invariant_loop decreases_loop
+enum_told : tie.Need-enum_told-1 invariant_loop decreases_loop
 enum_told c =
     search rules
 
-returns_2 : tie.Need-returns-2 invariant_loop decreases_loop
+returns_2 : tie.Need-returns-in_default invariant_loop decreases_loop
 returns_2 c =
-    let at = c.before.before.before.before.before in
-    let a = at.before.before.before.before.args in
-    let p : 0 < at.loop.slot = omega (arith, c.before.before.before.before.loop-test.true) in
-    not_walked _ _ _ _ _ (free_fail _ a.slots _ _ _ _ _ at.loop.invariant p
-    (λ l. free_wrong _ (a.slots - at.loop.count) at.loop.slot _ (omega arith) p
-    (looked_wrong _ _ (sym c.before.before.look-at-free.ensures ∙ c.enum_told.given.1))))
+    let a = c.args in
+    let p : 0 < c.loop-slot.slot = omega (arith, c.loop-slot-test.true) in
+    not_walked _ _ _ _ _ (free_fail _ a.slots _ _ _ _ _ c.loop-slot.invariant p
+    (λ l. free_wrong _ (a.slots - c.loop-slot.count) c.loop-slot.slot _ (omega arith) p
+    (looked_wrong _ _ (sym c.look_at_free-look.ensures ∙ c.in_default.is))))
 
-array_read_if2 : tie.Need-array-read-if2 invariant_loop decreases_loop
+array_read_if2 : tie.Need-bounds-marks-slot invariant_loop decreases_loop
 array_read_if2 c =
     slot_marked c
 
-returns_3 : tie.Need-returns-3 invariant_loop decreases_loop
+returns_3 : tie.Need-returns-then-marks-slot invariant_loop decreases_loop
 returns_3 c =
-    let at = c.before.before.before.before.before.before.before in
-    let a = at.before.before.before.before.args in
-    let p : 0 < at.loop.slot = omega (arith, c.before.before.before.before.before.before.loop-test.true) in
-    not_walked _ _ _ _ _ (free_fail _ a.slots _ _ _ _ _ at.loop.invariant p
-    (λ l. free_met _ (a.slots - at.loop.count) at.loop.slot _ (omega arith) p c.if2.true))
+    let a = c.args in
+    let p : 0 < c.loop-slot.slot = omega (arith, c.loop-slot-test.true) in
+    not_walked _ _ _ _ _ (free_fail _ a.slots _ _ _ _ _ c.loop-slot.invariant p
+    (λ l. free_met _ (a.slots - c.loop-slot.count) c.loop-slot.slot _ (omega arith) p c.if-marks-slot.true))
 
-array_write_marks : tie.Need-array-write-marks invariant_loop decreases_loop
+array_write_marks : tie.Need-bounds-marks-slot-in-loop-slot invariant_loop decreases_loop
 array_write_marks c =
     slot_marked c.before
 
-add_count : tie.Need-overflow-add-count invariant_loop decreases_loop
+add_count : tie.Need-overflow_add-count invariant_loop decreases_loop
 add_count c =
-    let k = c.before in
-    let at = k.before.before.before.before.before.before in
-    omega (arith, at.loop.invariant.within, at.before.before.before.before.requires.most)
+    omega (arith, c.loop-slot.invariant.within, c.requires.most)
 
-loop_less : tie.Need-loop-smaller invariant_loop decreases_loop
+loop_less : tie.Need-loop-slot-smaller invariant_loop decreases_loop
 loop_less c =
-    let k = c.before in
-    let at = k.before.before.before.before.before.before in
-    omega (arith, at.loop.invariant.within, k.before.before.before.before.if1.false)
+    omega (arith, c.loop-slot.invariant.within, c.if-count-slots.false)
 
-loop_again : tie.Need-loop-preserved invariant_loop decreases_loop
+loop_again : tie.Need-loop-slot-preserved invariant_loop decreases_loop
 loop_again c =
-    let k = c.before in
-    let at = k.before.before.before.before.before.before in
-    let a = at.before.before.before.before.args in
-    let w = well k in
-    free_go _ a.slots _ _ _ _ at.loop.slot at.loop.invariant _ w.2
-    k.before.before.before.before.if1.false
-    (omega (arith, k.before.before.before.before.before.loop-test.true)) w.0 c.if2.false
+    let a = c.args in
+    let w = well c.before in
+    free_go _ a.slots _ _ _ _ c.loop-slot.slot c.loop-slot.invariant _ w.2
+    c.if-count-slots.false
+    (omega (arith, c.loop-slot-test.true)) w.0 c.if-marks-slot.false
 
-returns_4 : tie.Need-returns-4 invariant_loop decreases_loop
+returns_4 : tie.Need-returns invariant_loop decreases_loop
 returns_4 c =
-    let at = c.before in
-    let a = at.before.before.before.before.args in
-    free_walked _ a.slots _ _ _ _ at.loop.slot at.loop.invariant c.loop-test.false
+    let a = c.args in
+    free_walked _ a.slots _ _ _ _ c.loop-slot.slot c.loop-slot.invariant c.loop-slot-test.false
 
 pub walk_free_spec : {M : Type 1} → statement M
 walk_free_spec =
