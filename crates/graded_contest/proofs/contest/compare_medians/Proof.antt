@@ -14,34 +14,27 @@ use Rattle.graded_circuit.proofs.ContestLaws.{grade_fits, flags_end, key_some}
 use Rattle.graded_contest.proofs.contest.compare_medians.Statement.{statement}
 use Rattle.graded_contest.proofs.contest.compare_medians.Tie as tie
 
-add_compare_ones : tie.Need-overflow-add-compare-ones
+add_compare_ones : tie.Need-overflow_add-y
 add_compare_ones c =
-    let s = c.before.before.before in
+    let s = c in
     omega (arith, s.requires.room.small, s.requires.second_below, key_some s.args.p s.requires.planned)
 
-add_compare_ones_2 : tie.Need-overflow-add-compare-ones-2
+add_compare_ones_2 : tie.Need-overflow_add-x
 add_compare_ones_2 c =
-    let s = c.before.before.before.before in
+    let s = c in
     omega (arith, s.requires.room.small, s.requires.first_below, key_some s.args.p s.requires.planned)
 
--- The stages of the function, seen from later ones.
-abbrev start_from_struct_known3 : tie.After-struct-known3 → tie.Start
-start_from_struct_known3 c = c.before.before.before.before.before
+add_compare_ones_3 : tie.Need-overflow_add-p
+add_compare_ones_3 c = let s = c in omega (arith, digits_most s.args.p s.requires.planned)
 
-abbrev start_from_struct_known4 : tie.After-struct-known4 → tie.Start
-start_from_struct_known4 c = c.before.before.before.before.before.before
+sub_compare_ones : tie.Need-overflow_sub-p
+sub_compare_ones c = omega (arith, c.requires.planned.d_least)
 
-add_compare_ones_3 : tie.Need-overflow-add-compare-ones-3
-add_compare_ones_3 c = let s = (start_from_struct_known3 c) in omega (arith, digits_most s.args.p s.pre.planned)
-
-sub_compare_ones : tie.Need-overflow-sub-compare-ones
-sub_compare_ones c = omega (arith, (start_from_struct_known4 c).pre.planned.d_least)
-
-compare_ones_requires : tie.Need-compare-ones-requires
+compare_ones_requires : tie.Need-compare_ones-requires
 compare_ones_requires c κs =
-    let s = (start_from_struct_known4 c) in
+    let s = c in
     let a = s.args in
-    let q = s.pre in
+    let q = s.requires in
     let p = a.p in
     let f = q.planned in
     let short : (p.grades - 1) * word_span p ≤ 6 * 8 =
@@ -57,11 +50,11 @@ compare_ones_requires c κs =
       fits = subst (Fits (p.grades - 1)) (sym (add-one p.places)) (grade_fits p f);
     }
 
-same_length : tie.Need-same-length
+same_length : tie.Need-shape_of-table
 same_length c = search rules
 
 returns : tie.Need-returns
-returns c = c.before.before.compare-ones.ensures
+returns c = c.compare_ones.ensures
 
 pub compare_medians_spec : {M : Type 1} → statement M
 compare_medians_spec = tie.close

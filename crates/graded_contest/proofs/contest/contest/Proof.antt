@@ -15,18 +15,10 @@ use Rattle.graded_contest.proofs.contest.contest.Statement.{statement}
 use Rattle.graded_contest.proofs.contest.contest.Tie as tie
 
 -- the start, seen from the comparison of the medians
-abbrev from_compared : tie.After-compare-medians → tie.Start
-from_compared c = c.before.before.before
 
-abbrev from_differ : tie.After-ones-differ → tie.After-compare-medians
-from_differ c = c.before.before.before.before
-
-abbrev from_larger : tie.After-ones-larger → tie.After-ones-differ
-from_larger c = c.before.before.before
-
-compare_medians_requires : tie.Need-compare-medians-requires
+compare_medians_requires : tie.Need-compare_medians-compared-requires
 compare_medians_requires c κs =
-    let s = c.before.before in
+    let s = c in
     record {
       planned = s.requires.plan;
       room = room_less s.args.w _ _ (omega arith) s.requires.room;
@@ -36,83 +28,83 @@ compare_medians_requires c κs =
     }
 
 -- after the comparison of the medians
-compared : (c : tie.After-compare-medians) → let s = from_compared c in
-    Stands c.compare-medians.result (tie_break_below_at s.args.p s.args.w.wire)
+compared : (c : tie.After-compare_medians-compared) → let s = c in
+    Stands c.compare_medians-compared.result (tie_break_below_at s.args.p s.args.w.wire)
     (tie_break_below_span s.args.p.digits (s.args.p.grades - 2) + 2)
 compared c =
-    let s = from_compared c in
+    let s = c in
     let a = s.args in
     let p = a.p in
-    let f = s.pre.plan in
-    stands_after a.w a.table.now _ c.compare-medians.new.1.0 c.compare-medians.result _ _ _ c.compare-medians.ensures
+    let f = s.requires.plan in
+    stands_after a.w a.table.now _ c.compare_medians-compared.new.table c.compare_medians-compared.result _ _ _ c.compare_medians-compared.ensures
     (ones_block a.w.wire (a.y + p.digits) (a.x + p.digits) (word_span p) (p.grades - 1) p.places
-    (grade_fits p f) (flags_end p f a.y a.w.wire s.pre.second_below)
-    (flags_end p f a.x a.w.wire s.pre.first_below)).long
-    (stands a.w a.w.wire _ _ refl (omega arith) s.pre.room)
+    (grade_fits p f) (flags_end p f a.y a.w.wire s.requires.second_below)
+    (flags_end p f a.x a.w.wire s.requires.first_below)).long
+    (stands a.w a.w.wire _ _ refl (omega arith) s.requires.room)
 
-sub_ones_differ : tie.Need-overflow-sub-ones-differ
-sub_ones_differ c = omega (arith, (from_compared c.before.before.before).requires.plan.d_least)
+sub_ones_differ : tie.Need-overflow_sub-p
+sub_ones_differ c = omega (arith, c.requires.plan.d_least)
 
-ones_differ_requires : tie.Need-ones-differ-requires
+ones_differ_requires : tie.Need-ones_differ-e-requires
 ones_differ_requires c κs =
-    let h = c.before.before.before in
+    let h = c in
     record {
-      some = omega (arith, (from_compared h).requires.plan.d_least);
-      span = (compared h).place;
+      some = omega (arith, h.requires.plan.d_least);
+      span = (compared h.before.before.before).place;
       small =
-          omega (arith, (compared h).left.small);
+          omega (arith, (compared h.before.before.before).left.small);
     }
 
-add_ones_larger : tie.Need-overflow-add-ones-larger
+add_ones_larger : tie.Need-overflow_add-y
 add_ones_larger c =
-    let s = from_compared (from_differ c.before) in
-    omega (arith, s.pre.room.small, s.pre.second_below, key_some s.args.p s.pre.plan)
+    let s = c in
+    omega (arith, s.requires.room.small, s.requires.second_below, key_some s.args.p s.requires.plan)
 
-sub_ones_larger : tie.Need-overflow-sub-ones-larger
-sub_ones_larger c = omega (arith, (from_compared (from_differ c.before.before)).requires.plan.d_least)
+sub_ones_larger : tie.Need-overflow_sub-p-2
+sub_ones_larger c = omega (arith, c.requires.plan.d_least)
 
-ones_larger_requires : tie.Need-ones-larger-requires
+ones_larger_requires : tie.Need-ones_larger-s-requires
 ones_larger_requires c κs =
-    let h = from_differ c.before.before in
+    let h = c in
     record {
-      some = omega (arith, (from_compared h).pre.plan.d_least);
-      span = (compared h).place;
+      some = omega (arith, h.requires.plan.d_least);
+      span = (compared h.before.before.before.before.before.before).place;
       small =
-          omega (arith, (compared h).left.small);
+          omega (arith, (compared h.before.before.before.before.before.before).left.small);
     }
 
-tie_break_below_requires : tie.Need-tie-break-below-requires
+tie_break_below_requires : tie.Need-tie_break_below-requires
 tie_break_below_requires c κs =
-    let h = from_differ (from_larger c.before) in
-    let q = compared h in
-    let s = from_compared h in
+    let h = c in
+    let q = compared h.before.before.before.before.before.before.before.before in
+    let s = h in
     record {
-      plan = s.pre.plan;
+      plan = s.requires.plan;
       room = q.left;
-      first_below = omega (arith, q.place, s.pre.first_below);
-      second_below = omega (arith, q.place, s.pre.second_below);
-      cut = s.pre.cut;
+      first_below = omega (arith, q.place, s.requires.first_below);
+      second_below = omega (arith, q.place, s.requires.second_below);
+      cut = s.requires.cut;
     }
 
-same_length : tie.Need-same-length
+same_length : tie.Need-shape_of-table
 same_length c = search rules
 
 returns : tie.Need-returns
 unfolding contest
 returns c =
-    let v = c.before.before.tie-break-below in
-    let l = c.before.before.before.before in
-    let k = from_larger l in
-    let h = from_differ k in
-    let a = (from_compared h).args in
+    let v = c.tie_break_below in
+    let l = c in
+    let k = l in
+    let h = k in
+    let a = h.args in
     let p = a.p in
     let n = a.w.wire in
-    let d = h.compare-medians in
-    let e = k.ones-differ in
-    let s = l.ones-larger in
+    let d = h.compare_medians-compared in
+    let e = k.ones_differ-e in
+    let s = l.ones_larger-s in
     let at = tie_break_below_at p n in
-    wrote_then a.w a.table.now _ d.last.1.0 d.result _ _ v.new.1.0 v.result d.ensures v.ensures
-    (ap (λ (i : ℕ). tie_break_below p i a.x a.y e.result s.result p.digits a.high (p.grades - 2)) (compared h).place
+    wrote_then a.w a.table.now _ d.new.table d.result _ _ v.new.table v.result d.ensures v.ensures
+    (ap (λ (i : ℕ). tie_break_below p i a.x a.y e.result s.result p.digits a.high (p.grades - 2)) (compared h.before.before.before.before.before.before.before.before.before.before.before).place
     ∙ ap (λ (i : ℕ). tie_break_below p at a.x a.y i s.result p.digits a.high (p.grades - 2)) e.ensures
     ∙ ap (λ (i : ℕ). tie_break_below p at a.x a.y (ones_differ n (p.grades - 1) p.places) i p.digits
     a.high (p.grades - 2)) s.ensures)

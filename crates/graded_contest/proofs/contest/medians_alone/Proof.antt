@@ -1,7 +1,7 @@
 -- `graded_contest::contest::medians_alone` meets its contract: two gates.
 -- Assumes nothing.
 use mathlib.Core.Path.{refl}
-use Prim.Native.Nat.{◌+◌, ◌-◌}
+use Prim.Native.Nat.{◌+◌}
 use native.Mathlib.Omega.{arith}
 use borrow.Author.Rules.{rules}
 use Rattle.gate_words.proofs.Writing.{wrote_both, room_less}
@@ -10,40 +10,33 @@ use Rattle.gate_words.proofs.Standing.{Stands, stands, stands_after, room_of}
 use Rattle.graded_contest.proofs.contest.medians_alone.Statement.{statement}
 use Rattle.graded_contest.proofs.contest.medians_alone.Tie as tie
 
-emit_requires : tie.Need-emit-requires
+emit_requires : tie.Need-emit-differ-requires
 emit_requires c κs =
-    room_less c.before.before.args.w _ _ (omega arith) c.before.before.requires
+    room_less c.args.w _ _ (omega arith) c.requires
 
-after1 : (c : tie.After-emit) → Stands c.emit.result (c.before.before.before.args.w.wire + 1) 1
+after1 : (c : tie.After-emit-differ) → Stands c.emit-differ.result (c.args.w.wire + 1) 1
 after1 c =
-    stands_after c.before.before.before.args.w c.before.before.before.args.table.now _
-    c.emit.new.1.0 c.emit.result _ 1 1 c.emit.ensures refl
-    (stands c.before.before.before.args.w c.before.before.before.args.w.wire _ _ refl
-    (omega arith) c.before.before.before.requires)
+    stands_after c.args.w c.args.table.now _
+    c.emit-differ.new.table c.emit-differ.result _ 1 1 c.emit-differ.ensures refl
+    (stands c.args.w c.args.w.wire _ _ refl
+    (omega arith) c.requires)
 
-emit_requires_2 : tie.Need-emit-requires-2
+emit_requires_2 : tie.Need-emit-requires
 emit_requires_2 c κs =
-    room_of c.before.before.before.emit.result _ _ _ (after1 c.before.before.before) (omega arith)
-
--- The stages of the function, seen from later ones.
-abbrev start_from_emit2 : tie.After-emit2 → tie.Start
-start_from_emit2 c = c.before.before.before.before.before.before.before
-
-abbrev emit_from_slice_known3 : tie.After-slice-known3 → tie.After-emit
-emit_from_slice_known3 c = c.before.before.before.before.before.before
+    room_of c.emit-differ.result _ _ _ (after1 c.before.before.before) (omega arith)
 
 returns : tie.Need-returns
 returns c =
-    let a = (start_from_emit2 c.before.before).args in
-    (wrote_both a.w a.table.now _ (emit_from_slice_known3 c).emit.last.1.0
-    (emit_from_slice_known3 c).emit.result _ _ _
-    (copy_wrote a.w a.table.now (emit_from_slice_known3 c).emit.last.1.0
-    (emit_from_slice_known3 c).emit.result a.e 0 0 (emit_from_slice_known3 c).emit.ensures)
-    (copy_wrote (emit_from_slice_known3 c).emit.result (emit_from_slice_known3 c).emit.last.1.0
-    c.before.before.emit2.new.1.0 c.before.before.emit2.result a.s 0 0
-    c.before.before.emit2.ensures))
+    let a = c.args in
+    (wrote_both a.w a.table.now _ c.emit-differ.new.table
+    c.emit-differ.result _ _ _
+    (copy_wrote a.w a.table.now c.emit-differ.new.table
+    c.emit-differ.result a.e 0 0 c.emit-differ.ensures)
+    (copy_wrote c.emit-differ.result c.emit-differ.new.table
+    c.emit.new.table c.emit.result a.s 0 0
+    c.emit.ensures))
 
-same_length : tie.Need-same-length
+same_length : tie.Need-shape_of-table
 same_length c =
     search rules
 

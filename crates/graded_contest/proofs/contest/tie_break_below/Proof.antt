@@ -24,86 +24,64 @@ key_strides p h k =
     let e' : p.digits + 1 ≡ stride (p.digits - 1) = omega arith in
     ap (λ (i : ℕ). i * word_span p) e ∙ ap (λ (i : ℕ). suc (suc (p.grades - 3)) * i) e'
 
-medians_alone_requires : tie.Need-medians-alone-requires
+medians_alone_requires : tie.Need-medians_alone-requires
 medians_alone_requires c κs =
-    room_less c.before.before.before.before.args.w _ _ (omega arith) c.before.before.before.before.requires.room
+    room_less c.args.w _ _ (omega arith) c.requires.room
 
--- The stages of the function, seen from later ones.
-abbrev start_from_medians_alone : tie.After-medians-alone → tie.Start
-start_from_medians_alone c = c.before.before.before.before.before
-
-abbrev start_from_one_sum_arg : tie.After-one-sum-arg → tie.Start
-start_from_one_sum_arg c = c.before.before.before.before.before
-
-abbrev start_from_tie_break_arg : tie.After-tie-break-arg → tie.Start
-start_from_tie_break_arg c = c.before.before.before.before.before
-
-abbrev start_from_one_sum : tie.After-one-sum → tie.Start
-start_from_one_sum c = c.before.before.before.before.before.before
-
-abbrev start_from_tie_break : tie.After-tie-break → tie.Start
-start_from_tie_break c = c.before.before.before.before.before.before
-
-abbrev else1_from_slice_known3 : tie.After-slice-known3 → tie.Else1
-else1_from_slice_known3 c = c.before.before.before.before.before
-
-abbrev else1_from_slice_known4 : tie.After-slice-known4 → tie.Else1
-else1_from_slice_known4 c = c.before.before.before.before.before
-
-returns : tie.Need-returns
+returns : tie.Need-returns-then-digits-eq0
 returns c =
-    let a = (start_from_medians_alone c.before.before).args in
+    let a = c.args in
     wrote_as a.w a.table.now _ _ _ _
     (tie_break_below_zero a.p a.w.wire a.x a.y a.e a.s a.p.digits a.high
-    (a.p.grades - 2) c.before.before.before.before.if1.true) c.before.before.medians-alone.ensures
+    (a.p.grades - 2) c.if-digits-eq0.true) c.medians_alone.ensures
 
-some : (c : tie.Else1) → 0 < c.before.before.before.args.p.digits
+some : (c : tie.Else-digits-eq0) → 0 < c.args.p.digits
 some c =
-    omega (arith, c.if1.false)
+    omega (arith, c.if-digits-eq0.false)
 
-sub_above : tie.Need-overflow-sub-above
+sub_above : tie.Need-overflow_sub-above
 sub_above c =
     omega (arith, some (c))
 
-one_sum_requires : tie.Need-one-sum-requires
+one_sum_requires : tie.Need-one_sum-requires
 one_sum_requires c κs =
-    let s = (start_from_one_sum_arg c) in
+    let s = c in
     let a = s.args in
-    let q = s.pre in
-    let k = key_some a.p s.pre.plan in
+    let q = s.requires in
+    let k = key_some a.p s.requires.plan in
     let z = some c.before.before in
     record {
       room = room_less a.w _ _ (omega (
         arith,
-        tie_break_below_span_one a.p.digits (a.p.grades - 2) z (omega (arith, c.before.if2.true)),
+        tie_break_below_span_one a.p.digits (a.p.grades - 2) z (omega (arith, c.if-grades-eq2.true)),
       ))
-          s.pre.room;
+          s.requires.room;
       first_below = omega (arith, q.first_below);
       second_below = omega (arith, q.second_below);
       cut = q.cut;
     }
 
-returns_2 : tie.Need-returns-2
+returns_2 : tie.Need-returns-then-grades-eq2
 returns_2 c =
-    let a = (start_from_one_sum c.before.before).args in
+    let a = c.args in
     wrote_as a.w a.table.now _ _ _ _
     (tie_break_below_one a.p a.w.wire a.x a.y a.e a.s a.p.digits a.high (a.p.grades - 2)
-    (some (else1_from_slice_known3 c)) (omega (arith, c.before.before.before.before.if2.true)))
-    c.before.before.one-sum.ensures
+    (some c.before.before.before.before.before) (omega (arith, c.if-grades-eq2.true)))
+    c.one_sum.ensures
 
-more : (c : tie.Else2) → 2 < c.before.before.before.before.args.p.grades
+more : (c : tie.Else-grades-eq2) → 2 < c.args.p.grades
 more c =
-    omega (arith, c.if2.false, c.before.before.before.before.requires.plan.d_least)
+    omega (arith, c.if-grades-eq2.false, c.requires.plan.d_least)
 
-sub_tie_break : tie.Need-overflow-sub-tie-break
+sub_tie_break : tie.Need-overflow_sub-grades
 sub_tie_break c =
     omega (arith, more c.before)
 
-tie_break_requires : tie.Need-tie-break-requires
+tie_break_requires : tie.Need-tie_break-requires
 tie_break_requires c κs =
-    let s = (start_from_tie_break_arg c) in
+    let s = c in
     let a = s.args in
-    let q = s.pre in
+    let q = s.requires in
     let d = a.p.digits - 1 in
     let z = some c.before.before in
     let m = more c.before in
@@ -111,33 +89,33 @@ tie_break_requires c κs =
     let e : a.p.grades - 2 - 1 ≡ a.p.grades - 3 = omega arith in
     let f = tie_break_below_span_more a.p.digits (a.p.grades - 2) z (omega arith) in
     record {
-      room = room_less a.w _ _ (omega (arith, f, ap (λ (i : ℕ). i * side_span d) e, ap (λ (i : ℕ). i * either_span d) e)) s.pre.room;
+      room = room_less a.w _ _ (omega (arith, f, ap (λ (i : ℕ). i * side_span d) e, ap (λ (i : ℕ). i * either_span d) e)) s.requires.room;
       first_below = omega (arith, q.first_below, k);
       second_below = omega (arith, q.second_below, k);
-      narrow = omega (arith, digits_most a.p s.pre.plan);
-      few = omega (arith, s.pre.plan.d_most);
+      narrow = omega (arith, digits_most a.p s.requires.plan);
+      few = omega (arith, s.requires.plan.d_most);
       cut = q.cut;
     }
 
-returns_3 : tie.Need-returns-3
+returns_3 : tie.Need-returns
 returns_3 c =
-    let a = (start_from_tie_break c.before.before).args in
+    let a = c.args in
     let m = more c.before.before.before.before in
     let e : a.p.grades - 3 ≡ a.p.grades - 2 - 1 = omega arith in
     wrote_as a.w a.table.now _ _ _ _
     (ap (tie_break (a.p.ballots % 2) a.w.wire a.x a.y a.e a.s (a.p.digits - 1) a.high) e
     ∙ tie_break_below_more a.p a.w.wire a.x a.y a.e a.s a.p.digits a.high
-    (a.p.grades - 2) (some (else1_from_slice_known4 c)) (omega arith)) c.before.before.tie-break.ensures
+    (a.p.grades - 2) (some c.before.before.before.before.before) (omega arith)) c.tie_break.ensures
 
-same_length : tie.Need-same-length
+same_length : tie.Need-shape_of-table-then-digits-eq0
 same_length c =
     search rules
 
-same_length_2 : tie.Need-same-length-2
+same_length_2 : tie.Need-shape_of-table-then-grades-eq2
 same_length_2 c =
     search rules
 
-same_length_3 : tie.Need-same-length-3
+same_length_3 : tie.Need-shape_of-table
 same_length_3 c =
     search rules
 

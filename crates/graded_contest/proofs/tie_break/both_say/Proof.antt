@@ -1,7 +1,7 @@
 -- `graded_contest::tie_break::both_say` meets its contract: five gates.
 -- Assumes nothing.
 use mathlib.Core.Path.{refl}
-use Prim.Native.Nat.{◌+◌, ◌-◌}
+use Prim.Native.Nat.{◌+◌}
 use native.Mathlib.Omega.{arith}
 use borrow.Author.Rules.{rules}
 use Rattle.gate_words.proofs.Writing.{wrote_both, room_less}
@@ -10,128 +10,97 @@ use Rattle.gate_words.proofs.Standing.{Stands, stands, stands_after, room_of}
 use Rattle.graded_contest.proofs.tie_break.both_say.Statement.{statement}
 use Rattle.graded_contest.proofs.tie_break.both_say.Tie as tie
 
-emit_requires : tie.Need-emit-requires
+emit_requires : tie.Need-emit-both-requires
 emit_requires c κs =
-    room_less c.before.before.args.w _ _ (omega arith) c.before.before.requires.room
+    room_less c.args.w _ _ (omega arith) c.requires.room
 
-after1 : (c : tie.After-emit) → Stands c.emit.result (c.before.before.before.args.w.wire + 1) 4
+after1 : (c : tie.After-emit-both) → Stands c.emit-both.result (c.args.w.wire + 1) 4
 after1 c =
-    stands_after c.before.before.before.args.w c.before.before.before.args.table.now _
-    c.emit.new.1.0 c.emit.result _ 1 4 c.emit.ensures refl
-    (stands c.before.before.before.args.w c.before.before.before.args.w.wire _ _ refl
-    (omega arith) c.before.before.before.requires.room)
+    stands_after c.args.w c.args.table.now _
+    c.emit-both.new.table c.emit-both.result _ 1 4 c.emit-both.ensures refl
+    (stands c.args.w c.args.w.wire _ _ refl
+    (omega arith) c.requires.room)
 
-emit_requires_2 : tie.Need-emit-requires-2
+emit_requires_2 : tie.Need-emit-one-requires
 emit_requires_2 c κs =
-    room_of c.before.before.before.emit.result _ _ _ (after1 c.before.before.before) (omega arith)
+    room_of c.emit-both.result _ _ _ (after1 c.before.before.before) (omega arith)
 
--- The stages of the function, seen from later ones.
-abbrev start_from_emit2 : tie.After-emit2 → tie.Start
-start_from_emit2 c = c.before.before.before.before.before.before.before
-
-abbrev start_from_emit3 : tie.After-emit3 → tie.Start
-start_from_emit3 c = start_from_emit2 c.before.before.before.before
-
-abbrev emit_from_emit3 : tie.After-emit3 → tie.After-emit
-emit_from_emit3 c = c.before.before.before.before.before.before.before.before
-
-abbrev emit2_from_emit3 : tie.After-emit3 → tie.After-emit2
-emit2_from_emit3 c = c.before.before.before.before
-
-abbrev start_from_emit4 : tie.After-emit4 → tie.Start
-start_from_emit4 c = start_from_emit2 c.before.before.before.before.before.before.before.before
-
-abbrev start_from_emit5 : tie.After-emit5 → tie.Start
-start_from_emit5 c = start_from_emit3 c.before.before.before.before.before.before.before.before
-
-abbrev emit_from_emit5 : tie.After-emit5 → tie.After-emit
-emit_from_emit5 c = emit_from_emit3 c.before.before.before.before.before.before.before.before
-
-abbrev emit2_from_emit5 : tie.After-emit5 → tie.After-emit2
-emit2_from_emit5 c = emit2_from_emit3 c.before.before.before.before.before.before.before.before
-
-abbrev emit3_from_emit5 : tie.After-emit5 → tie.After-emit3
-emit3_from_emit5 c = c.before.before.before.before.before.before.before.before
-
-abbrev emit4_from_slice_known6 : tie.After-slice-known6 → tie.After-emit4
-emit4_from_slice_known6 c = c.before.before.before.before.before.before
-
-after2 : (c : tie.After-emit2) → Stands c.emit2.result ((start_from_emit2 c).args.w.wire + 1 + 1) 3
+after2 : (c : tie.After-emit-one) → Stands c.emit-one.result (c.args.w.wire + 1 + 1) 3
 after2 c =
-    stands_after c.before.before.before.before.emit.result
-    c.before.before.before.before.emit.new.1.0 _ c.emit2.new.1.0 c.emit2.result _ 1 3
-    c.emit2.ensures refl (after1 c.before.before.before.before)
+    stands_after c.emit-both.result
+    c.emit-both.new.table _ c.emit-one.new.table c.emit-one.result _ 1 3
+    c.emit-one.ensures refl (after1 c.before.before.before.before)
 
-emit_requires_3 : tie.Need-emit-requires-3
+emit_requires_3 : tie.Need-emit-some-requires
 emit_requires_3 c κs =
-    room_of c.before.before.before.emit2.result _ _ _ (after2 c.before.before.before) (omega arith)
+    room_of c.emit-one.result _ _ _ (after2 c.before.before.before) (omega arith)
 
-after3 : (c : tie.After-emit3) → Stands c.emit3.result ((start_from_emit3 c).args.w.wire + 1 + 1 + 1) 2
+after3 : (c : tie.After-emit-some) → Stands c.emit-some.result (c.args.w.wire + 1 + 1 + 1) 2
 after3 c =
-    stands_after c.before.before.before.before.emit2.result
-    c.before.before.before.before.emit2.new.1.0 _ c.emit3.new.1.0 c.emit3.result _ 1 2
-    c.emit3.ensures refl (after2 c.before.before.before.before)
+    stands_after c.emit-one.result
+    c.emit-one.new.table _ c.emit-some.new.table c.emit-some.result _ 1 2
+    c.emit-some.ensures refl (after2 c.before.before.before.before)
 
-emit_requires_4 : tie.Need-emit-requires-4
+emit_requires_4 : tie.Need-emit-upper-requires
 emit_requires_4 c κs =
-    room_of c.before.before.before.emit3.result _ _ _ (after3 c.before.before.before) (omega arith)
+    room_of c.emit-some.result _ _ _ (after3 c.before.before.before) (omega arith)
 
-after4 : (c : tie.After-emit4) → Stands c.emit4.result ((start_from_emit4 c).args.w.wire + 1 + 1 + 1 + 1) 1
+after4 : (c : tie.After-emit-upper) → Stands c.emit-upper.result (c.args.w.wire + 1 + 1 + 1 + 1) 1
 after4 c =
-    stands_after c.before.before.before.before.emit3.result
-    c.before.before.before.before.emit3.new.1.0 _ c.emit4.new.1.0 c.emit4.result _ 1 1
-    c.emit4.ensures refl (after3 c.before.before.before.before)
+    stands_after c.emit-some.result
+    c.emit-some.new.table _ c.emit-upper.new.table c.emit-upper.result _ 1 1
+    c.emit-upper.ensures refl (after3 c.before.before.before.before)
 
-emit_requires_5 : tie.Need-emit-requires-5
+emit_requires_5 : tie.Need-emit-requires
 emit_requires_5 c κs =
-    room_of c.before.before.before.emit4.result _ _ _ (after4 c.before.before.before) (omega arith)
+    room_of c.emit-upper.result _ _ _ (after4 c.before.before.before) (omega arith)
 
 returns : tie.Need-returns
 returns c =
-    let a = (start_from_emit5 c.before.before).args in
-    (wrote_both a.w a.table.now _ (emit_from_emit5 c.before.before).emit.last.1.0
-    (emit_from_emit5 c.before.before).emit.result _ _ _
-    (and_wrote a.w a.table.now (emit_from_emit5 c.before.before).emit.last.1.0
-    (emit_from_emit5 c.before.before).emit.result a.e1 a.e2 0
-    (emit_from_emit5 c.before.before).emit.ensures)
-    (wrote_both (emit_from_emit5 c.before.before).emit.result
-    (emit_from_emit5 c.before.before).emit.last.1.0 _
-    (emit2_from_emit5 c.before.before).emit2.last.1.0
-    (emit2_from_emit5 c.before.before).emit2.result _ _ _
-    (xor_wrote (emit_from_emit5 c.before.before).emit.result
-    (emit_from_emit5 c.before.before).emit.last.1.0
-    (emit2_from_emit5 c.before.before).emit2.last.1.0
-    (emit2_from_emit5 c.before.before).emit2.result a.e1 a.e2 0
-    (emit2_from_emit5 c.before.before).emit2.ensures)
-    (wrote_both (emit2_from_emit5 c.before.before).emit2.result
-    (emit2_from_emit5 c.before.before).emit2.last.1.0 _
-    (emit3_from_emit5 c.before.before).emit3.last.1.0
-    (emit3_from_emit5 c.before.before).emit3.result _ _ _
-    (xor_wrote (emit2_from_emit5 c.before.before).emit2.result
-    (emit2_from_emit5 c.before.before).emit2.last.1.0
-    (emit3_from_emit5 c.before.before).emit3.last.1.0
-    (emit3_from_emit5 c.before.before).emit3.result (a.q + 5) (a.q + 4) 0
-    (emit3_from_emit5 c.before.before).emit3.ensures)
-    (wrote_both (emit3_from_emit5 c.before.before).emit3.result
-    (emit3_from_emit5 c.before.before).emit3.last.1.0 _
-    (emit4_from_slice_known6 c).emit4.last.1.0 (emit4_from_slice_known6 c).emit4.result _ _ _
-    (mux_wrote (emit3_from_emit5 c.before.before).emit3.result
-    (emit3_from_emit5 c.before.before).emit3.last.1.0 (emit4_from_slice_known6 c).emit4.last.1.0
-    (emit4_from_slice_known6 c).emit4.result a.e2 a.s2 a.s1
-    (emit4_from_slice_known6 c).emit4.ensures)
-    (xor_wrote (emit4_from_slice_known6 c).emit4.result (emit4_from_slice_known6 c).emit4.last.1.0
-    c.before.before.emit5.new.1.0 c.before.before.emit5.result a.s1 a.s2 0
-    c.before.before.emit5.ensures)))))
+    let a = c.args in
+    (wrote_both a.w a.table.now _ c.emit-both.new.table
+    c.emit-both.result _ _ _
+    (and_wrote a.w a.table.now c.emit-both.new.table
+    c.emit-both.result a.e1 a.e2 0
+    c.emit-both.ensures)
+    (wrote_both c.emit-both.result
+    c.emit-both.new.table _
+    c.emit-one.new.table
+    c.emit-one.result _ _ _
+    (xor_wrote c.emit-both.result
+    c.emit-both.new.table
+    c.emit-one.new.table
+    c.emit-one.result a.e1 a.e2 0
+    c.emit-one.ensures)
+    (wrote_both c.emit-one.result
+    c.emit-one.new.table _
+    c.emit-some.new.table
+    c.emit-some.result _ _ _
+    (xor_wrote c.emit-one.result
+    c.emit-one.new.table
+    c.emit-some.new.table
+    c.emit-some.result (a.q + 5) (a.q + 4) 0
+    c.emit-some.ensures)
+    (wrote_both c.emit-some.result
+    c.emit-some.new.table _
+    c.emit-upper.new.table c.emit-upper.result _ _ _
+    (mux_wrote c.emit-some.result
+    c.emit-some.new.table c.emit-upper.new.table
+    c.emit-upper.result a.e2 a.s2 a.s1
+    c.emit-upper.ensures)
+    (xor_wrote c.emit-upper.result c.emit-upper.new.table
+    c.emit.new.table c.emit.result a.s1 a.s2 0
+    c.emit.ensures)))))
 
-add_emit : tie.Need-overflow-add-emit
+add_emit : tie.Need-overflow_add-q
 add_emit c =
-    omega (arith, (start_from_emit2 c.before.before.before).pre.small)
+    omega (arith, c.requires.small)
 
-add_emit_2 : tie.Need-overflow-add-emit-2
+add_emit_2 : tie.Need-overflow_add-q-2
 add_emit_2 c =
-    omega (arith, (start_from_emit2 c.before.before.before).pre.small)
+    omega (arith, c.requires.small)
 
-same_length : tie.Need-same-length
+same_length : tie.Need-shape_of-table
 same_length c =
     search rules
 

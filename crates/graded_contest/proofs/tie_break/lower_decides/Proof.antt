@@ -1,7 +1,7 @@
 -- `graded_contest::tie_break::lower_decides` meets its contract: four gates.
 -- Assumes nothing.
 use mathlib.Core.Path.{refl}
-use Prim.Native.Nat.{◌+◌, ◌-◌}
+use Prim.Native.Nat.{◌+◌}
 use native.Mathlib.Omega.{arith}
 use borrow.Author.Rules.{rules}
 use Rattle.gate_words.proofs.Writing.{wrote_both, room_less}
@@ -10,119 +10,94 @@ use Rattle.gate_words.proofs.Standing.{Stands, stands, stands_after, room_of}
 use Rattle.graded_contest.proofs.tie_break.lower_decides.Statement.{statement}
 use Rattle.graded_contest.proofs.tie_break.lower_decides.Tie as tie
 
-emit_requires : tie.Need-emit-requires
+emit_requires : tie.Need-emit-equal-requires
 emit_requires c κs =
-    room_less c.before.before.args.w _ _ (omega arith) c.before.before.requires.room
+    room_less c.args.w _ _ (omega arith) c.requires.room
 
-after1 : (c : tie.After-emit) → Stands c.emit.result (c.before.before.before.args.w.wire + 1) 3
+after1 : (c : tie.After-emit-equal) → Stands c.emit-equal.result (c.args.w.wire + 1) 3
 after1 c =
-    stands_after c.before.before.before.args.w c.before.before.before.args.table.now _
-    c.emit.new.1.0 c.emit.result _ 1 3 c.emit.ensures refl
-    (stands c.before.before.before.args.w c.before.before.before.args.w.wire _ _ refl
-    (omega arith) c.before.before.before.requires.room)
+    stands_after c.args.w c.args.table.now _
+    c.emit-equal.new.table c.emit-equal.result _ 1 3 c.emit-equal.ensures refl
+    (stands c.args.w c.args.w.wire _ _ refl
+    (omega arith) c.requires.room)
 
-emit_requires_2 : tie.Need-emit-requires-2
+emit_requires_2 : tie.Need-emit-against-requires
 emit_requires_2 c κs =
-    room_of c.before.before.before.emit.result _ _ _ (after1 c.before.before.before) (omega arith)
+    room_of c.emit-equal.result _ _ _ (after1 c.before.before.before) (omega arith)
 
--- The stages of the function, seen from later ones.
-abbrev start_from_emit_arg2 : tie.After-emit-arg2 → tie.Start
-start_from_emit_arg2 c = c.before.before.before.before.before.before
-
-abbrev start_from_emit2 : tie.After-emit2 → tie.Start
-start_from_emit2 c = c.before.before.before.before.before.before.before
-
-abbrev emit_from_emit2 : tie.After-emit2 → tie.After-emit
-emit_from_emit2 c = c.before.before.before.before
-
-abbrev start_from_emit3 : tie.After-emit3 → tie.Start
-start_from_emit3 c = start_from_emit_arg2 c.before.before.before.before.before
-
-abbrev start_from_emit4 : tie.After-emit4 → tie.Start
-start_from_emit4 c = start_from_emit2 c.before.before.before.before.before.before.before.before
-
-abbrev emit_from_emit4 : tie.After-emit4 → tie.After-emit
-emit_from_emit4 c = emit_from_emit2 c.before.before.before.before.before.before.before.before
-
-abbrev emit2_from_emit4 : tie.After-emit4 → tie.After-emit2
-emit2_from_emit4 c = c.before.before.before.before.before.before.before.before
-
-abbrev emit3_from_slice_known5 : tie.After-slice-known5 → tie.After-emit3
-emit3_from_slice_known5 c = c.before.before.before.before.before.before
-
-after2 : (c : tie.After-emit2) → Stands c.emit2.result ((start_from_emit2 c).args.w.wire + 1 + 1) 2
+after2 : (c : tie.After-emit-against) → Stands c.emit-against.result (c.args.w.wire + 1 + 1) 2
 after2 c =
-    stands_after c.before.before.before.before.emit.result
-    c.before.before.before.before.emit.new.1.0 _ c.emit2.new.1.0 c.emit2.result _ 1 2
-    c.emit2.ensures refl (after1 c.before.before.before.before)
+    stands_after c.emit-equal.result
+    c.emit-equal.new.table _ c.emit-against.new.table c.emit-against.result _ 1 2
+    c.emit-against.ensures refl (after1 c.before.before.before.before)
 
-emit_requires_3 : tie.Need-emit-requires-3
+emit_requires_3 : tie.Need-emit-clash-requires
 emit_requires_3 c κs =
-    room_of c.before.before.before.emit2.result _ _ _ (after2 c.before.before.before) (omega arith)
+    room_of c.emit-against.result _ _ _ (after2 c.before.before.before) (omega arith)
 
-after3 : (c : tie.After-emit3) → Stands c.emit3.result ((start_from_emit3 c).args.w.wire + 1 + 1 + 1) 1
+after3 : (c : tie.After-emit-clash) → Stands c.emit-clash.result (c.args.w.wire + 1 + 1 + 1) 1
 after3 c =
-    stands_after c.before.before.before.before.emit2.result
-    c.before.before.before.before.emit2.new.1.0 _ c.emit3.new.1.0 c.emit3.result _ 1 1
-    c.emit3.ensures refl (after2 c.before.before.before.before)
+    stands_after c.emit-against.result
+    c.emit-against.new.table _ c.emit-clash.new.table c.emit-clash.result _ 1 1
+    c.emit-clash.ensures refl (after2 c.before.before.before.before)
 
-emit_requires_4 : tie.Need-emit-requires-4
+emit_requires_4 : tie.Need-emit-requires
 emit_requires_4 c κs =
-    room_of c.before.before.before.emit3.result _ _ _ (after3 c.before.before.before) (omega arith)
+    room_of c.emit-clash.result _ _ _ (after3 c.before.before.before) (omega arith)
 
 returns : tie.Need-returns
 returns c =
-    let a = (start_from_emit4 c.before.before).args in
-    (wrote_both a.w a.table.now _ (emit_from_emit4 c.before.before).emit.last.1.0
-    (emit_from_emit4 c.before.before).emit.result _ _ _
-    (not_wrote a.w a.table.now (emit_from_emit4 c.before.before).emit.last.1.0
-    (emit_from_emit4 c.before.before).emit.result a.e 0 0
-    (emit_from_emit4 c.before.before).emit.ensures)
-    (wrote_both (emit_from_emit4 c.before.before).emit.result
-    (emit_from_emit4 c.before.before).emit.last.1.0 _
-    (emit2_from_emit4 c.before.before).emit2.last.1.0
-    (emit2_from_emit4 c.before.before).emit2.result _ _ _
-    (and_wrote (emit_from_emit4 c.before.before).emit.result
-    (emit_from_emit4 c.before.before).emit.last.1.0
-    (emit2_from_emit4 c.before.before).emit2.last.1.0
-    (emit2_from_emit4 c.before.before).emit2.result (a.q + 8) (a.q + 9) 0
-    (emit2_from_emit4 c.before.before).emit2.ensures)
-    (wrote_both (emit2_from_emit4 c.before.before).emit2.result
-    (emit2_from_emit4 c.before.before).emit2.last.1.0 _
-    (emit3_from_slice_known5 c).emit3.last.1.0 (emit3_from_slice_known5 c).emit3.result _ _ _
-    (and_wrote (emit2_from_emit4 c.before.before).emit2.result
-    (emit2_from_emit4 c.before.before).emit2.last.1.0 (emit3_from_slice_known5 c).emit3.last.1.0
-    (emit3_from_slice_known5 c).emit3.result (a.q + 4) (a.q + 10) 0
-    (emit3_from_slice_known5 c).emit3.ensures)
-    (and_wrote (emit3_from_slice_known5 c).emit3.result (emit3_from_slice_known5 c).emit3.last.1.0
-    c.before.before.emit4.new.1.0 c.before.before.emit4.result (a.q + 11) (a.q + 3) 0
-    c.before.before.emit4.ensures))))
+    let a = c.args in
+    (wrote_both a.w a.table.now _ c.emit-equal.new.table
+    c.emit-equal.result _ _ _
+    (not_wrote a.w a.table.now c.emit-equal.new.table
+    c.emit-equal.result a.e 0 0
+    c.emit-equal.ensures)
+    (wrote_both c.emit-equal.result
+    c.emit-equal.new.table _
+    c.emit-against.new.table
+    c.emit-against.result _ _ _
+    (and_wrote c.emit-equal.result
+    c.emit-equal.new.table
+    c.emit-against.new.table
+    c.emit-against.result (a.q + 8) (a.q + 9) 0
+    c.emit-against.ensures)
+    (wrote_both c.emit-against.result
+    c.emit-against.new.table _
+    c.emit-clash.new.table c.emit-clash.result _ _ _
+    (and_wrote c.emit-against.result
+    c.emit-against.new.table c.emit-clash.new.table
+    c.emit-clash.result (a.q + 4) (a.q + 10) 0
+    c.emit-clash.ensures)
+    (and_wrote c.emit-clash.result c.emit-clash.new.table
+    c.emit.new.table c.emit.result (a.q + 11) (a.q + 3) 0
+    c.emit.ensures))))
 
-add_emit : tie.Need-overflow-add-emit
+add_emit : tie.Need-overflow_add-q
 add_emit c =
-    omega (arith, (start_from_emit_arg2 c).pre.small)
+    omega (arith, c.requires.small)
 
-add_emit_2 : tie.Need-overflow-add-emit-2
+add_emit_2 : tie.Need-overflow_add-q-2
 add_emit_2 c =
-    omega (arith, (start_from_emit_arg2 c).pre.small)
+    omega (arith, c.requires.small)
 
-add_emit_3 : tie.Need-overflow-add-emit-3
+add_emit_3 : tie.Need-overflow_add-q-3
 add_emit_3 c =
-    omega (arith, (start_from_emit2 c.before.before.before).pre.small)
+    omega (arith, c.requires.small)
 
-add_emit_4 : tie.Need-overflow-add-emit-4
+add_emit_4 : tie.Need-overflow_add-q-4
 add_emit_4 c =
-    omega (arith, (start_from_emit2 c.before.before.before).pre.small)
+    omega (arith, c.requires.small)
 
-add_emit_5 : tie.Need-overflow-add-emit-5
+add_emit_5 : tie.Need-overflow_add-q-5
 add_emit_5 c =
-    omega (arith, (start_from_emit3 c.before.before.before).pre.small)
+    omega (arith, c.requires.small)
 
-add_emit_6 : tie.Need-overflow-add-emit-6
+add_emit_6 : tie.Need-overflow_add-q-6
 add_emit_6 c =
-    omega (arith, (start_from_emit3 c.before.before.before).pre.small)
+    omega (arith, c.requires.small)
 
-same_length : tie.Need-same-length
+same_length : tie.Need-shape_of-table
 same_length c =
     search rules
 

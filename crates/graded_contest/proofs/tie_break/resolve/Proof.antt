@@ -1,7 +1,7 @@
 -- `graded_contest::tie_break::resolve` meets its contract: its four parts, one after the other.
 -- Assumes nothing.
 use mathlib.Core.Path.{refl}
-use Prim.Native.Nat.{◌+◌, ◌-◌}
+use Prim.Native.Nat.{◌+◌}
 use native.Mathlib.Omega.{arith}
 use borrow.Author.Rules.{rules}
 use Rattle.gate_words.proofs.Writing.{wrote_both, room_less}
@@ -10,100 +10,75 @@ use Rattle.graded_circuit.specs.TieBreak.{resolve}
 use Rattle.graded_contest.proofs.tie_break.resolve.Statement.{statement}
 use Rattle.graded_contest.proofs.tie_break.resolve.Tie as tie
 
-lower_first_requires : tie.Need-lower-first-requires
+lower_first_requires : tie.Need-lower_first-first-requires
 lower_first_requires c κs =
     record {
-      room = room_less c.before.before.args.w _ _ (omega arith) c.before.before.requires;
-      small = omega (arith, c.before.before.requires.small);
+      room = room_less c.args.w _ _ (omega arith) c.requires;
+      small = omega (arith, c.requires.small);
     }
 
-after_lower_first : (c : tie.After-lower-first) → Stands c.lower-first.result (c.before.before.before.args.w.wire + 4) 12
+after_lower_first : (c : tie.After-lower_first-first) → Stands c.lower_first-first.result (c.args.w.wire + 4) 12
 after_lower_first c =
-    stands_after c.before.before.before.args.w c.before.before.before.args.table.now _
-    c.lower-first.new.1.0 c.lower-first.result _ 4 12 c.lower-first.ensures refl
-    (stands c.before.before.before.args.w c.before.before.before.args.w.wire _ _ refl
-    (omega arith) c.before.before.before.requires)
+    stands_after c.args.w c.args.table.now _
+    c.lower_first-first.new.table c.lower_first-first.result _ 4 12 c.lower_first-first.ensures refl
+    (stands c.args.w c.args.w.wire _ _ refl
+    (omega arith) c.requires)
 
--- The stages of the function, seen from later ones.
-abbrev start_from_both_say_arg : tie.After-both-say-arg → tie.Start
-start_from_both_say_arg c = c.before.before.before.before.before.before
-
-abbrev start_from_both_say : tie.After-both-say → tie.Start
-start_from_both_say c = c.before.before.before.before.before.before.before
-
-abbrev lower_first_from_both_say : tie.After-both-say → tie.After-lower-first
-lower_first_from_both_say c = c.before.before.before.before
-
-abbrev start_from_lower_decides : tie.After-lower-decides → tie.Start
-start_from_lower_decides c = start_from_both_say_arg c.before.before.before.before.before
-
-abbrev start_from_answer : tie.After-answer → tie.Start
-start_from_answer c = start_from_both_say c.before.before.before.before.before.before.before.before
-
-abbrev lower_first_from_answer : tie.After-answer → tie.After-lower-first
-lower_first_from_answer c = lower_first_from_both_say c.before.before.before.before.before.before.before.before
-
-abbrev both_say_from_answer : tie.After-answer → tie.After-both-say
-both_say_from_answer c = c.before.before.before.before.before.before.before.before
-
-abbrev lower_decides_from_slice_known5 : tie.After-slice-known5 → tie.After-lower-decides
-lower_decides_from_slice_known5 c = c.before.before.before.before.before.before
-
-both_say_requires : tie.Need-both-say-requires
+both_say_requires : tie.Need-both_say-outcome-requires
 both_say_requires c κs =
     record {
-      room = room_of c.before.before.before.lower-first.result _ _ _ (after_lower_first c.before.before.before) (omega arith);
-      small = omega (arith, (start_from_both_say_arg c).pre.small);
+      room = room_of c.lower_first-first.result _ _ _ (after_lower_first c.before.before.before) (omega arith);
+      small = omega (arith, c.requires.small);
     }
 
-after_both_say : (c : tie.After-both-say) → Stands c.both_say.result ((start_from_both_say c).args.w.wire + 4 + 5) 7
+after_both_say : (c : tie.After-both_say-outcome) → Stands c.both_say-outcome.result (c.args.w.wire + 4 + 5) 7
 after_both_say c =
-    stands_after c.before.before.before.before.lower-first.result
-    c.before.before.before.before.lower-first.new.1.0 _ c.both_say.new.1.0 c.both_say.result
-    _ 5 7 c.both_say.ensures refl (after_lower_first c.before.before.before.before)
+    stands_after c.lower_first-first.result
+    c.lower_first-first.new.table _ c.both_say-outcome.new.table c.both_say-outcome.result
+    _ 5 7 c.both_say-outcome.ensures refl (after_lower_first c.before.before.before.before)
 
-lower_decides_requires : tie.Need-lower-decides-requires
+lower_decides_requires : tie.Need-lower_decides-lower-requires
 lower_decides_requires c κs =
     record {
-      room = room_of c.before.before.before.both_say.result _ _ _ (after_both_say c.before.before.before) (omega arith);
-      small = omega (arith, (start_from_both_say c.before.before.before).pre.small);
+      room = room_of c.both_say-outcome.result _ _ _ (after_both_say c.before.before.before) (omega arith);
+      small = omega (arith, c.requires.small);
     }
 
-after_lower_decides : (c : tie.After-lower-decides)
-    → Stands c.lower-decides.result ((start_from_lower_decides c).args.w.wire + 4 + 5 + 4) 3
+after_lower_decides : (c : tie.After-lower_decides-lower)
+    → Stands c.lower_decides-lower.result (c.args.w.wire + 4 + 5 + 4) 3
 after_lower_decides c =
-    stands_after c.before.before.before.before.both_say.result
-    c.before.before.before.before.both_say.new.1.0 _ c.lower-decides.new.1.0
-    c.lower-decides.result _ 4 3 c.lower-decides.ensures refl
+    stands_after c.both_say-outcome.result
+    c.both_say-outcome.new.table _ c.lower_decides-lower.new.table
+    c.lower_decides-lower.result _ 4 3 c.lower_decides-lower.ensures refl
     (after_both_say c.before.before.before.before)
 
 answer_requires : tie.Need-answer-requires
 answer_requires c κs =
     record {
-      room = room_of c.before.before.before.lower-decides.result _ _ _
+      room = room_of c.lower_decides-lower.result _ _ _
           (after_lower_decides c.before.before.before) (omega arith);
-      small = omega (arith, (start_from_lower_decides c.before.before.before).pre.small);
+      small = omega (arith, c.requires.small);
     }
 
 returns : tie.Need-returns
 unfolding resolve
 returns c =
-    let a = (start_from_answer c.before.before).args in
-    wrote_both a.w a.table.now _ (lower_first_from_answer c.before.before).lower-first.last.1.0
-    (lower_first_from_answer c.before.before).lower-first.result _ _ _
-    (lower_first_from_answer c.before.before).lower-first.ensures
-    (wrote_both (lower_first_from_answer c.before.before).lower-first.result
-    (lower_first_from_answer c.before.before).lower-first.last.1.0 _
-    (both_say_from_answer c.before.before).both_say.last.1.0
-    (both_say_from_answer c.before.before).both_say.result _ _ _
-    (both_say_from_answer c.before.before).both_say.ensures
-    (wrote_both (both_say_from_answer c.before.before).both_say.result
-    (both_say_from_answer c.before.before).both_say.last.1.0 _
-    (lower_decides_from_slice_known5 c).lower-decides.last.1.0
-    (lower_decides_from_slice_known5 c).lower-decides.result _ _ _
-    (lower_decides_from_slice_known5 c).lower-decides.ensures c.before.before.answer.ensures))
+    let a = c.args in
+    wrote_both a.w a.table.now _ c.lower_first-first.new.table
+    c.lower_first-first.result _ _ _
+    c.lower_first-first.ensures
+    (wrote_both c.lower_first-first.result
+    c.lower_first-first.new.table _
+    c.both_say-outcome.new.table
+    c.both_say-outcome.result _ _ _
+    c.both_say-outcome.ensures
+    (wrote_both c.both_say-outcome.result
+    c.both_say-outcome.new.table _
+    c.lower_decides-lower.new.table
+    c.lower_decides-lower.result _ _ _
+    c.lower_decides-lower.ensures c.answer.ensures))
 
-same_length : tie.Need-same-length
+same_length : tie.Need-shape_of-table
 same_length c =
     search rules
 
