@@ -3,5 +3,7 @@
 //
 // Each function writes the gates of a definition of `ranked_circuit` and returns the next writer. Its `requires` asks
 // for room and for operands that are wires already.
+#![tactic(auto)]
+
 pub mod blocks;
 pub mod meeting;

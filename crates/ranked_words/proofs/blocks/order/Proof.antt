@@ -12,61 +12,51 @@ use Rattle.ranked_words.proofs.blocks.order.Statement.{statement}
 use Rattle.ranked_words.proofs.blocks.order.Tie as tie
 use Rattle.gate_words.proofs.Standing.{wrote_then}
 
-add_differences : tie.Need-overflow-add-differences
+add_differences : tie.Need-overflow_add-x
 add_differences c = search rules
 
-add_differences_2 : tie.Need-overflow-add-differences-2
+add_differences_2 : tie.Need-overflow_add-y
 add_differences_2 c = search rules
 
-differences_requires : tie.Need-differences-requires
+differences_requires : tie.Need-differences-differ-requires
 differences_requires c κs = search rules
 
 -- the writer after the differences
-differ : (c : tie.After-differences) → c.differences.result.wire ≡ c.before.before.before.args.w.wire
-    + c.before.before.before.args.digits
-differ c = behind c.before.before.before.args.w c.before.before.before.args.table.now _
-    c.differences.new.1.0 c.differences.result c.before.before.before.args.digits
-    c.differences.ensures (length_differences (c.before.before.before.args.x + 1)
-    (c.before.before.before.args.y + 1) c.before.before.before.args.digits)
+differ : (c : tie.After-differences-differ) → c.differences-differ.result.wire ≡ c.args.w.wire
+    + c.args.digits
+differ c = behind c.args.w c.args.table.now _
+    c.differences-differ.new.table c.differences-differ.result c.args.digits
+    c.differences-differ.ensures (length_differences (c.args.x + 1)
+    (c.args.y + 1) c.args.digits)
 
-add_above : tie.Need-overflow-add-above
+add_above : tie.Need-overflow_add-x-2
 add_above c = search rules
-
--- The stages of the function, seen from later ones.
-abbrev start_from_above_arg : tie.After-above-arg → tie.Start
-start_from_above_arg c = c.before.before.before.before.before.before
-
-abbrev start_from_above : tie.After-above → tie.Start
-start_from_above c = c.before.before.before.before.before.before.before
-
-abbrev differences_from_slice_known3 : tie.After-slice-known3 → tie.After-differences
-differences_from_slice_known3 c = c.before.before.before.before.before.before
 
 above_requires : tie.Need-above-requires
 above_requires c κs =
-    let a = (start_from_above_arg c).args in
+    let a = c.args in
     let e = differ c.before.before.before in
     record {
-      room = room_behind a.w a.table.now _ c.before.before.before.differences.new.1.0
-          c.before.before.before.differences.result a.digits a.digits _
-          c.before.before.before.differences.ensures (length_differences (a.x + 1) (a.y + 1) a.digits)
-          (omega arith) (start_from_above_arg c).pre.room;
+      room = room_behind a.w a.table.now _ c.differences-differ.new.table
+          c.differences-differ.result a.digits a.digits _
+          c.differences-differ.ensures (length_differences (a.x + 1) (a.y + 1) a.digits)
+          (omega arith) c.requires.room;
       first_below = omega arith;
-      second_below = omega (arith, (start_from_above_arg c).pre.first_below);
+      second_below = omega (arith, c.requires.first_below);
     }
 
 returns : tie.Need-returns
 unfolding order
 returns c =
-    let a = (start_from_above c.before.before).args in
+    let a = c.args in
     wrote_then a.w a.table.now _
-    (differences_from_slice_known3 c).differences.last.1.0
-    (differences_from_slice_known3 c).differences.result _ _
-    c.before.before.above.new.1.0 c.before.before.above.result
-    (differences_from_slice_known3 c).differences.ensures c.before.before.above.ensures
-    (ap (λ (n : ℕ). above n a.w.wire (a.x + 1) a.x a.digits) (differ (differences_from_slice_known3 c)))
+    c.differences-differ.new.table
+    c.differences-differ.result _ _
+    c.above.new.table c.above.result
+    c.differences-differ.ensures c.above.ensures
+    (ap (λ (n : ℕ). above n a.w.wire (a.x + 1) a.x a.digits) (differ c.before.before.before.before.before.before))
 
-same_length : tie.Need-same-length
+same_length : tie.Need-shape_of-table
 same_length c = search rules
 
 pub order_spec : {M : Type 1} → statement M

@@ -19,129 +19,115 @@ use Rattle.ranked_words.proofs.blocks.order_cut.Statement.{statement}
 use Rattle.ranked_words.proofs.blocks.order_cut.Tie as tie
 
 -- the start, after the low digits, after the wires of the answers were found, and after the high digits
-abbrev start : tie.Else1 → tie.Start
-start c = c.before.before
-
-abbrev tested : tie.After-order2 → tie.Else1
-tested c = c.before.before.before.before
-
-abbrev told : tie.After-above-at → tie.After-order2
-told c = c.before.before.before.before
-
-abbrev found : tie.After-compare-halves → tie.After-above-at
-found c = c.before.before
-
-abbrev compared : tie.After-emit → tie.After-compare-halves
-compared c = c.before.before.before.before
 
 -- one chain
 order_requires : tie.Need-order-requires
 order_requires c κs =
-    let s = c.before.before.before in
+    let s = c in
     record {
       room = room_less s.args.w _ _ (omega arith) s.requires.room;
       first_below = s.requires.first_below;
       second_below = s.requires.second_below;
     }
 
-returns : tie.Need-returns
+returns : tie.Need-returns-then-cut-eq0
 returns c =
-    let o = c.before.before in
-    let t = o.before.before in
-    let a = t.before.before.args in
-    wrote_as a.w a.table.now _ _ o.order.new.1.0 o.order.result
-    (cut_zero a.w.wire a.x a.y a.digits a.cut t.if1.true) o.order.ensures
+    let o = c in
+    let t = o in
+    let a = t.args in
+    wrote_as a.w a.table.now _ _ o.order.new.table o.order.result
+    (cut_zero a.w.wire a.x a.y a.digits a.cut t.if-cut-eq0.true) o.order.ensures
 
 -- two halves
 abbrev low_of : tie.Start → ℕ
 low_of s = s.args.digits - s.args.cut
 
-some : (c : tie.Else1) → (start c).args.cut ≡ suc ((start c).args.cut - 1)
-some c = let n = c.if1.false in omega arith
+some : (c : tie.Else-cut-eq0) → c.args.cut ≡ suc (c.args.cut - 1)
+some c = let n = c.if-cut-eq0.false in omega arith
 
-sub_low : tie.Need-overflow-sub-low
-sub_low c = (start c).requires.within
+sub_low : tie.Need-overflow_sub-low
+sub_low c = c.requires.within
 
-add_chain_end : tie.Need-overflow-add-chain-end
-add_chain_end c = let s = start c.before in omega (arith, s.pre.room.small)
+add_chain_end : tie.Need-overflow_add-w
+add_chain_end c = let s = c in omega (arith, s.requires.room.small)
 
-chain_end_requires : tie.Need-chain-end-requires
-chain_end_requires c κs = let s = start c.before in omega (arith, s.pre.room.small, s.pre.within)
+chain_end_requires : tie.Need-chain_end-end-requires
+chain_end_requires c κs = let s = c in omega (arith, s.requires.room.small, s.requires.within)
 
-order_requires_2 : tie.Need-order-requires-2
+order_requires_2 : tie.Need-order-told-requires
 order_requires_2 c κs =
-    let s = start c.before.before.before in
+    let s = c in
     record {
-      room = room_less s.args.w _ _ (omega arith) s.pre.room;
-      first_below = omega (arith, s.pre.first_below);
-      second_below = omega (arith, s.pre.second_below);
+      room = room_less s.args.w _ _ (omega arith) s.requires.room;
+      first_below = omega (arith, s.requires.first_below);
+      second_below = omega (arith, s.requires.second_below);
     }
 
-one : (c : tie.After-order2) → Stands c.order2.result
-    ((start (tested c)).args.w.wire + 2 * low_of (start (tested c))) (3 * ((start (tested c)).args.cut - 1) + 2)
+one : (c : tie.After-order-told) → Stands c.order-told.result
+    (c.args.w.wire + 2 * low_of c.before.before.before.before.before.before) (3 * (c.args.cut - 1) + 2)
 one c =
-    let s = start (tested c) in
+    let s = c in
     let a = s.args in
-    let e = some (tested c) in
-    let q = s.pre.within in
-    stands_after a.w a.table.now _ c.order2.new.1.0 c.order2.result _ (2 * low_of s)
-    (3 * (a.cut - 1) + 2) c.order2.ensures (length_order a.w.wire a.x a.y (low_of s))
-    (stands a.w a.w.wire _ _ refl (omega arith) s.pre.room)
+    let e = some c.before.before.before.before in
+    let q = s.requires.within in
+    stands_after a.w a.table.now _ c.order-told.new.table c.order-told.result _ (2 * low_of s.before.before.before.before.before.before)
+    (3 * (a.cut - 1) + 2) c.order-told.ensures (length_order a.w.wire a.x a.y (low_of s.before.before.before.before.before.before))
+    (stands a.w a.w.wire _ _ refl (omega arith) s.requires.room)
 
-add_high : tie.Need-overflow-add-high
-add_high c = let q = c.before.before in let s = start (tested q) in omega (arith, s.pre.room.small, s.pre.first_below)
+add_high : tie.Need-overflow_add-high
+add_high c = let q = c in let s = q in omega (arith, s.requires.room.small, s.requires.first_below)
 
-add_high_2 : tie.Need-overflow-add-high-2
-add_high_2 c = let q = c.before.before in let s = start (tested q) in omega (arith, s.pre.room.small, s.pre.first_below)
+add_high_2 : tie.Need-overflow_add-high-2
+add_high_2 c = let q = c in let s = q in omega (arith, s.requires.room.small, s.requires.first_below)
 
-sub_unequal_at : tie.Need-overflow-sub-unequal-at
-sub_unequal_at c = let t = tested c.before.before in omega (arith, some t)
+sub_unequal_at : tie.Need-overflow_sub-cut
+sub_unequal_at c = let t = c in omega (arith, some t.before.before.before.before.before.before)
 
-unequal_at_requires : tie.Need-unequal-at-requires
-unequal_at_requires c κs = let q = c.before.before in omega (arith, (one q).left.small)
+unequal_at_requires : tie.Need-unequal_at-differ-requires
+unequal_at_requires c κs = let q = c in omega (arith, (one q.before.before).left.small)
 
-sub_above_at : tie.Need-overflow-sub-above-at
-sub_above_at c = let t = tested c.before.before.before in omega (arith, some t)
+sub_above_at : tie.Need-overflow_sub-cut-2
+sub_above_at c = let t = c in omega (arith, some t.before.before.before.before.before.before.before)
 
-above_at_requires : tie.Need-above-at-requires
-above_at_requires c κs = let q = c.before.before.before in omega (arith, (one q).left.small)
+above_at_requires : tie.Need-above_at-over-requires
+above_at_requires c κs = let q = c in omega (arith, (one q.before.before.before).left.small)
 
-add_compare_halves : tie.Need-overflow-add-compare-halves
-add_compare_halves c = let s = start (tested (told c.before)) in omega (arith, s.pre.room.small, s.pre.second_below)
+add_compare_halves : tie.Need-overflow_add-y
+add_compare_halves c = let s = c in omega (arith, s.requires.room.small, s.requires.second_below)
 
-add_compare_halves_2 : tie.Need-overflow-add-compare-halves-2
-add_compare_halves_2 c = let s = start (tested (told c.before)) in omega (arith, s.pre.room.small, s.pre.second_below)
+add_compare_halves_2 : tie.Need-overflow_add-y-2
+add_compare_halves_2 c = let s = c in omega (arith, s.requires.room.small, s.requires.second_below)
 
-sub_compare_halves : tie.Need-overflow-sub-compare-halves
-sub_compare_halves c = let t = tested (told c.before) in omega (arith, some t)
+sub_compare_halves : tie.Need-overflow_sub-cut-3
+sub_compare_halves c = let t = c in omega (arith, some t.before.before.before.before.before.before.before.before.before)
 
-compare_halves_requires : tie.Need-compare-halves-requires
+compare_halves_requires : tie.Need-compare_halves-compared-requires
 compare_halves_requires c κs =
-    let q = told c.before in
-    let s = start (tested q) in
-    let e = some (tested q) in
-    let w = s.pre.within in
-    let p = (one q).place in
+    let q = c in
+    let s = q in
+    let e = some q.before.before.before.before.before.before.before.before.before in
+    let w = s.requires.within in
+    let p = (one q.before.before.before.before.before).place in
     record {
-      room = room_less q.order2.result _ _ (omega arith) (one q).left;
-      first_below = omega (arith, s.pre.first_below);
-      second_below = omega (arith, s.pre.second_below);
+      room = room_less q.order-told.result _ _ (omega arith) (one q.before.before.before.before.before).left;
+      first_below = omega (arith, s.requires.first_below);
+      second_below = omega (arith, s.requires.second_below);
     }
 
-two : (c : tie.After-compare-halves)
-    → Stands c.compare-halves.result
-    ((start (tested (told (found c)))).args.w.wire + 2 * low_of (start (tested (told (found c))))
-    + (3 * ((start (tested (told (found c)))).args.cut - 1) + 1)) 1
+two : (c : tie.After-compare_halves-compared)
+    → Stands c.compare_halves-compared.result
+    (c.args.w.wire + 2 * low_of c.before.before.before.before.before.before.before.before.before.before.before.before
+    + (3 * (c.args.cut - 1) + 1)) 1
 two c =
-    let q = told (found c) in
-    let s = start (tested q) in
+    let q = c in
+    let s = q in
     let a = s.args in
     let h = a.cut - 1 in
-    let t = one q in
-    stands_after q.order2.result q.order2.last.1.0 _ c.compare-halves.new.1.0
-    c.compare-halves.result _ (3 * h + 1) 1 c.compare-halves.ensures
-    (length_compare_halves q.order2.result.wire (a.x + low_of s + 1) (a.y + low_of s + 1) h 0 ∙ omega arith)
-    (stands q.order2.result _ _ _ t.place (omega arith) t.left)
+    let t = one q.before.before.before.before.before.before in
+    stands_after q.order-told.result q.order-told.new.table _ c.compare_halves-compared.new.table
+    c.compare_halves-compared.result _ (3 * h + 1) 1 c.compare_halves-compared.ensures
+    (length_compare_halves q.order-told.result.wire (a.x + low_of s.before.before.before.before.before.before.before.before.before.before.before.before + 1) (a.y + low_of s.before.before.before.before.before.before.before.before.before.before.before.before + 1) h 0 ∙ omega arith)
+    (stands q.order-told.result _ _ _ t.place (omega arith) t.left)
 
 emit_requires : tie.Need-emit-requires
 emit_requires c κs = (two c.before.before.before).left
@@ -152,41 +138,41 @@ same_high n x y h n₁ x₁ y₁ en ex ey = rw (en, ex, ey)
 end_is : (n x w end : ℕ) → end ≡ chain_end (n + w) x w → end ≡ order_end n x w
 end_is n x w end e = unfold order_end in e
 
-returns_2 : tie.Need-returns-2
+returns_2 : tie.Need-returns
 returns_2 c =
-    let d = c.before.before in
-    let z = compared d in
-    let f = found z in
-    let q = told f in
-    let t = tested q in
-    let s = start t in
+    let d = c in
+    let z = d in
+    let f = z in
+    let q = f in
+    let t = q in
+    let s = t in
     let a = s.args in
     let n = a.w.wire in
-    let l = low_of s in
+    let l = low_of s.before.before.before.before.before.before.before.before.before.before.before.before.before.before.before.before.before.before in
     let h = a.cut - 1 in
-    let N = q.order2.result.wire in
-    let p = (one q).place in
+    let N = q.order-told.result.wire in
+    let p = (one q.before.before.before.before.before.before.before.before.before.before.before.before).place in
     let X : a.x + l + 1 ≡ a.x + suc l = omega arith in
     let Y : a.y + l + 1 ≡ a.y + suc l = omega arith in
-    wrote_as a.w a.table.now _ _ d.emit.new.1.0 d.emit.result
-    (cut_some n a.x a.y a.digits a.cut l h (some t) refl)
+    wrote_as a.w a.table.now _ _ d.emit.new.table d.emit.result
+    (cut_some n a.x a.y a.digits a.cut l h (some t.before.before.before.before.before.before.before.before.before.before.before.before.before.before.before.before) refl)
     (wrote_then a.w a.table.now
     (order n a.x a.y l ++ compare_halves (n + 2 * l) (a.x + suc l) (a.y + suc l) h 0)
-    z.compare-halves.last.1.0 z.compare-halves.result _ _ d.emit.new.1.0 d.emit.result
-    (wrote_then a.w a.table.now (order n a.x a.y l) q.order2.last.1.0 q.order2.result _ _
-    z.compare-halves.last.1.0 z.compare-halves.result q.order2.ensures z.compare-halves.ensures
+    z.compare_halves-compared.new.table z.compare_halves-compared.result _ _ d.emit.new.table d.emit.result
+    (wrote_then a.w a.table.now (order n a.x a.y l) q.order-told.new.table q.order-told.result _ _
+    z.compare_halves-compared.new.table z.compare_halves-compared.result q.order-told.ensures z.compare_halves-compared.ensures
     (same_high N (a.x + l + 1) (a.y + l + 1) h (n + 2 * l) (a.x + suc l) (a.y + suc l) p X Y))
-    (mux_wrote z.compare-halves.result z.compare-halves.last.1.0 d.emit.new.1.0 d.emit.result
-    f.before.unequal_at.result f.above_at.result q.before.before.chain-end.result d.emit.ensures)
-    (one_gate 7 (f.before.unequal_at.ensures ∙ ap (λ (m : ℕ). unequal_at m h) p)
-    (f.above_at.ensures ∙ ap (λ (m : ℕ). above_at m (a.x + l + 1) h) p
+    (mux_wrote z.compare_halves-compared.result z.compare_halves-compared.new.table d.emit.new.table d.emit.result
+    f.unequal_at-differ.result f.above_at-over.result q.chain_end-end.result d.emit.ensures)
+    (one_gate 7 (f.unequal_at-differ.ensures ∙ ap (λ (m : ℕ). unequal_at m h) p)
+    (f.above_at-over.ensures ∙ ap (λ (m : ℕ). above_at m (a.x + l + 1) h) p
     ∙ ap (λ (m : ℕ). above_at (n + 2 * l) m h) X)
-    (end_is n a.x l q.before.before.chain-end.result q.before.before.chain-end.ensures)))
+    (end_is n a.x l q.chain_end-end.result q.chain_end-end.ensures)))
 
-same_length : tie.Need-same-length
+same_length : tie.Need-shape_of-table-then-cut-eq0
 same_length c = search rules
 
-same_length_2 : tie.Need-same-length-2
+same_length_2 : tie.Need-shape_of-table
 same_length_2 c = search rules
 
 pub order_cut_spec : {M : Type 1} → statement M

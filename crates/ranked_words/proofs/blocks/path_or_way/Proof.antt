@@ -12,19 +12,10 @@ use Rattle.ranked_words.proofs.blocks.path_or_way.Statement.{statement}
 use Rattle.ranked_words.proofs.blocks.path_or_way.Tie as tie
 
 -- the start, and after the way
-abbrev start : tie.After-one-of → tie.Start
-start c = c.before.before.before
 
--- The stages of the function, seen from later ones.
-abbrev one_of_from_one_of2 : tie.After-one-of2 → tie.After-one-of
-one_of_from_one_of2 c = c.before.before.before.before.before
-
-abbrev weaker : tie.After-one-of2 → tie.After-one-of
-weaker c = (one_of_from_one_of2 c)
-
-one_of_requires : tie.Need-one-of-requires
+one_of_requires : tie.Need-one_of-weaker-requires
 one_of_requires c κs =
-    let s = c.before.before in
+    let s = c in
     let p = s.requires in
     record {
       order = record {
@@ -37,53 +28,53 @@ one_of_requires c κs =
       less_below = p.to_below;
     }
 
-one : (c : tie.After-one-of) → Stands c.one_of_lem.result
-    ((start c).args.w.wire + (order_size (start c).args.digits (start c).args.cut
-    + suc (start c).args.digits))
-    (order_size (start c).args.digits (start c).args.cut + suc (start c).args.digits)
+one : (c : tie.After-one_of-weaker) → Stands c.one_of-weaker.result
+    (c.args.w.wire + (order_size c.args.digits c.args.cut
+    + suc c.args.digits))
+    (order_size c.args.digits c.args.cut + suc c.args.digits)
 one c =
-    let s = start c in
+    let s = c in
     let a = s.args in
-    stands_after a.w a.table.now _ c.one_of_lem.new.1.0 c.one_of_lem.result _
-    (order_size a.digits a.cut + suc a.digits) _ c.one_of_lem.ensures
-    (smaller_long a.w.wire a.x a.y a.digits a.cut s.pre.within)
-    (stands a.w a.w.wire _ _ refl (omega arith) s.pre.room)
+    stands_after a.w a.table.now _ c.one_of-weaker.new.table c.one_of-weaker.result _
+    (order_size a.digits a.cut + suc a.digits) _ c.one_of-weaker.ensures
+    (smaller_long a.w.wire a.x a.y a.digits a.cut s.requires.within)
+    (stands a.w a.w.wire _ _ refl (omega arith) s.requires.room)
 
-sub_way : tie.Need-overflow-sub-way
+sub_way : tie.Need-overflow_sub-way
 sub_way c = omega (arith, (one c.before.before.before).place)
 
-sub_way_2 : tie.Need-overflow-sub-way-2
+sub_way_2 : tie.Need-overflow_sub-way-2
 sub_way_2 c = omega (arith, (one c.before.before.before).place)
 
-one_of_requires_2 : tie.Need-one-of-requires-2
+one_of_requires_2 : tie.Need-one_of-requires
 one_of_requires_2 c κs =
-    let q = c.before.before.before.before in
-    let s = start q in
-    let t = one q in
-    let w : q.one_of_lem.result.wire - s.args.digits - 1 + suc s.args.digits ≤ q.one_of_lem.result.wire = omega (arith, t.place) in
-    let v : s.args.v + suc s.args.digits ≤ q.one_of_lem.result.wire = omega (arith, s.pre.word_below, t.place) in
-    record { order = record { room = t.left; first_below = v; second_below = w; within = s.pre.within }; more_below = v; less_below = w }
+    let q = c in
+    let s = q in
+    let t = one q.before.before.before.before in
+    let w : q.one_of-weaker.result.wire - s.args.digits - 1 + suc s.args.digits ≤ q.one_of-weaker.result.wire = omega (arith, t.place) in
+    let v : s.args.v + suc s.args.digits ≤ q.one_of-weaker.result.wire = omega (arith, s.requires.word_below, t.place) in
+    record { order = record { room = t.left; first_below = v; second_below = w; within = s.requires.within }; more_below = v; less_below = w }
 
 returns : tie.Need-returns
 returns c =
-    let d = c.before.before in
-    let q = weaker d in
-    let s = start q in
+    let d = c in
+    let q = d in
+    let s = q in
     let a = s.args in
     let n = a.w.wire in
-    let f = d.one-of2 in
-    let W = q.one_of_lem.result.wire in
-    let place : W ≡ n + order_size a.digits a.cut + suc a.digits = omega (arith, (one q).place) in
-    let way : W - a.digits - 1 ≡ n + order_size a.digits a.cut = omega (arith, (one q).place) in
-    wrote_then a.w a.table.now (smaller n a.x a.y a.digits a.cut) q.one_of_lem.last.1.0
-    q.one_of_lem.result _ _ f.new.1.0 f.result
-    (wrote_as a.w a.table.now _ (smaller n a.x a.y a.digits a.cut) q.one_of_lem.last.1.0
-    q.one_of_lem.result (smaller_is n a.x a.y a.digits a.cut) q.one_of_lem.ensures)
+    let f = d.one_of in
+    let W = q.one_of-weaker.result.wire in
+    let place : W ≡ n + order_size a.digits a.cut + suc a.digits = omega (arith, (one q.before.before.before.before.before.before.before).place) in
+    let way : W - a.digits - 1 ≡ n + order_size a.digits a.cut = omega (arith, (one q.before.before.before.before.before.before.before).place) in
+    wrote_then a.w a.table.now (smaller n a.x a.y a.digits a.cut) q.one_of-weaker.new.table
+    q.one_of-weaker.result _ _ f.new.table f.result
+    (wrote_as a.w a.table.now _ (smaller n a.x a.y a.digits a.cut) q.one_of-weaker.new.table
+    q.one_of-weaker.result (smaller_is n a.x a.y a.digits a.cut) q.one_of-weaker.ensures)
     f.ensures (larger_is W a.v (W - a.digits - 1) a.digits a.cut
     ∙ ap (λ (m : ℕ). larger m a.v (W - a.digits - 1) a.digits a.cut) place
     ∙ ap (λ (m : ℕ). larger (n + order_size a.digits a.cut + suc a.digits) a.v m a.digits a.cut) way)
 
-same_length : tie.Need-same-length
+same_length : tie.Need-shape_of-table
 same_length c = search rules
 
 pub path_or_way_spec : {M : Type 1} → statement M

@@ -16,20 +16,6 @@ use Rattle.ranked_words.proofs.meeting.meeting.Statement.{statement}
 use Rattle.ranked_words.proofs.meeting.meeting.Tie as tie
 
 -- the start, and after each comparison
-abbrev start : tie.After-compare → tie.Start
-start c = c.before.before.before
-
-abbrev first : tie.After-compare2 → tie.After-compare
-first c = c.before.before.before.before
-
-abbrev second : tie.After-strictly → tie.After-compare2
-second c = c.before.before.before.before
-
-abbrev third : tie.After-strictly2 → tie.After-strictly
-third c = c.before.before.before.before
-
-abbrev fourth : tie.After-decide → tie.After-strictly2
-fourth c = c.before.before.before.before
 
 -- the numbers of gates of a comparison both ways, and of one way
 abbrev both : ℕ → ℕ
@@ -38,102 +24,102 @@ both w = 3 + 3 * w
 abbrev single : ℕ → ℕ
 single w = 2 + 2 * w
 
-compare_requires : tie.Need-compare-requires
+compare_requires : tie.Need-compare-first-requires
 compare_requires c κs =
-    let s = c.before.before in
+    let s = c in
     record { room = room_less s.args.w _ _ (omega arith) s.requires.room; first_below = s.requires.li_below; second_below = s.requires.lj_below }
 
-one : (c : tie.After-compare) → Stands c.compare.result ((start c).args.w.wire + both (start c).args.digits)
-    (7 * (start c).args.digits + 11)
+one : (c : tie.After-compare-first) → Stands c.compare-first.result (c.args.w.wire + both c.args.digits)
+    (7 * c.args.digits + 11)
 one c =
-    let a = (start c).args in
-    stands_after a.w a.table.now _ c.compare.new.1.0 c.compare.result _ (both a.digits)
-    (7 * a.digits + 11) c.compare.ensures
-    (length_whole a.w.wire a.li a.lj a.digits) (stands a.w a.w.wire _ _ refl (omega arith) (start c).requires.room)
+    let a = c.args in
+    stands_after a.w a.table.now _ c.compare-first.new.table c.compare-first.result _ (both a.digits)
+    (7 * a.digits + 11) c.compare-first.ensures
+    (length_whole a.w.wire a.li a.lj a.digits) (stands a.w a.w.wire _ _ refl (omega arith) c.requires.room)
 
-compare_requires_2 : tie.Need-compare-requires-2
+compare_requires_2 : tie.Need-compare-second-requires
 compare_requires_2 c κs =
-    let p = c.before.before.before in
-    let s = start p in
+    let p = c in
+    let s = p in
     record {
-      room = room_of p.compare.result _ _ _ (one p) (omega arith);
-      first_below = omega (arith, s.pre.ij_below, (one p).place);
-      second_below = omega (arith, s.pre.ji_below, (one p).place);
+      room = room_of p.compare-first.result _ _ _ (one p.before.before.before) (omega arith);
+      first_below = omega (arith, s.requires.ij_below, (one p.before.before.before).place);
+      second_below = omega (arith, s.requires.ji_below, (one p.before.before.before).place);
     }
 
-two : (c : tie.After-compare2)
-    → Stands c.compare2.result
-    ((start (first c)).args.w.wire + both (start (first c)).args.digits + both (start (first c)).args.digits)
-    (4 * (start (first c)).args.digits + 8)
+two : (c : tie.After-compare-second)
+    → Stands c.compare-second.result
+    (c.args.w.wire + both c.args.digits + both c.args.digits)
+    (4 * c.args.digits + 8)
 two c =
-    let p = first c in
-    let a = (start p).args in
-    let t = one p in
-    stands_after p.compare.result p.compare.last.1.0 _ c.compare2.new.1.0 c.compare2.result _
-    (both a.digits) (4 * a.digits + 8) c.compare2.ensures
-    (length_whole p.compare.result.wire a.ij a.ji a.digits)
-    (stands p.compare.result _ _ _ t.place (omega arith) t.left)
+    let p = c in
+    let a = p.args in
+    let t = one p.before.before.before.before in
+    stands_after p.compare-first.result p.compare-first.new.table _ c.compare-second.new.table c.compare-second.result _
+    (both a.digits) (4 * a.digits + 8) c.compare-second.ensures
+    (length_whole p.compare-first.result.wire a.ij a.ji a.digits)
+    (stands p.compare-first.result _ _ _ t.place (omega arith) t.left)
 
-strictly_requires : tie.Need-strictly-requires
+strictly_requires : tie.Need-strictly-third-requires
 strictly_requires c κs =
-    let p = c.before.before.before in
-    let s = start (first p) in
+    let p = c in
+    let s = p in
     record {
-      room = room_of p.compare2.result _ _ _ (two p) (omega arith);
-      first_below = omega (arith, s.pre.ij_below, (two p).place);
-      second_below = omega (arith, s.pre.lj_below, (two p).place);
+      room = room_of p.compare-second.result _ _ _ (two p.before.before.before) (omega arith);
+      first_below = omega (arith, s.requires.ij_below, (two p.before.before.before).place);
+      second_below = omega (arith, s.requires.lj_below, (two p.before.before.before).place);
     }
 
-three : (c : tie.After-strictly)
-    → Stands c.strictly.result
-    ((start (first (second c))).args.w.wire + both (start (first (second c))).args.digits
-    + both (start (first (second c))).args.digits + single (start (first (second c))).args.digits)
-    (2 * (start (first (second c))).args.digits + 6)
+three : (c : tie.After-strictly-third)
+    → Stands c.strictly-third.result
+    (c.args.w.wire + both c.args.digits
+    + both c.args.digits + single c.args.digits)
+    (2 * c.args.digits + 6)
 three c =
-    let p = second c in
-    let a = (start (first p)).args in
-    let t = two p in
-    stands_after p.compare2.result p.compare2.last.1.0 _ c.strictly.new.1.0 c.strictly.result _
-    (single a.digits) (2 * a.digits + 6) c.strictly.ensures
-    (length_strictly p.compare2.result.wire a.ij a.lj a.digits)
-    (stands p.compare2.result _ _ _ t.place (omega arith) t.left)
+    let p = c in
+    let a = p.args in
+    let t = two p.before.before.before.before in
+    stands_after p.compare-second.result p.compare-second.new.table _ c.strictly-third.new.table c.strictly-third.result _
+    (single a.digits) (2 * a.digits + 6) c.strictly-third.ensures
+    (length_strictly p.compare-second.result.wire a.ij a.lj a.digits)
+    (stands p.compare-second.result _ _ _ t.place (omega arith) t.left)
 
-strictly_requires_2 : tie.Need-strictly-requires-2
+strictly_requires_2 : tie.Need-strictly-fourth-requires
 strictly_requires_2 c κs =
-    let p = c.before.before.before in
-    let s = start (first (second p)) in
+    let p = c in
+    let s = p in
     record {
-      room = room_of p.strictly.result _ _ _ (three p) (omega arith);
-      first_below = omega (arith, s.pre.ji_below, (three p).place);
-      second_below = omega (arith, s.pre.li_below, (three p).place);
+      room = room_of p.strictly-third.result _ _ _ (three p.before.before.before) (omega arith);
+      first_below = omega (arith, s.requires.ji_below, (three p.before.before.before).place);
+      second_below = omega (arith, s.requires.li_below, (three p.before.before.before).place);
     }
 
 -- after the comparisons
-four : (c : tie.After-strictly2)
-    → Stands c.strictly2.result
-    ((start (first (second (third c)))).args.w.wire + both (start (first (second (third c)))).args.digits
-    + both (start (first (second (third c)))).args.digits
-    + single (start (first (second (third c)))).args.digits
-    + single (start (first (second (third c)))).args.digits) 4
+four : (c : tie.After-strictly-fourth)
+    → Stands c.strictly-fourth.result
+    (c.args.w.wire + both c.args.digits
+    + both c.args.digits
+    + single c.args.digits
+    + single c.args.digits) 4
 four c =
-    let p = third c in
-    let a = (start (first (second p))).args in
-    let t = three p in
-    stands_after p.strictly.result p.strictly.last.1.0 _ c.strictly2.new.1.0 c.strictly2.result
-    _ (single a.digits) 4 c.strictly2.ensures
-    (length_strictly p.strictly.result.wire a.ji a.li a.digits)
-    (stands p.strictly.result _ _ _ t.place (omega arith) t.left)
+    let p = c in
+    let a = p.args in
+    let t = three p.before.before.before.before in
+    stands_after p.strictly-third.result p.strictly-third.new.table _ c.strictly-fourth.new.table c.strictly-fourth.result
+    _ (single a.digits) 4 c.strictly-fourth.ensures
+    (length_strictly p.strictly-third.result.wire a.ji a.li a.digits)
+    (stands p.strictly-third.result _ _ _ t.place (omega arith) t.left)
 
 decide_requires : tie.Need-decide-requires
 decide_requires c κs =
-    let p = c.before.before.before in
-    let q = second (third p) in
+    let p = c in
+    let q = p in
     record {
-      room = (four p).left;
-      first = omega (arith, (one (first q)).place);
-      second = omega (arith, (two q).place);
-      third = omega (arith, (three (third p)).place);
-      fourth = omega (arith, (four p).place);
+      room = (four p.before.before.before).left;
+      first = omega (arith, (one q.before.before.before.before.before.before.before.before.before.before.before.before.before.before.before).place);
+      second = omega (arith, (two q.before.before.before.before.before.before.before.before.before.before.before).place);
+      third = omega (arith, (three p.before.before.before.before.before.before.before).place);
+      fourth = omega (arith, (four p.before.before.before).place);
     }
 
 -- the gates that decide are equal if their wires are
@@ -145,35 +131,35 @@ decided a b s n a₁ b₁ s₁ n₁ mi mj ea eb es en = rw (ea, eb, es, en)
 returns : tie.Need-returns
 unfolding meeting
 returns c =
-    let d = c.before.before in
-    let p₄ = fourth d in
-    let p₃ = third p₄ in
-    let p₂ = second p₃ in
-    let p₁ = first p₂ in
-    let a = (start p₁).args in
+    let d = c in
+    let p₄ = d in
+    let p₃ = p₄ in
+    let p₂ = p₃ in
+    let p₁ = p₂ in
+    let a = p₁.args in
     let w = a.digits in
     let n = a.w.wire in
     wrote_then a.w a.table.now
     (compare n a.li a.lj w ++ compare (n + both w) a.ij a.ji w
     ++ strictly (n + both w + both w) a.ij a.lj w ++ strictly (n + both w + both w + single w) a.ji a.li w)
-    p₄.strictly2.last.1.0 p₄.strictly2.result _ _ d.decide.new.1.0 d.decide.result
+    p₄.strictly-fourth.new.table p₄.strictly-fourth.result _ _ d.decide.new.table d.decide.result
     (wrote_then a.w a.table.now
     (compare n a.li a.lj w ++ compare (n + both w) a.ij a.ji w
     ++ strictly (n + both w + both w) a.ij a.lj w)
-    p₃.strictly.last.1.0 p₃.strictly.result _ _ p₄.strictly2.last.1.0 p₄.strictly2.result
+    p₃.strictly-third.new.table p₃.strictly-third.result _ _ p₄.strictly-fourth.new.table p₄.strictly-fourth.result
     (wrote_then a.w a.table.now (compare n a.li a.lj w ++ compare (n + both w) a.ij a.ji w)
-    p₂.compare2.last.1.0 p₂.compare2.result _ _ p₃.strictly.last.1.0 p₃.strictly.result
-    (wrote_then a.w a.table.now (compare n a.li a.lj w) p₁.compare.last.1.0 p₁.compare.result
-    _ _ p₂.compare2.last.1.0 p₂.compare2.result
-    p₁.compare.ensures p₂.compare2.ensures (ap (λ (m : ℕ). compare m a.ij a.ji w) (one p₁).place))
-    p₃.strictly.ensures (ap (λ (m : ℕ). strictly m a.ij a.lj w) (two p₂).place))
-    p₄.strictly2.ensures (ap (λ (m : ℕ). strictly m a.ji a.li w) (three p₃).place))
+    p₂.compare-second.new.table p₂.compare-second.result _ _ p₃.strictly-third.new.table p₃.strictly-third.result
+    (wrote_then a.w a.table.now (compare n a.li a.lj w) p₁.compare-first.new.table p₁.compare-first.result
+    _ _ p₂.compare-second.new.table p₂.compare-second.result
+    p₁.compare-first.ensures p₂.compare-second.ensures (ap (λ (m : ℕ). compare m a.ij a.ji w) (one p₁.before.before.before.before.before.before.before.before.before.before.before.before.before.before.before.before.before.before).place))
+    p₃.strictly-third.ensures (ap (λ (m : ℕ). strictly m a.ij a.lj w) (two p₂.before.before.before.before.before.before.before.before.before.before.before.before.before.before).place))
+    p₄.strictly-fourth.ensures (ap (λ (m : ℕ). strictly m a.ji a.li w) (three p₃.before.before.before.before.before.before.before.before.before.before).place))
     d.decide.ensures
-    (decided p₁.compare.result.wire p₂.compare2.result.wire p₃.strictly.result.wire
-    p₄.strictly2.result.wire _ _ _ _ a.mi a.mj (one p₁).place (two p₂).place (three p₃).place
-    (four p₄).place)
+    (decided p₁.compare-first.result.wire p₂.compare-second.result.wire p₃.strictly-third.result.wire
+    p₄.strictly-fourth.result.wire _ _ _ _ a.mi a.mj (one p₁.before.before.before.before.before.before.before.before.before.before.before.before.before.before.before.before.before.before).place (two p₂.before.before.before.before.before.before.before.before.before.before.before.before.before.before).place (three p₃.before.before.before.before.before.before.before.before.before.before).place
+    (four p₄.before.before.before.before.before.before).place)
 
-same_length : tie.Need-same-length
+same_length : tie.Need-shape_of-table
 same_length c = search rules
 
 pub meeting_spec : {M : Type 1} → statement M
