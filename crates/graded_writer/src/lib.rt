@@ -1,3 +1,5 @@
 // Writes the own list of a graded shape into a table.
+#![tactic(auto)]
+
 pub mod list;
 mod merge;

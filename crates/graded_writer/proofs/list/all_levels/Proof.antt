@@ -27,16 +27,16 @@ all : (c : tie.Start) → Stands c.args.all (levels_at c.args.p) (all_levels_spa
 all c = stands c.args.all (levels_at c.args.p) (all_levels_span c.args.p) (all_levels_span c.args.p)
     c.requires.place (omega arith) c.requires.room
 
-sub_second : tie.Need-overflow-sub-second
+sub_second : tie.Need-overflow_sub-second
 sub_second c = omega arith
 
-best_of_four_requires : tie.Need-best-of-four-requires
+best_of_four_requires : tie.Need-best_of_four-low-requires
 best_of_four_requires c κs =
-    let s = c.before.before.before.before in
+    let s = c in
     let q = s.requires in
     record {
       plan = s.requires.plan;
-      room = room_of s.args.all _ _ _ (all s) (omega arith);
+      room = room_of s.args.all _ _ _ (all s.before.before.before.before) (omega arith);
       span_is = q.span_is;
       levels_below = omega (arith, q.place);
       some = omega (arith, q.several);
@@ -44,75 +44,56 @@ best_of_four_requires c κs =
       inside = omega arith;
     }
 
--- The stages of the function, seen from later ones.
-abbrev start_from_best_of_four : tie.After-best-of-four → tie.Start
-start_from_best_of_four c = c.before.before.before.before.before
-
-abbrev start_from_best_of_four2 : tie.After-best-of-four2 → tie.Start
-start_from_best_of_four2 c = start_from_best_of_four c.before.before.before.before
-
-abbrev best_of_four_from_halves_arg : tie.After-halves-arg → tie.After-best-of-four
-best_of_four_from_halves_arg c = c.before.before.before.before.before.before.before
-
-abbrev start_from_halves : tie.After-halves → tie.Start
-start_from_halves c = start_from_best_of_four c.before.before.before.before.before.before.before.before
-
-abbrev best_of_four_from_halves : tie.After-halves → tie.After-best-of-four
-best_of_four_from_halves c = c.before.before.before.before.before.before.before.before
-
-abbrev best_of_four2_from_slice_known4 : tie.After-slice-known4 → tie.After-best-of-four2
-best_of_four2_from_slice_known4 c = c.before.before.before.before.before.before
-
-low : (c : tie.After-best-of-four) → let p = (start_from_best_of_four c).args.p in
-    Stands c.best-of-four.result (levels_at p + low_span p) (high_span p + last_span p)
+low : (c : tie.After-best_of_four-low) → let p = c.args.p in
+    Stands c.best_of_four-low.result (levels_at p + low_span p) (high_span p + last_span p)
 low c =
-    let s = (start_from_best_of_four c) in
+    let s = c in
     let a = s.args in
-    let q = s.pre in
-    stands_after a.all a.table.now _ c.best-of-four.new.1.0 c.best-of-four.result _ _ _ c.best-of-four.ensures
-    (levels_block a.p s.pre.plan 2 a.all.wire 0 (a.p.candidates / 2) (omega (arith, q.place))
-    (omega (arith, q.several)) (omega (arith, s.pre.plan.k_most)) (omega arith)).long
-    (all s)
+    let q = s.requires in
+    stands_after a.all a.table.now _ c.best_of_four-low.new.table c.best_of_four-low.result _ _ _ c.best_of_four-low.ensures
+    (levels_block a.p s.requires.plan 2 a.all.wire 0 (a.p.candidates / 2) (omega (arith, q.place))
+    (omega (arith, q.several)) (omega (arith, s.requires.plan.k_most)) (omega arith)).long
+    (all s.before.before.before.before.before)
 
-best_of_four_requires_2 : tie.Need-best-of-four-requires-2
+best_of_four_requires_2 : tie.Need-best_of_four-high-requires
 best_of_four_requires_2 c κs =
-    let s = (start_from_best_of_four c.before.before.before) in
-    let q = s.pre in
+    let s = c in
+    let q = s.requires in
     let l = low c.before.before.before in
     record {
-      plan = s.pre.plan;
-      room = room_of c.before.before.before.best-of-four.result _ _ _ l (omega arith);
+      plan = s.requires.plan;
+      room = room_of c.best_of_four-low.result _ _ _ l (omega arith);
       span_is = q.span_is;
       levels_below = omega (arith, l.place);
       some = omega (arith, q.several);
-      few = omega (arith, s.pre.plan.k_most);
+      few = omega (arith, s.requires.plan.k_most);
       inside = omega arith;
     }
 
-high : (c : tie.After-best-of-four2) → let p = (start_from_best_of_four2 c).args.p in
-    Stands c.best-of-four2.result (levels_at p + low_span p + high_span p) (last_span p)
+high : (c : tie.After-best_of_four-high) → let p = c.args.p in
+    Stands c.best_of_four-high.result (levels_at p + low_span p + high_span p) (last_span p)
 high c =
-    let s = (start_from_best_of_four2 c) in
+    let s = c in
     let a = s.args in
-    let q = s.pre in
-    let f = c.before.before.before.before.best-of-four in
+    let q = s.requires in
+    let f = c.best_of_four-low in
     let l = low c.before.before.before.before in
-    stands_after f.result f.new.1.0 _ c.best-of-four2.new.1.0 c.best-of-four2.result _ _ _ c.best-of-four2.ensures
-    (levels_block a.p s.pre.plan 2 f.result.wire (a.p.candidates / 2)
+    stands_after f.result f.new.table _ c.best_of_four-high.new.table c.best_of_four-high.result _ _ _ c.best_of_four-high.ensures
+    (levels_block a.p s.requires.plan 2 f.result.wire (a.p.candidates / 2)
     (a.p.candidates - a.p.candidates / 2) (omega (arith, l.place)) (omega (arith, q.several))
-    (omega (arith, s.pre.plan.k_most)) (omega arith)).long
+    (omega (arith, s.requires.plan.k_most)) (omega arith)).long
     l
 
 halves_requires : tie.Need-halves-requires
 halves_requires c κs =
-    let s = (start_from_best_of_four2 c.before.before.before) in
+    let s = c in
     let p = s.args.p in
-    let q = s.pre in
-    let e = (low (best_of_four_from_halves_arg c)).place in
+    let q = s.requires in
+    let e = (low c.before.before.before.before.before.before.before).place in
     let h = high c.before.before.before in
     let e' = h.place in
     record {
-      plan = s.pre.plan;
+      plan = s.requires.plan;
       room = h.left;
       span_is = q.span_is;
       levels_below = omega (arith, e);
@@ -124,24 +105,24 @@ halves_requires c κs =
       second_below = λ z. omega (arith, e, e', span_least p 1 (p.candidates - p.candidates / 2) z);
     }
 
-same_length : tie.Need-same-length
+same_length : tie.Need-shape_of-table
 same_length c = search rules
 
 returns : tie.Need-returns
 returns c =
-    let s = (start_from_halves c.before.before) in
+    let s = c in
     let a = s.args in
     let p = a.p in
     let k = p.candidates in
-    let f = (best_of_four_from_halves c.before.before).best-of-four in
-    let g = (best_of_four2_from_slice_known4 c).best-of-four2 in
-    let l = low (best_of_four_from_halves c.before.before) in
-    let h = high (best_of_four2_from_slice_known4 c) in
-    wrote_then a.all a.table.now _ g.last.1.0 g.result _ _ _ _
-    (wrote_then a.all a.table.now _ f.last.1.0 f.result _ _ _ _
-    (wrote_as a.all a.table.now _ _ _ _ (ap (λ (i : ℕ). levels p 2 i 0 (k / 2)) s.pre.place) f.ensures)
+    let f = c.best_of_four-low in
+    let g = c.best_of_four-high in
+    let l = low c.before.before.before.before.before.before.before.before.before.before in
+    let h = high c.before.before.before.before.before.before in
+    wrote_then a.all a.table.now _ g.new.table g.result _ _ _ _
+    (wrote_then a.all a.table.now _ f.new.table f.result _ _ _ _
+    (wrote_as a.all a.table.now _ _ _ _ (ap (λ (i : ℕ). levels p 2 i 0 (k / 2)) s.requires.place) f.ensures)
     g.ensures (ap (λ (i : ℕ). levels p 2 i (k / 2) (k - k / 2)) l.place))
-    c.before.before.halves.ensures
+    c.halves.ensures
     (merge_same p 1 (levels_at p) 0 k g.result.wire f.result.wire g.result.wire h.place l.place
     h.place)
 

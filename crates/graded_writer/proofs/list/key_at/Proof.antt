@@ -1,17 +1,16 @@
 -- `graded_writer::list::key_at` meets its contract: a key ends where its candidate's circuit does.
 -- Assumes nothing.
-use Prim.Native.Nat.{◌-◌}
 use native.Mathlib.Omega.{arith}
 use Rattle.graded_circuit.proofs.LevelsLaws.{key_before}
 use Rattle.graded_writer.proofs.ListWriters.{key_from}
 use Rattle.graded_writer.proofs.list.key_at.Statement.{statement}
 use Rattle.graded_writer.proofs.list.key_at.Tie as tie
 
-add_result : tie.Need-overflow-add-result
+add_result : tie.Need-overflow_add-result
 add_result c =
     omega (arith, c.requires)
 
-mul_result : tie.Need-overflow-mul-result
+mul_result : tie.Need-overflow_mul-result
 mul_result c =
     omega (
       arith,
@@ -20,37 +19,37 @@ mul_result c =
       c.requires.small,
     )
 
-add_result_2 : tie.Need-overflow-add-result-2
+add_result_2 : tie.Need-overflow_add-result-2
 add_result_2 c =
     omega (
       arith,
-      key_from c.before.args.p c.before.args.c c.before.args.span
-          c.before.requires.span_is,
-      key_before c.before.args.p c.before.requires.plan c.before.args.c
-          c.before.requires.inside,
-      c.before.requires.small,
+      key_from c.args.p c.args.c c.args.span
+          c.requires.span_is,
+      key_before c.args.p c.requires.plan c.args.c
+          c.requires.inside,
+      c.requires.small,
     )
 
-key_span_requires : tie.Need-key-span-requires
+key_span_requires : tie.Need-key_span-requires
 key_span_requires c κs =
-    c.before.requires.plan
+    c.requires.plan
 
-sub_result : tie.Need-overflow-sub-result
+sub_result : tie.Need-overflow_sub-result
 sub_result c =
     omega (
       arith,
-      c.key-span.ensures,
-      key_from c.before.before.args.p c.before.before.args.c c.before.before.args.span
-          c.before.before.requires.span_is,
+      c.key_span.ensures,
+      key_from c.args.p c.args.c c.args.span
+          c.requires.span_is,
     )
 
 returns : tie.Need-returns
 returns c =
     omega (
       arith,
-      c.key-span.ensures,
-      key_from c.before.before.args.p c.before.before.args.c c.before.before.args.span
-          c.before.before.requires.span_is,
+      c.key_span.ensures,
+      key_from c.args.p c.args.c c.args.span
+          c.requires.span_is,
     )
 
 pub key_at_spec : {M : Type 1} → statement M

@@ -1,7 +1,7 @@
 -- `graded_writer::merge::high_digits` meets its contract: it computes the definition.
 -- Assumes nothing.
 use mathlib.Core.Path.{◌≡◌}
-use Prim.Native.Nat.{ℕ, ◌-◌, ◌/◌, ◌≤◌, ◌<◌}
+use Prim.Native.Nat.{ℕ, ◌/◌, ◌≤◌, ◌<◌}
 use borrow.Author.Tests.{le-leb, lt-leb}
 use Rattle.graded_circuit.specs.declared.plan.Plan.{Plan}
 use Rattle.graded_circuit.specs.Merge.{high_digits}
@@ -16,13 +16,13 @@ chosen : (p : Plan) (both : ℕ) → 2 < both → p.digits / 2 ≡ high_digits p
 unfolding high_digits
 chosen p both h = rw (lt-leb both 2 h)
 
-returns : tie.Need-returns
+returns : tie.Need-returns-then-both-le2
 returns c =
-    single c.before.args.p c.before.args.both c.if1.true
+    single c.args.p c.args.both c.if-both-le2.true
 
-returns_2 : tie.Need-returns-2
+returns_2 : tie.Need-returns
 returns_2 c =
-    chosen c.before.before.args.p c.before.before.args.both c.before.if1.false
+    chosen c.args.p c.args.both c.if-both-le2.false
 
 pub high_digits_spec : {M : Type 1} → statement M
 high_digits_spec = tie.close (tie.spec returns returns_2)

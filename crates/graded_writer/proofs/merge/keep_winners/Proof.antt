@@ -17,46 +17,39 @@ more_than_one m h e = ⊎_elim (λ (z : 1 < m). z) (λ (z : m ≤ 1). absurd (e 
 
 emit_requires : tie.Need-emit-requires
 emit_requires c κs =
-    room_less c.before.before.before.args.w _ _ (omega (arith, c.before.before.before.requires.some))
-    c.before.before.before.requires.room
+    room_less c.args.w _ _ (omega (arith, c.requires.some))
+    c.requires.room
 
--- The stages of the function, seen from later ones.
-abbrev start_from_slice_known2 : tie.After-slice-known2 → tie.Start
-start_from_slice_known2 c = c.before.before.before.before.before.before
-
-abbrev start_from_slice_known3 : tie.After-slice-known3 → tie.Start
-start_from_slice_known3 c = c.before.before.before.before.before.before
-
-returns : tie.Need-returns
+returns : tie.Need-returns-then-count-eq1
 returns c =
-    let a = (start_from_slice_known2 c).args in
+    let a = c.args in
     wrote_as a.w a.table.now _ _ _ _
-    (won_single a.at a.stays a.count c.before.before.before.before.if1.true)
-    (copy_wrote a.w a.table.now c.before.before.emit.new.1.0 c.before.before.emit.result
-    a.stays 0 0 c.before.before.emit.ensures)
+    (won_single a.at a.stays a.count c.if-count-eq1.true)
+    (copy_wrote a.w a.table.now c.emit.new.table c.emit.result
+    a.stays 0 0 c.emit.ensures)
 
-and_all_requires : tie.Need-and-all-requires
+and_all_requires : tie.Need-and_all-requires
 and_all_requires c κs =
     record {
-      room = c.before.before.before.requires.room;
-      below = c.before.before.before.requires.below
-          (more_than_one c.before.before.before.args.count c.before.before.before.requires.some
-          c.before.if1.false);
+      room = c.requires.room;
+      below = c.requires.below
+          (more_than_one c.args.count c.requires.some
+          c.if-count-eq1.false);
     }
 
-same_length_2 : tie.Need-same-length-2
+same_length_2 : tie.Need-shape_of-table
 same_length_2 c =
     search rules
 
-returns_2 : tie.Need-returns-2
+returns_2 : tie.Need-returns
 returns_2 c =
-    let a = (start_from_slice_known3 c).args in
+    let a = c.args in
     wrote_as a.w a.table.now _ _ _ _
     (won_many a.at a.stays a.count
-    (more_than_one a.count (start_from_slice_known3 c).pre.some
-    c.before.before.before.before.if1.false)) c.before.before.and-all.ensures
+    (more_than_one a.count c.requires.some
+    c.if-count-eq1.false)) c.and_all.ensures
 
-same_length : tie.Need-same-length
+same_length : tie.Need-shape_of-table-then-count-eq1
 same_length c = search rules
 
 pub keep_winners_spec : {M : Type 1} → statement M

@@ -17,17 +17,17 @@ small p f =
     (omega (arith, digits_most p f)) in
     omega arith
 
-sub_result : tie.Need-overflow-sub-result
+sub_result : tie.Need-overflow_sub-result
 sub_result c =
-    omega (arith, c.before.requires.d_least)
+    omega (arith, c.requires.d_least)
 
-add_result : tie.Need-overflow-add-result
+add_result : tie.Need-overflow_add-result
 add_result c =
-    omega (arith, digits_most c.before.before.args.p c.before.before.requires)
+    omega (arith, digits_most c.args.p c.requires)
 
-mul_result : tie.Need-overflow-mul-result
+mul_result : tie.Need-overflow_mul-result
 mul_result c =
-    omega (arith, small c.before.before.args.p c.before.before.requires)
+    omega (arith, small c.args.p c.requires)
 
 returns : tie.Need-returns
 returns c =
