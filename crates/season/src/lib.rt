@@ -1,3 +1,5 @@
 // A season's runs and their sums, for the season sheet.
+#![tactic(auto)]
+
 pub mod run;
 pub mod sheet;

@@ -12,7 +12,7 @@ pub const RUN_BYTES: usize = 12;
 const MASK_BITS: usize = 8;
 
 // The shape of a jury, its closing bytes as a mask whose lowest bit is candidate 0, and its list's G and C.
-#[derive(Drop)]
+#[derive(Clone, Copy)]
 pub struct Run {
     pub candidates: usize,
     pub grades: usize,

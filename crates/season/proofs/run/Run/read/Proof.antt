@@ -5,25 +5,25 @@ use borrow.Author.Rules.{rules}
 use Rattle.season.proofs.run.Run.read.Statement.{statement}
 use Rattle.season.proofs.run.Run.read.Tie as tie
 
-shared_slice_read_wide : tie.Need-shared-slice-read-wide
+shared_slice_read_wide : tie.Need-bounds-bytes-0
 shared_slice_read_wide c = search rules
 
 wide_requires : tie.Need-wide-requires
 wide_requires c κs = search rules
 
-shared_slice_read_wide_2 : tie.Need-shared-slice-read-wide-2
+shared_slice_read_wide_2 : tie.Need-bounds-bytes-1
 shared_slice_read_wide_2 c = search rules
 
 wide_requires_2 : tie.Need-wide-requires-2
 wide_requires_2 c κs = search rules
 
-shared_slice_read_wide_3 : tie.Need-shared-slice-read-wide-3
+shared_slice_read_wide_3 : tie.Need-bounds-bytes-2
 shared_slice_read_wide_3 c = search rules
 
 wide_requires_3 : tie.Need-wide-requires-3
 wide_requires_3 c κs = search rules
 
-shared_slice_read_wide_4 : tie.Need-shared-slice-read-wide-4
+shared_slice_read_wide_4 : tie.Need-bounds-bytes-3
 shared_slice_read_wide_4 c = search rules
 
 wide_requires_4 : tie.Need-wide-requires-4

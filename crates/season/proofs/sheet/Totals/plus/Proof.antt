@@ -11,30 +11,30 @@ use borrow.Author.Rules.{rules}
 use Rattle.season.proofs.sheet.Totals.plus.Statement.{statement}
 use Rattle.season.proofs.sheet.Totals.plus.Tie as tie
 
-is_shared_requires : tie.Need-is-shared-requires
+is_shared_requires : tie.Need-is_shared-requires
 is_shared_requires c κs = search rules
 
-add_shared : tie.Need-overflow-add-shared
+add_shared : tie.Need-overflow_add-shared
 add_shared c = search rules
 
-add_t5 : tie.Need-overflow-add-t5
+add_t5 : tie.Need-overflow_add-result
 add_t5 c = search rules
 
-add_t6 : tie.Need-overflow-add-t6
+add_t6 : tie.Need-overflow_add-result-2
 add_t6 c = search rules
 
-add_t7 : tie.Need-overflow-add-t7
+add_t7 : tie.Need-overflow_add-result-3
 add_t7 c = search rules
 
-add_t8 : tie.Need-overflow-add-t8
+add_t8 : tie.Need-overflow_add-result-4
 add_t8 c = search rules
 
 -- after both branches, the shared runs are the definition's
-shared_is : (c : tie.Joined1) → c.if1.shared ≡ c.before.before.args.self.shared + shared_of c.before.before.args.run
+shared_is : (c : tie.Joined-is_shared) → c.if-is_shared.shared ≡ c.args.self.shared + shared_of c.args.run
 shared_is c =
-    let r = c.before.before.args.run in
-    ⊎_elim (λ w. omega (arith, w.1, shared_one r (sym c.before.is_shared.ensures ∙ w.0.taken)))
-    (λ w. omega (arith, w.1, shared_none r (sym c.before.is_shared.ensures ∙ w.0.left))) c.if1.branch
+    let r = c.args.run in
+    ⊎_elim (λ w. omega (arith, w.shared-is, shared_one r (sym c.is_shared.ensures ∙ w.if-is_shared.true)))
+    (λ w. omega (arith, w.shared-is, shared_none r (sym c.is_shared.ensures ∙ w.if-is_shared.false))) c.if-is_shared.branch-raw
 
 returns : tie.Need-returns
 unfolding plus_run
