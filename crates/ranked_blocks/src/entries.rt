@@ -15,7 +15,7 @@ use ranked_words::blocks::{compare, link_or_way, path_or_way};
 use ranked_words::meeting::meeting;
 
 // The public numbers from which the list is written: k, n, and the number of digits that a word has above its lowest.
-#[derive(Drop)]
+#[derive(Clone, Copy)]
 pub struct Ranks {
     pub candidates: u32,
     pub ballots: u32,

@@ -2,5 +2,7 @@
 //
 // Each function writes the gates of one block of `ranked_circuit` and returns the next writer. Its `requires` asks for
 // room and for operands that are wires already.
+#![tactic(auto)]
+
 pub mod entries;
 pub mod kept;

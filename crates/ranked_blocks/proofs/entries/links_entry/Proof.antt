@@ -17,22 +17,7 @@ use Rattle.ranked_blocks.proofs.Entering.{Place, place, index_small, not_later, 
 use Rattle.ranked_blocks.proofs.entries.links_entry.Statement.{statement}
 use Rattle.ranked_blocks.proofs.entries.links_entry.Tie as tie
 
--- The stages of the function, seen from later ones.
-abbrev start_from_else2 : tie.Else2 → tie.Start
-start_from_else2 c = c.before.before.before.before.before
-
-abbrev start_from_then2 : tie.Then2 → tie.Start
-start_from_then2 c = c.before.before.before.before.before
-
 -- the start; after the tests, after the block, and after the first of its wires was kept
-abbrev start : tie.Else2 → tie.Start
-start c = (start_from_else2 c)
-
-abbrev tested : tie.After-compare → tie.Else2
-tested c = c.before.before.before.before
-
-abbrev made : tie.After-struct-known → tie.After-compare
-made c = c.before.before.before
 
 -- What is known after the tests: the row is the later candidate's and has a block.
 pub record Facts (k e first : ℕ) : Type 0 where
@@ -42,33 +27,33 @@ pub record Facts (k e first : ℕ) : Type 0 where
   pub index : e / k * k + e % k < most_pairs
   pub index_back : e % k * k + e / k < most_pairs
 
-facts : (c : tie.Else2) → Facts (start c).args.p.candidates (start c).args.e (start c).args.first
+facts : (c : tie.Else-i-first) → Facts c.args.p.candidates c.args.e c.args.first
 facts c =
-    let s = start c in
+    let s = c in
     let k = s.args.p.candidates in
     let e = s.args.e in
-    let most = s.pre.kept.ranked.k_most in
-    let t = place k e most s.pre.number in
-    let l : e % k < e / k = omega (arith, c.before.if1.false) in
+    let most = s.requires.kept.ranked.k_most in
+    let t = place k e most s.requires.number in
+    let l : e % k < e / k = omega (arith, c.if-i-j.false) in
     record {
       here = t;
       later = l;
-      row = a_row (leb s.args.first) (e / k) (e % k) l (le-leb s.args.first (e / k) (omega (arith, c.if2.false)));
+      row = a_row (leb s.args.first) (e / k) (e % k) l (le-leb s.args.first (e / k) (omega (arith, c.if-i-first.false)));
       index = index_small k (e / k) (e % k) most t.row t.column;
       index_back = index_small k (e % k) (e / k) most t.column t.row;
     }
 
-div_i : tie.Need-nonzero-div-i
-div_i c = omega (arith, c.before.before.before.requires.kept.ranked.k_least)
+div_i : tie.Need-nonzero_div-i
+div_i c = omega (arith, c.requires.kept.ranked.k_least)
 
-rem_j : tie.Need-nonzero-rem-j
-rem_j c = omega (arith, c.before.before.before.requires.kept.ranked.k_least)
+rem_j : tie.Need-nonzero_rem-j
+rem_j c = omega (arith, c.requires.kept.ranked.k_least)
 
-returns : tie.Need-returns
+returns : tie.Need-returns-then-i-j
 returns c =
-    let a = c.before.before.before.before.args in
+    let a = c.args in
     let k = a.p.candidates in
-    let q = not_later (leb a.first) (a.e / k) (a.e % k) c.if1.true in
+    let q = not_later (leb a.first) (a.e / k) (a.e % k) c.if-i-j.true in
     record {
       wrote = wrote_as a.w a.table.now [] _ a.table.now a.w
           (links_kept a.first (kept_of a.words.now k) a.p.digits a.w.wire (a.e / k) (a.e % k) q)
@@ -76,11 +61,11 @@ returns c =
       kept = same_links (leb a.first) a.links.now k (a.e / k) (a.e % k) a.w.wire q;
     }
 
-returns_2 : tie.Need-returns-2
+returns_2 : tie.Need-returns-then-i-first
 returns_2 c =
-    let a = (start_from_then2 c).args in
+    let a = c.args in
     let k = a.p.candidates in
-    let q = no_row (leb a.first) (a.e / k) (a.e % k) (lt-leb a.first (a.e / k) c.if2.true) in
+    let q = no_row (leb a.first) (a.e / k) (a.e % k) (lt-leb a.first (a.e / k) c.if-i-first.true) in
     record {
       wrote = wrote_as a.w a.table.now [] _ a.table.now a.w
           (links_kept a.first (kept_of a.words.now k) a.p.digits a.w.wire (a.e / k) (a.e % k) q)
@@ -91,118 +76,118 @@ returns_2 c =
 kept_requires : tie.Need-kept-requires
 kept_requires c κs =
     let t = (facts c.before).here in
-    let s = start c.before in
+    let s = c in
     record {
-      few = s.pre.kept.ranked.k_most;
+      few = s.requires.kept.ranked.k_most;
       row = t.row;
       column = t.column;
-      long = s.pre.kept.words_long;
+      long = s.requires.kept.words_long;
     }
 
 kept_requires_2 : tie.Need-kept-requires-2
 kept_requires_2 c κs =
-    let p = c.before.before in
-    let t = (facts p).here in
+    let p = c in
+    let t = (facts p.before.before).here in
     record {
-      few = (start p).requires.kept.ranked.k_most;
+      few = p.requires.kept.ranked.k_most;
       row = t.column;
       column = t.row;
-      long = (start p).requires.kept.words_long;
+      long = p.requires.kept.words_long;
     }
 
-compare_requires : tie.Need-compare-requires
+compare_requires : tie.Need-compare-next-requires
 compare_requires c κs =
-    let p = c.before.before.before in
-    let s = start p in
+    let p = c in
+    let s = p in
     let a = s.args in
     let k = a.p.candidates in
-    let f = facts p in
+    let f = facts p.before.before.before in
     let t = f.here in
     let l = f.later in
-    let b = s.pre.kept.below in
+    let b = s.requires.kept.below in
     record {
       room = room_less a.w _ _ (omega (
         arith,
         links_long a.first (kept_of a.words.now k) a.p.digits a.w.wire (a.e / k) (a.e % k)
             f.row,
-      )) s.pre.room;
-      first_below = omega (arith, b (a.e / k) (a.e % k) t.row t.column (λ z. omega arith), c.before.kept.ensures);
-      second_below = omega (arith, b (a.e % k) (a.e / k) t.column t.row (λ z. omega arith), c.kept2.ensures);
+      )) s.requires.room;
+      first_below = omega (arith, b (a.e / k) (a.e % k) t.row t.column (λ z. omega arith), c.kept.ensures);
+      second_below = omega (arith, b (a.e % k) (a.e / k) t.column t.row (λ z. omega arith), c.kept-2.ensures);
     }
 
-ended : (c : tie.After-compare) → 2 ≤ c.compare.result.wire
-ended c = let a = (start (tested c)).args in
+ended : (c : tie.After-compare-next) → 2 ≤ c.compare-next.result.wire
+ended c = let a = c.args in
     omega (
       arith,
-      c.compare.ensures.wires,
-      length_whole a.w.wire c.before.before.kept.result c.before.kept2.result a.p.digits,
+      c.compare-next.ensures.wires,
+      length_whole a.w.wire c.kept.result c.kept-2.result a.p.digits,
     )
 
-sub_links : tie.Need-overflow-sub-links
-sub_links c = omega (arith, ended (made c))
+sub_links : tie.Need-overflow_sub-links
+sub_links c = omega (arith, ended c.before.before.before)
 
-mul_links : tie.Need-overflow-mul-links
-mul_links c = omega (arith, (facts (tested (made c))).index)
+mul_links : tie.Need-overflow_mul-links
+mul_links c = omega (arith, (facts c.before.before.before.before.before.before.before).index)
 
-add_links : tie.Need-overflow-add-links
-add_links c = omega (arith, (facts (tested (made c))).index)
+add_links : tie.Need-overflow_add-links
+add_links c = omega (arith, (facts c.before.before.before.before.before.before.before).index)
 
-cast_links : tie.Need-overflow-cast-links
-cast_links c = omega (arith, (facts (tested (made c))).index)
+cast_links : tie.Need-overflow_cast-links
+cast_links c = omega (arith, (facts c.before.before.before.before.before.before.before).index)
 
-mul_links_2 : tie.Need-overflow-mul-links-2
-mul_links_2 c = omega (arith, (facts (tested (made c))).index)
+mul_links_2 : tie.Need-offset_bounds-links-i
+mul_links_2 c = omega (arith, (facts c.before.before.before.before.before.before.before).index)
 
-slice_write_links : tie.Need-slice-write-links
-slice_write_links c = omega (arith, (facts (tested (made c))).index, (start (tested (made c))).requires.kept.wires_long)
+slice_write_links : tie.Need-bounds-links-i
+slice_write_links c = omega (arith, (facts c.before.before.before.before.before.before.before).index, c.requires.kept.wires_long)
 
-sub_links_2 : tie.Need-overflow-sub-links-2
-sub_links_2 c = omega (arith, ended (made c.before))
+sub_links_2 : tie.Need-overflow_sub-links-2
+sub_links_2 c = omega (arith, ended c.before.before.before.before)
 
-mul_links_3 : tie.Need-overflow-mul-links-3
-mul_links_3 c = omega (arith, (facts (tested (made c.before))).index_back)
+mul_links_3 : tie.Need-overflow_mul-links-2
+mul_links_3 c = omega (arith, (facts c.before.before.before.before.before.before.before.before).index_back)
 
-add_links_2 : tie.Need-overflow-add-links-2
-add_links_2 c = omega (arith, (facts (tested (made c.before))).index_back)
+add_links_2 : tie.Need-overflow_add-links-2
+add_links_2 c = omega (arith, (facts c.before.before.before.before.before.before.before.before).index_back)
 
-cast_links_2 : tie.Need-overflow-cast-links-2
-cast_links_2 c = omega (arith, (facts (tested (made c.before))).index_back)
+cast_links_2 : tie.Need-overflow_cast-links-2
+cast_links_2 c = omega (arith, (facts c.before.before.before.before.before.before.before.before).index_back)
 
-mul_links_4 : tie.Need-overflow-mul-links-4
-mul_links_4 c = omega (arith, (facts (tested (made c.before))).index_back)
+mul_links_4 : tie.Need-offset_bounds-links-j
+mul_links_4 c = omega (arith, (facts c.before.before.before.before.before.before.before.before).index_back)
 
-slice_write_links_2 : tie.Need-slice-write-links-2
+slice_write_links_2 : tie.Need-bounds-links-j
 slice_write_links_2 c =
-    let d = made c.before in
-    let s = start (tested d) in
+    let d = c in
+    let s = d in
     let k = s.args.p.candidates in
     omega (
       arith,
-      (facts (tested d)).index_back,
-      s.pre.kept.wires_long,
-      length-set s.args.links.now (s.args.e / k * k + s.args.e % k) (d.compare.result.wire - 2),
+      (facts d.before.before.before.before.before.before.before.before).index_back,
+      s.requires.kept.wires_long,
+      length-set s.args.links.now (s.args.e / k * k + s.args.e % k) (d.compare-next.result.wire - 2),
     )
 
-returns_3 : tie.Need-returns-3
+returns_3 : tie.Need-returns
 returns_3 c =
-    let d = made c.before in
-    let s = start (tested d) in
+    let d = c in
+    let s = d in
     let a = s.args in
     let k = a.p.candidates in
-    let q = (facts (tested d)).row in
-    let next = d.compare.result in
+    let q = (facts d.before.before.before.before.before.before.before.before).row in
+    let next = d.compare-next.result in
     record {
-      wrote = wrote_as a.w a.table.now _ _ d.compare.last.1.0 next
+      wrote = wrote_as a.w a.table.now _ _ d.compare-next.new.table next
           (links_moved a.first (kept_of a.words.now k) a.p.digits a.w.wire (a.e / k) (a.e % k) q
-          d.before.before.kept.result d.before.kept2.result d.before.before.kept.ensures
-          d.before.kept2.ensures) d.compare.ensures;
+          d.kept.result d.kept-2.result d.kept.ensures
+          d.kept-2.ensures) d.compare-next.ensures;
       kept = new_links (leb a.first) a.links.now k (a.e / k) (a.e % k) next.wire q;
     }
 
-same_length : tie.Need-same-length
+same_length : tie.Need-shape_of-table
 same_length c = search rules
 
-same_length_2 : tie.Need-same-length-2
+same_length_2 : tie.Need-shape_of-links
 same_length_2 c = search rules
 
 pub links_entry_spec : {M : Type 1} → statement M

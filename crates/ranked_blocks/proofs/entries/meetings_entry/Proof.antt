@@ -16,22 +16,7 @@ use Rattle.ranked_blocks.proofs.Entering.{Place, place, index_small, not_later, 
 use Rattle.ranked_blocks.proofs.entries.meetings_entry.Statement.{statement}
 use Rattle.ranked_blocks.proofs.entries.meetings_entry.Tie as tie
 
--- The stages of the function, seen from later ones.
-abbrev start_from_else2 : tie.Else2 → tie.Start
-start_from_else2 c = c.before.before.before.before.before
-
-abbrev start_from_then2 : tie.Then2 → tie.Start
-start_from_then2 c = c.before.before.before.before.before
-
 -- the start; after the tests, after the block, and after the first of its wires was kept
-abbrev start : tie.Else2 → tie.Start
-start c = (start_from_else2 c)
-
-abbrev tested : tie.After-meet → tie.Else2
-tested c = c.before.before.before
-
-abbrev made : tie.After-struct-known → tie.After-meet
-made c = c.before.before.before
 
 -- What is known after the tests: the row is the later candidate's and has a block.
 pub record Facts (k e : ℕ) : Type 0 where
@@ -42,37 +27,37 @@ pub record Facts (k e : ℕ) : Type 0 where
   pub index_back : e % k * k + e / k < most_pairs
   pub other : suc (e / k) < k
 
-facts : (c : tie.Else2) → Facts (start c).args.p.candidates (start c).args.e
+facts : (c : tie.Else-k-i) → Facts c.args.p.candidates c.args.e
 facts c =
-    let s = start c in
+    let s = c in
     let k = s.args.p.candidates in
     let e = s.args.e in
-    let most = s.pre.kept.ranked.k_most in
-    let t = place k e most s.pre.number in
-    let l : e % k < e / k = omega (arith, c.before.if1.false) in
+    let most = s.requires.kept.ranked.k_most in
+    let t = place k e most s.requires.number in
+    let l : e % k < e / k = omega (arith, c.if-i-j.false) in
     record {
       here = t;
       later = l;
-      row = a_row (λ y. ltb y (k - 1)) (e / k) (e % k) l (lt-ltb (e / k) (k - 1) (omega (arith, c.if2.false)));
+      row = a_row (λ y. ltb y (k - 1)) (e / k) (e % k) l (lt-ltb (e / k) (k - 1) (omega (arith, c.if-k-i.false)));
       index = index_small k (e / k) (e % k) most t.row t.column;
       index_back = index_small k (e % k) (e / k) most t.column t.row;
-      other = omega (arith, c.if2.false, t.row);
+      other = omega (arith, c.if-k-i.false, t.row);
     }
 
-div_i : tie.Need-nonzero-div-i
-div_i c = omega (arith, c.before.before.before.requires.kept.ranked.k_least)
+div_i : tie.Need-nonzero_div-i
+div_i c = omega (arith, c.requires.kept.ranked.k_least)
 
-rem_j : tie.Need-nonzero-rem-j
-rem_j c = omega (arith, c.before.before.before.requires.kept.ranked.k_least)
+rem_j : tie.Need-nonzero_rem-j
+rem_j c = omega (arith, c.requires.kept.ranked.k_least)
 
-sub_if2 : tie.Need-overflow-sub-if2
-sub_if2 c = omega (arith, c.before.before.before.before.requires.kept.ranked.k_least)
+sub_if2 : tie.Need-overflow_sub-k
+sub_if2 c = omega (arith, c.requires.kept.ranked.k_least)
 
-returns : tie.Need-returns
+returns : tie.Need-returns-then-i-j
 returns c =
-    let a = c.before.before.before.before.args in
+    let a = c.args in
     let k = a.p.candidates in
-    let q = not_later (λ y. ltb y (k - 1)) (a.e / k) (a.e % k) c.if1.true in
+    let q = not_later (λ y. ltb y (k - 1)) (a.e / k) (a.e % k) c.if-i-j.true in
     record {
       wrote = wrote_as a.w a.table.now [] _ a.table.now a.w
           (meetings_kept (k - 1) (kept_of a.words.now k) (kept_of a.met.now k) a.p.digits a.w.wire
@@ -80,11 +65,11 @@ returns c =
       kept = same_links (λ y. ltb y (k - 1)) a.met.now k (a.e / k) (a.e % k) a.w.wire q;
     }
 
-returns_2 : tie.Need-returns-2
+returns_2 : tie.Need-returns-then-k-i
 returns_2 c =
-    let a = (start_from_then2 c).args in
+    let a = c.args in
     let k = a.p.candidates in
-    let q = no_row (λ y. ltb y (k - 1)) (a.e / k) (a.e % k) (le-ltb (a.e / k) (k - 1) c.if2.true) in
+    let q = no_row (λ y. ltb y (k - 1)) (a.e / k) (a.e % k) (le-ltb (a.e / k) (k - 1) c.if-k-i.true) in
     record {
       wrote = wrote_as a.w a.table.now [] _ a.table.now a.w
           (meetings_kept (k - 1) (kept_of a.words.now k) (kept_of a.met.now k) a.p.digits a.w.wire
@@ -92,99 +77,99 @@ returns_2 c =
       kept = same_links (λ y. ltb y (k - 1)) a.met.now k (a.e / k) (a.e % k) a.w.wire q;
     }
 
-meet_requires : tie.Need-meet-requires
+meet_requires : tie.Need-meet-next-requires
 meet_requires c κs =
-    let p = c.before.before in
-    let s = start p in
+    let p = c in
+    let s = p in
     let a = s.args in
     let k = a.p.candidates in
-    let f = facts p in
+    let f = facts p.before in
     record {
-      kept = s.pre.kept;
+      kept = s.requires.kept;
       room = room_less a.w _ _ (omega (
         arith,
         meetings_long (k - 1) (kept_of a.words.now k) (kept_of a.met.now k) a.p.digits a.w.wire
             (a.e / k) (a.e % k) f.row,
-      )) s.pre.room;
+      )) s.requires.room;
       later = f.later;
       other = f.other;
     }
 
-ended : (c : tie.After-meet) → 2 ≤ c.meet.result.wire
+ended : (c : tie.After-meet-next) → 2 ≤ c.meet-next.result.wire
 ended c =
-    let a = (start (tested c)).args in
+    let a = c.args in
     let k = a.p.candidates in
     omega (
       arith,
-      c.meet.ensures.wires,
+      c.meet-next.ensures.wires,
       meeting_long (k - 1) (kept_of a.words.now k) (kept_of a.met.now k) a.p.digits a.w.wire (a.e / k)
           (a.e % k),
     )
 
-sub_met : tie.Need-overflow-sub-met
-sub_met c = omega (arith, ended (made c))
+sub_met : tie.Need-overflow_sub-met
+sub_met c = omega (arith, ended c.before.before.before)
 
-mul_met : tie.Need-overflow-mul-met
-mul_met c = omega (arith, (facts (tested (made c))).index)
+mul_met : tie.Need-overflow_mul-met
+mul_met c = omega (arith, (facts c.before.before.before.before.before).index)
 
-add_met : tie.Need-overflow-add-met
-add_met c = omega (arith, (facts (tested (made c))).index)
+add_met : tie.Need-overflow_add-met
+add_met c = omega (arith, (facts c.before.before.before.before.before).index)
 
-cast_met : tie.Need-overflow-cast-met
-cast_met c = omega (arith, (facts (tested (made c))).index)
+cast_met : tie.Need-overflow_cast-met
+cast_met c = omega (arith, (facts c.before.before.before.before.before).index)
 
-mul_met_2 : tie.Need-overflow-mul-met-2
-mul_met_2 c = omega (arith, (facts (tested (made c))).index)
+mul_met_2 : tie.Need-offset_bounds-met-i
+mul_met_2 c = omega (arith, (facts c.before.before.before.before.before).index)
 
-slice_write_met : tie.Need-slice-write-met
-slice_write_met c = omega (arith, (facts (tested (made c))).index, (start (tested (made c))).requires.kept.wires_long)
+slice_write_met : tie.Need-bounds-met-i
+slice_write_met c = omega (arith, (facts c.before.before.before.before.before).index, c.requires.kept.wires_long)
 
-sub_met_2 : tie.Need-overflow-sub-met-2
-sub_met_2 c = omega (arith, ended (made c.before))
+sub_met_2 : tie.Need-overflow_sub-met-2
+sub_met_2 c = omega (arith, ended c.before.before.before.before)
 
-mul_met_3 : tie.Need-overflow-mul-met-3
-mul_met_3 c = omega (arith, (facts (tested (made c.before))).index_back)
+mul_met_3 : tie.Need-overflow_mul-met-2
+mul_met_3 c = omega (arith, (facts c.before.before.before.before.before.before).index_back)
 
-add_met_2 : tie.Need-overflow-add-met-2
-add_met_2 c = omega (arith, (facts (tested (made c.before))).index_back)
+add_met_2 : tie.Need-overflow_add-met-2
+add_met_2 c = omega (arith, (facts c.before.before.before.before.before.before).index_back)
 
-cast_met_2 : tie.Need-overflow-cast-met-2
-cast_met_2 c = omega (arith, (facts (tested (made c.before))).index_back)
+cast_met_2 : tie.Need-overflow_cast-met-2
+cast_met_2 c = omega (arith, (facts c.before.before.before.before.before.before).index_back)
 
-mul_met_4 : tie.Need-overflow-mul-met-4
-mul_met_4 c = omega (arith, (facts (tested (made c.before))).index_back)
+mul_met_4 : tie.Need-offset_bounds-met-j
+mul_met_4 c = omega (arith, (facts c.before.before.before.before.before.before).index_back)
 
-slice_write_met_2 : tie.Need-slice-write-met-2
+slice_write_met_2 : tie.Need-bounds-met-j
 slice_write_met_2 c =
-    let d = made c.before in
-    let s = start (tested d) in
+    let d = c in
+    let s = d in
     let k = s.args.p.candidates in
     omega (
       arith,
-      (facts (tested d)).index_back,
-      s.pre.kept.wires_long,
-      length-set s.args.met.now (s.args.e / k * k + s.args.e % k) (d.meet.result.wire - 2),
+      (facts d.before.before.before.before.before.before).index_back,
+      s.requires.kept.wires_long,
+      length-set s.args.met.now (s.args.e / k * k + s.args.e % k) (d.meet-next.result.wire - 2),
     )
 
-returns_3 : tie.Need-returns-3
+returns_3 : tie.Need-returns
 returns_3 c =
-    let d = made c.before in
-    let s = start (tested d) in
+    let d = c in
+    let s = d in
     let a = s.args in
     let k = a.p.candidates in
-    let q = (facts (tested d)).row in
-    let next = d.meet.result in
+    let q = (facts d.before.before.before.before.before.before).row in
+    let next = d.meet-next.result in
     record {
-      wrote = wrote_as a.w a.table.now _ _ d.meet.last.1.0 next
+      wrote = wrote_as a.w a.table.now _ _ d.meet-next.new.table next
           (meetings_moved (k - 1) (kept_of a.words.now k) (kept_of a.met.now k) a.p.digits a.w.wire
-          (a.e / k) (a.e % k) q) d.meet.ensures;
+          (a.e / k) (a.e % k) q) d.meet-next.ensures;
       kept = new_links (λ y. ltb y (k - 1)) a.met.now k (a.e / k) (a.e % k) next.wire q;
     }
 
-same_length : tie.Need-same-length
+same_length : tie.Need-shape_of-table
 same_length c = search rules
 
-same_length_2 : tie.Need-same-length-2
+same_length_2 : tie.Need-shape_of-met
 same_length_2 c = search rules
 
 pub meetings_entry_spec : {M : Type 1} → statement M

@@ -16,36 +16,17 @@ use Rattle.ranked_blocks.proofs.Entering.{place, long_word, path_kept, path_move
 use Rattle.ranked_blocks.proofs.entries.path_entry.Statement.{statement}
 use Rattle.ranked_blocks.proofs.entries.path_entry.Tie as tie
 
-div_i : tie.Need-nonzero-div-i
-div_i c = omega (arith, c.before.before.before.before.requires.entry.kept.ranked.k_least)
+div_i : tie.Need-nonzero_div-i
+div_i c = omega (arith, c.requires.entry.kept.ranked.k_least)
 
--- The stages of the function, seen from later ones.
-abbrev start_from_struct_known2 : tie.After-struct-known2 → tie.Start
-start_from_struct_known2 c = c.before.before.before.before.before
+rem_j : tie.Need-nonzero_rem-j
+rem_j c = omega (arith, c.requires.entry.kept.ranked.k_least)
 
-abbrev start_from_else1 : tie.Else1 → tie.Start
-start_from_else1 c = c.before.before.before.before.before.before.before
-
-abbrev start_from_then1 : tie.Then1 → tie.Start
-start_from_then1 c = c.before.before.before.before.before.before.before
-
-abbrev start_from_new_word : tie.After-new-word → tie.Start
-start_from_new_word c = start_from_struct_known2 c.before.before.before.before.before
-
-abbrev start_from_struct_known4 : tie.After-struct-known4 → tie.Start
-start_from_struct_known4 c = start_from_else1 c.before.before.before.before.before.before.before
-
-abbrev else1_from_struct_known4 : tie.After-struct-known4 → tie.Else1
-else1_from_struct_known4 c = c.before.before.before.before.before.before.before
-
-rem_j : tie.Need-nonzero-rem-j
-rem_j c = omega (arith, (start_from_struct_known2 c).pre.entry.kept.ranked.k_least)
-
-returns : tie.Need-returns
+returns : tie.Need-returns-then-stays
 returns c =
-    let a = (start_from_then1 c).args in
+    let a = c.args in
     let k = a.p.candidates in
-    let q : stays a.m (a.e / k) (a.e % k) ≡ true = sym c.before.stays.ensures ∙ c.if1.true in
+    let q : stays a.m (a.e / k) (a.e % k) ≡ true = sym c.stays.ensures ∙ c.if-stays.true in
     record {
       wrote = wrote_as a.w a.table.now [] _ a.table.now a.w
           (path_kept k (kept_of a.links.now k) (kept_of a.words.now k) a.p.digits a.w.wire (a.e / k)
@@ -53,19 +34,19 @@ returns c =
       kept = keeps (stays a.m (a.e / k) (a.e % k)) a.words.now _ q;
     }
 
-moves : (c : tie.Else1) → stays (start_from_else1 c).args.m
-    ((start_from_else1 c).args.e / (start_from_else1 c).args.p.candidates)
-    ((start_from_else1 c).args.e % (start_from_else1 c).args.p.candidates) ≡ false
-moves c = sym c.before.stays.ensures ∙ c.if1.false
+moves : (c : tie.Else-stays) → stays c.args.m
+    (c.args.e / c.args.p.candidates)
+    (c.args.e % c.args.p.candidates) ≡ false
+moves c = sym c.stays.ensures ∙ c.if-stays.false
 
-new_word_requires : tie.Need-new-word-requires
+new_word_requires : tie.Need-new_word-next-requires
 new_word_requires c κs =
-    let a = (start_from_else1 c.before.before).args in
+    let a = c.args in
     let k = a.p.candidates in
-    let t = place k a.e (start_from_else1 c.before.before).pre.entry.kept.ranked.k_most
-    (start_from_else1 c.before.before).pre.entry.number in
-    let q = moves c.before.before in
-    let g = (start_from_else1 c.before.before).pre in
+    let t = place k a.e c.requires.entry.kept.ranked.k_most
+    c.requires.entry.number in
+    let q = moves c.before in
+    let g = c.requires in
     record {
       kept = g.entry.kept;
       room = room_less a.w _ _ (omega (
@@ -79,57 +60,57 @@ new_word_requires c κs =
       moves = q;
     }
 
-ended : (c : tie.After-new-word) → suc (start_from_new_word c).args.p.digits ≤ c.new_IsWord.result.wire
+ended : (c : tie.After-new_word-next) → suc c.args.p.digits ≤ c.new_word-next.result.wire
 ended c =
-    let a = (start_from_new_word c).args in
+    let a = c.args in
     let k = a.p.candidates in
     omega (
       arith,
-      c.new_IsWord.ensures.wires,
+      c.new_word-next.ensures.wires,
       long_word (kept_of a.links.now k) (kept_of a.words.now k) a.p.digits
           (cut_at k a.p.digits a.m (a.e / k) (a.e % k)) a.w.wire (a.e / k) (a.e % k)
           (cut_most k a.p.digits a.m (a.e / k) (a.e % k)) a.m,
     )
 
-sub_words : tie.Need-overflow-sub-words
+sub_words : tie.Need-overflow_sub-words
 sub_words c = omega (arith, ended c.before.before.before.before)
 
-sub_words_2 : tie.Need-overflow-sub-words-2
+sub_words_2 : tie.Need-overflow_sub-words-2
 sub_words_2 c = omega (arith, ended c.before.before.before.before)
 
-slice_write_words : tie.Need-slice-write-words
+slice_write_words : tie.Need-bounds-words-e
 slice_write_words c = omega (
   arith,
-  (place (start_from_struct_known4 c).args.p.candidates (start_from_struct_known4 c).args.e
-      (start_from_struct_known4 c).pre.entry.kept.ranked.k_most
-      (start_from_struct_known4 c).pre.entry.number).small,
-  (start_from_struct_known4 c).pre.entry.kept.words_long,
+  (place c.args.p.candidates c.args.e
+      c.requires.entry.kept.ranked.k_most
+      c.requires.entry.number).small,
+  c.requires.entry.kept.words_long,
 )
 
-returns_2 : tie.Need-returns-2
+returns_2 : tie.Need-returns
 returns_2 c =
-    let a = (start_from_struct_known4 c).args in
+    let a = c.args in
     let k = a.p.candidates in
-    let next = c.before.before.before.before.new_IsWord.result in
-    let q = moves (else1_from_struct_known4 c) in
+    let next = c.new_word-next.result in
+    let q = moves c.before.before.before.before.before.before in
     let back : next.wire - a.p.digits - 1 ≡ next.wire - suc a.p.digits = omega arith in
     record {
-      wrote = wrote_as a.w a.table.now _ _ c.before.before.before.before.new_IsWord.new.1.0 next
+      wrote = wrote_as a.w a.table.now _ _ c.new_word-next.new.table next
           (path_moved k (kept_of a.links.now k) (kept_of a.words.now k) a.p.digits a.w.wire (a.e / k)
-          (a.e % k) a.m q) c.before.before.before.before.new_IsWord.ensures;
+          (a.e % k) a.m q) c.new_word-next.ensures;
       kept = stores (stays a.m (a.e / k) (a.e % k)) a.words.now _ _ q (ap (set a.words.now a.e) back);
     }
 
 stays_requires : tie.Need-stays-requires
 stays_requires c κs = search rules
 
-mul_words : tie.Need-overflow-mul-words
+mul_words : tie.Need-offset_bounds-words-e
 mul_words c = search rules
 
-same_length : tie.Need-same-length
+same_length : tie.Need-shape_of-table
 same_length c = search rules
 
-same_length_2 : tie.Need-same-length-2
+same_length_2 : tie.Need-shape_of-words
 same_length_2 c = search rules
 
 pub path_entry_spec : {M : Type 1} → statement M

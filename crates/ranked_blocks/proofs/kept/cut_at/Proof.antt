@@ -8,39 +8,39 @@ use Rattle.ranked_blocks.proofs.Entering.{cut_last, cut_row, cut_column, cut_non
 use Rattle.ranked_blocks.proofs.kept.cut_at.Statement.{statement}
 use Rattle.ranked_blocks.proofs.kept.cut_at.Tie as tie
 
-sub_if1 : tie.Need-overflow-sub-if1
+sub_if1 : tie.Need-overflow_sub-k
 sub_if1 c = c.requires.some
 
-returns : tie.Need-returns
-returns c = let a = c.before.args in sym (cut_last a.k a.digits a.m a.i a.j c.if1.true)
+returns : tie.Need-returns-then-k-m
+returns c = let a = c.args in sym (cut_last a.k a.digits a.m a.i a.j c.if-k-m.true)
 
 half : (w : ℕ) → (w + 1) / 2 ≡ suc w / 2
 half w = ap (λ (x : ℕ). x / 2) (add-one w)
 
 -- there is a next stage
-next : (c : tie.Else1) → c.before.args.m < c.before.args.k - 1
-next c = omega (arith, c.if1.false)
+next : (c : tie.Else-k-m) → c.args.m < c.args.k - 1
+next c = omega (arith, c.if-k-m.false)
 
-add_result : tie.Need-overflow-add-result
-add_result c = omega (arith, c.before.before.requires.narrow)
+add_result : tie.Need-overflow_add-result
+add_result c = omega (arith, c.requires.narrow)
 
-returns_2 : tie.Need-returns-2
-returns_2 c = let a = c.before.before.args in half a.digits
-    ∙ sym (cut_row a.k a.digits a.m a.i a.j (next c.before) c.if2.true)
+returns_2 : tie.Need-returns-then-i-m
+returns_2 c = let a = c.args in half a.digits
+    ∙ sym (cut_row a.k a.digits a.m a.i a.j (next c.before) c.if-i-m.true)
 
-add_result_2 : tie.Need-overflow-add-result-2
-add_result_2 c = omega (arith, c.before.before.before.requires.narrow)
+add_result_2 : tie.Need-overflow_add-result-then-j-m
+add_result_2 c = omega (arith, c.requires.narrow)
 
-returns_3 : tie.Need-returns-3
+returns_3 : tie.Need-returns-then-j-m
 returns_3 c =
-    let a = c.before.before.before.args in
+    let a = c.args in
     half a.digits ∙ sym (cut_column a.k a.digits a.m a.i a.j (next c.before.before)
-    c.before.if2.false c.if3.true)
+    c.if-i-m.false c.if-j-m.true)
 
-returns_4 : tie.Need-returns-4
-returns_4 c = let a = c.before.before.before.args in
-    sym (cut_none a.k a.digits a.m a.i a.j (next c.before.before) c.before.if2.false
-    c.if3.false)
+returns_4 : tie.Need-returns
+returns_4 c = let a = c.args in
+    sym (cut_none a.k a.digits a.m a.i a.j (next c.before.before) c.if-i-m.false
+    c.if-j-m.false)
 
 pub cut_at_spec : {M : Type 1} → statement M
 cut_at_spec =

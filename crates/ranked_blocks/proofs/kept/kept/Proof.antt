@@ -6,24 +6,24 @@ use Rattle.ranked_blocks.proofs.Entering.{index_small}
 use Rattle.ranked_blocks.proofs.kept.kept.Statement.{statement}
 use Rattle.ranked_blocks.proofs.kept.kept.Tie as tie
 
-mul_result : tie.Need-overflow-mul-result
+mul_result : tie.Need-overflow_mul-result
 mul_result c = omega (arith, index_small c.args.k c.args.i c.args.j c.requires.few c.requires.row c.requires.column)
 
-add_result : tie.Need-overflow-add-result
+add_result : tie.Need-overflow_add-result
 add_result c = omega (arith, index_small c.args.k c.args.i c.args.j c.requires.few c.requires.row c.requires.column)
 
-cast_result : tie.Need-overflow-cast-result
+cast_result : tie.Need-overflow_cast-result
 cast_result c = omega (arith, index_small c.args.k c.args.i c.args.j c.requires.few c.requires.row c.requires.column)
 
-mul_result_2 : tie.Need-overflow-mul-result-2
+mul_result_2 : tie.Need-offset_bounds-wires-i
 mul_result_2 c = omega (arith, index_small c.args.k c.args.i c.args.j c.requires.few c.requires.row c.requires.column)
 
-shared_slice_read_result : tie.Need-shared-slice-read-result
+shared_slice_read_result : tie.Need-bounds-wires-i
 shared_slice_read_result c = omega (
   arith,
-  index_small c.before.args.k c.before.args.i c.before.args.j c.before.requires.few
-      c.before.requires.row c.before.requires.column,
-  c.before.requires.long,
+  index_small c.args.k c.args.i c.args.j c.requires.few
+      c.requires.row c.requires.column,
+  c.requires.long,
 )
 
 returns : tie.Need-returns
