@@ -14,8 +14,6 @@ use Rattle.graded_circuit.proofs.ContestLaws.{grade_fits, flags_end, key_some}
 use Rattle.graded_contest.proofs.contest.contest.Statement.{statement}
 use Rattle.graded_contest.proofs.contest.contest.Tie as tie
 
--- the start, seen from the comparison of the medians
-
 compare_medians_requires : tie.Need-compare_medians-compared-requires
 compare_medians_requires c κs =
     let s = c in

@@ -16,8 +16,6 @@ use Rattle.graded_keys.proofs.Steps.{stride_most}
 use Rattle.graded_keys.proofs.median.digit_difference.Statement.{statement}
 use Rattle.graded_keys.proofs.median.digit_difference.Tie as tie
 
--- the start, seen from the first sum
-
 -- for each number: its first wire and the others are written, and its stride is small
 x_there : (s : tie.Start) → (s.args.x < s.args.w.wire)
     × (s.args.x + s.args.step + (s.args.many - 1) * s.args.step < s.args.w.wire + s.args.step)

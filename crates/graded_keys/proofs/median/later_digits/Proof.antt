@@ -95,8 +95,6 @@ next_digit_requires c κs =
       some = (in_turn c.before).some;
     }
 
--- the stages of a turn
-
 add_first : tie.Need-overflow_add-first invariant_loop decreases_loop
 add_first c = let q = in_turn c.before.before.before.before in omega (arith, q.first_there, q.near, q.few)
 

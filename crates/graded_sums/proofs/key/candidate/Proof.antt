@@ -54,8 +54,6 @@ candidate_wrote p w t c t₁ w₁ t₂ w₂ t₃ w₃ t₄ w₄ t₅ w₅ a₁ e
     a₄ (ap (λ (m : ℕ). key_words p n m c 0 d) e₁))
     a₅ (ap (λ (m : ℕ). worst_word p m c) e₂)
 
--- the start, seen from later stages
-
 rows_requires : tie.Need-rows-rowed-requires
 rows_requires c κs =
     let s = c in
