@@ -1,4 +1,6 @@
 // Writes the own list of a ranked tasting into a table.
+#![tactic(auto)]
+
 pub mod list;
 mod losers;
 mod tables;

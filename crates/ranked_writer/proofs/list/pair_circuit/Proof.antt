@@ -37,41 +37,31 @@ long p e =
           (end_of k p.ballots p.digits 0) (two e),
     )
 
-first_tables_requires : tie.Need-first-tables-requires
+first_tables_requires : tie.Need-first_tables-linked-requires
 first_tables_requires c κs =
-    let a = c.before.before.before.before.args in
+    let a = c.args in
     record {
-      ranked = c.before.before.before.before.requires.ranked;
-      room = room_less a.w _ _ (omega (arith, long a.p c.before.before.before.before.requires.two))
-          c.before.before.before.before.requires.room;
-      place = c.before.before.before.before.requires.place;
+      ranked = c.requires.ranked;
+      room = room_less a.w _ _ (omega (arith, long a.p c.requires.two))
+          c.requires.room;
+      place = c.requires.place;
       links_long = refl;
       words_long = refl;
     }
 
--- The stages of the function, seen from later ones.
-abbrev start_from_first_tables : tie.After-first-tables → tie.Start
-start_from_first_tables c = c.before.before.before.before.before
-
-abbrev first_tables_from_output_gates : tie.After-output-gates → tie.After-first-tables
-first_tables_from_output_gates c = c.before.before.before.before.before.before.before
-
-abbrev start_from_output_gates : tie.After-output-gates → tie.Start
-start_from_output_gates c = start_from_first_tables (first_tables_from_output_gates c)
-
-output_gates_requires : tie.Need-output-gates-requires
+output_gates_requires : tie.Need-output_gates-requires
 output_gates_requires c κs =
-    let done = c.before.before.before.before.before.before in
-    let s = start_from_first_tables done in
+    let done = c in
+    let s = done in
     let a = s.args in
-    let f = done.first-tables in
+    let f = done.first_tables-linked in
     record {
-      room = room_after a.w a.table.now _ f.new.1.0 f.result _ _ f.ensures.wrote
-          (omega (arith, long a.p s.pre.two)) s.pre.room;
-      k_least = s.pre.ranked.k_least;
-      k_most = s.pre.ranked.k_most;
+      room = room_after a.w a.table.now _ f.new.table f.result _ _ f.ensures.wrote
+          (omega (arith, long a.p s.requires.two)) s.requires.room;
+      k_least = s.requires.ranked.k_least;
+      k_most = s.requires.ranked.k_most;
       long = f.ensures.links_kept.long;
-      place = omega (arith, no_rows s.pre.two);
+      place = omega (arith, no_rows s.requires.two);
     }
 
 outputs_are : (k n w : ℕ) (ls : List ℕ) (wire : ℕ) → k ≡ 2 → Keeps k ls (link_wire k n w) → wire ≡ end_of k n w 0
@@ -84,32 +74,32 @@ outputs_are k n w ls wire h t q =
 
 returns : tie.Need-returns
 returns c =
-    let a = (start_from_output_gates c.before.before).args in
+    let a = c.args in
     let p = a.p in
     let k = p.candidates in
-    let f = (first_tables_from_output_gates c.before.before).first-tables in
-    let o = c.before.before.output-gates in
+    let f = c.first_tables-linked in
+    let o = c.output_gates in
     let outputs = output_gates (link_wire k p.ballots p.digits) (k - 2) (end_of k p.ballots p.digits 0) k in
-    wrote_as a.w a.table.now _ _ o.new.1.0 o.result
-    (sym (pair_parts k p.ballots p.digits (start_from_output_gates c.before.before).pre.two))
-    (wrote_both a.w a.table.now (paths_to k p.ballots p.digits 0).gates f.last.1.0 f.result
-    outputs o.new.1.0 o.result f.ensures.wrote
-    (wrote_as f.result f.last.1.0 _ outputs o.new.1.0 o.result
-    (outputs_are k p.ballots p.digits f.last.1.1.0 f.result.wire
-    (start_from_output_gates c.before.before).pre.two f.ensures.links_kept
-    (omega (arith, f.ensures.wrote.wires, (start_from_output_gates c.before.before).pre.place)))
+    wrote_as a.w a.table.now _ _ o.new.table o.result
+    (sym (pair_parts k p.ballots p.digits c.requires.two))
+    (wrote_both a.w a.table.now (paths_to k p.ballots p.digits 0).gates f.new.table f.result
+    outputs o.new.table o.result f.ensures.wrote
+    (wrote_as f.result f.new.table _ outputs o.new.table o.result
+    (outputs_are k p.ballots p.digits f.new.links f.result.wire
+    c.requires.two f.ensures.links_kept
+    (omega (arith, f.ensures.wrote.wires, c.requires.place)))
     o.ensures))
 
-slice_aggregate_first_tables : tie.Need-slice-aggregate-first-tables
+slice_aggregate_first_tables : tie.Need-slice_bounds-first_tables-end
 slice_aggregate_first_tables c = search rules
 
-slice_aggregate_first_tables_2 : tie.Need-slice-aggregate-first-tables-2
+slice_aggregate_first_tables_2 : tie.Need-slice_bounds-first_tables-end-2
 slice_aggregate_first_tables_2 c = search rules
 
-slice_aggregate_output_gates : tie.Need-slice-aggregate-output-gates
+slice_aggregate_output_gates : tie.Need-slice_bounds-output_gates-end
 slice_aggregate_output_gates c = search rules
 
-same_length : tie.Need-same-length
+same_length : tie.Need-shape_of-table
 same_length c = search rules
 
 pub pair_circuit_spec : {M : Type 1} → statement M

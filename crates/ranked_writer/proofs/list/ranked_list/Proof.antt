@@ -50,127 +50,102 @@ first_room w bytes m e h l =
       counted = omega (arith, ap (λ (v : Writer). v.conditional) e, ap (λ (v : Writer). v.gate) e);
     }
 
-mul_new : tie.Need-overflow-mul-new
+mul_new : tie.Need-overflow_mul-ballots
 mul_new c = omega (
   arith,
-  bytes c.before.args.candidates c.before.args.ballots
-      c.before.requires.k_most c.before.requires.n_most,
+  bytes c.args.candidates c.args.ballots
+      c.requires.k_most c.requires.n_most,
 )
 
-mul_new_2 : tie.Need-overflow-mul-new-2
+mul_new_2 : tie.Need-overflow_mul-ballots-2
 mul_new_2 c = omega (
   arith,
-  bytes c.before.args.candidates c.before.args.ballots
-      c.before.requires.k_most c.before.requires.n_most,
+  bytes c.args.candidates c.args.ballots
+      c.requires.k_most c.requires.n_most,
 )
 
 emit_requires : tie.Need-emit-requires
-emit_requires c κs = first_room c.before.before.new.result _ 1 c.before.before.new.ensures
-    (bytes c.before.before.before.before.args.candidates
-    c.before.before.before.before.args.ballots c.before.before.before.before.requires.k_most
-    c.before.before.before.before.requires.n_most).1 (omega arith)
+emit_requires c κs = first_room c.new-w.result _ 1 c.new-w.ensures
+    (bytes c.args.candidates
+    c.args.ballots c.requires.k_most
+    c.requires.n_most).1 (omega arith)
 
--- The stages of the function, seen from later ones.
-abbrev start_from_emit : tie.After-emit → tie.Start
-start_from_emit c = c.before.before.before.before.before
-
-abbrev start_from_circuit : tie.After-circuit → tie.Start
-start_from_circuit c = c.before.before.before.before.before.before.before
-
-abbrev new_from_circuit : tie.After-circuit → tie.After-new
-new_from_circuit c = c.before.before.before.before.before
-
-abbrev start_from_pair_circuit : tie.After-pair-circuit → tie.Start
-start_from_pair_circuit c = c.before.before.before.before.before.before.before
-
-abbrev new_from_pair_circuit : tie.After-pair-circuit → tie.After-new
-new_from_pair_circuit c = c.before.before.before.before.before
-
-abbrev new_from_slice_known2 : tie.After-slice-known2 → tie.After-new
-new_from_slice_known2 c = c.before.before.before.before.before
-
-abbrev width_from_slice_known3 : tie.After-slice-known3 → tie.After-width
-width_from_slice_known3 c = c.before.before.before.before.before
-
-abbrev width_from_slice_known4 : tie.After-slice-known4 → tie.After-width
-width_from_slice_known4 c = c.before.before.before.before.before
-
-returns : tie.Need-returns
+returns : tie.Need-returns-then-candidates-eq1
 returns c =
-    let a = (start_from_emit c.before.before).args in
-    let e = c.before.before.emit in
-    subst (λ (v : Writer). Wrote v a.table.now (own_ranking a.candidates a.ballots) e.new.1.0
-    e.result) (new_from_slice_known2 c).new.ensures
-    (wrote_as (new_from_slice_known2 c).new.result a.table.now _ _ e.new.1.0 e.result
-    (single a.candidates a.ballots c.before.before.before.before.if1.true)
-    (constant_wrote (new_from_slice_known2 c).new.result a.table.now e.new.1.0 e.result 0 0 0 1
+    let a = c.args in
+    let e = c.emit in
+    subst (λ (v : Writer). Wrote v a.table.now (own_ranking a.candidates a.ballots) e.new.table
+    e.result) c.new-w.ensures
+    (wrote_as c.new-w.result a.table.now _ _ e.new.table e.result
+    (single a.candidates a.ballots c.if-candidates-eq1.true)
+    (constant_wrote c.new-w.result a.table.now e.new.table e.result 0 0 0 1
     e.ensures))
 
-cast_digits : tie.Need-overflow-cast-digits
+cast_digits : tie.Need-overflow_cast-digits
 cast_digits c = omega (
   arith,
   c.width.ensures,
-  widths c.before.before.before.before.args.ballots c.before.before.before.before.requires.n_least
-      c.before.before.before.before.requires.n_most,
+  widths c.args.ballots c.requires.n_least
+      c.requires.n_most,
 )
 
-sub_digits : tie.Need-overflow-sub-digits
+sub_digits : tie.Need-overflow_sub-digits
 sub_digits c = omega (
   arith,
   c.width.ensures,
-  widths c.before.before.before.before.args.ballots c.before.before.before.before.requires.n_least
-      c.before.before.before.before.requires.n_most,
+  widths c.args.ballots c.requires.n_least
+      c.requires.n_most,
 )
 
 -- the number of digits above the lowest
-digits_are : (c : tie.After-width) → c.width.result - 1 ≡ width_of c.before.before.before.before.args.ballots - 1
+digits_are : (c : tie.After-width) → c.width.result - 1 ≡ width_of c.args.ballots - 1
 digits_are c = ap (λ (x : ℕ). x - 1) c.width.ensures
 
-can_count : (c : tie.After-width) → Countable c.before.before.before.before.args.ballots 0 (c.width.result - 1)
-can_count c = subst (Countable c.before.before.before.before.args.ballots 0) (sym (digits_are (c)))
-    (ranking_countable c.before.before.before.before.args.ballots
-    c.before.before.before.before.requires.n_least)
+can_count : (c : tie.After-width) → Countable c.args.ballots 0 (c.width.result - 1)
+can_count c = subst (Countable c.args.ballots 0) (sym (digits_are (c)))
+    (ranking_countable c.args.ballots
+    c.requires.n_least)
 
 same_list : (c : tie.After-width)
-    → ranked_list c.before.before.before.before.args.candidates
-    c.before.before.before.before.args.ballots (c.width.result - 1)
-    ≡ own_ranking c.before.before.before.before.args.candidates
-    c.before.before.before.before.args.ballots
-same_list c = list_is c.before.before.before.before.args.candidates
-    c.before.before.before.before.args.ballots (c.width.result - 1) (digits_are (c))
+    → ranked_list c.args.candidates
+    c.args.ballots (c.width.result - 1)
+    ≡ own_ranking c.args.candidates
+    c.args.ballots
+same_list c = list_is c.args.candidates
+    c.args.ballots (c.width.result - 1) (digits_are (c))
 
-room : (c : tie.After-width) → Room c.before.before.new.result
-    (length (ranked_list c.before.before.before.before.args.candidates
-    c.before.before.before.before.args.ballots (c.width.result - 1)))
+room : (c : tie.After-width) → Room c.new-w.result
+    (length (ranked_list c.args.candidates
+    c.args.ballots (c.width.result - 1)))
 room c =
-    let a = c.before.before.before.before.args in
-    let few = short a.candidates a.ballots c.before.before.before.before.requires.k_least
-    c.before.before.before.before.requires.k_most c.before.before.before.before.requires.n_least
-    c.before.before.before.before.requires.n_most in
-    first_room c.before.before.new.result _ _ c.before.before.new.ensures
-    (bytes a.candidates a.ballots c.before.before.before.before.requires.k_most
-    c.before.before.before.before.requires.n_most).1
+    let a = c.args in
+    let few = short a.candidates a.ballots c.requires.k_least
+    c.requires.k_most c.requires.n_least
+    c.requires.n_most in
+    first_room c.new-w.result _ _ c.new-w.ensures
+    (bytes a.candidates a.ballots c.requires.k_most
+    c.requires.n_most).1
     (omega (arith, few, ap (λ (gs : List Gate). length gs) (same_list (c))))
 
 ranked : (c : tie.After-width)
     → Ranked (record {
-      candidates = c.before.before.before.before.args.candidates;
+      candidates = c.args.candidates;
       ballots =
-          c.before.before.before.before.args.ballots;
+          c.args.ballots;
       digits = c.width.result - 1;
     })
 ranked c =
     record {
-      k_least = two c.before.before.before.before.args.candidates
-          c.before.before.before.before.requires.k_least c.before.if1.false;
-      k_most = c.before.before.before.before.requires.k_most;
-      n_least = c.before.before.before.before.requires.n_least;
-      n_most = c.before.before.before.before.requires.n_most;
+      k_least = two c.args.candidates
+          c.requires.k_least c.if-candidates-eq1.false;
+      k_most = c.requires.k_most;
+      n_least = c.requires.n_least;
+      n_most = c.requires.n_most;
       w_most = omega (
         arith,
         c.width.ensures,
-        widths c.before.before.before.before.args.ballots
-            c.before.before.before.before.requires.n_least c.before.before.before.before.requires.n_most,
+        widths c.args.ballots
+            c.requires.n_least c.requires.n_most,
       );
       countable = can_count (c);
     }
@@ -178,60 +153,60 @@ ranked c =
     two : (k : ℕ) → 1 ≤ k → (k ≡ 1 → ⊥) → 2 ≤ k
     two k l h = omega arith
 
-pair_circuit_requires : tie.Need-pair-circuit-requires
+pair_circuit_requires : tie.Need-pair_circuit-requires
 pair_circuit_requires c κs =
     record {
       ranked = ranked c.before.before;
       room = room c.before.before;
-      two = c.before.if2.true;
-      place = ap (λ (v : Writer). v.wire) c.before.before.before.before.new.ensures;
+      two = c.if-candidates-eq2.true;
+      place = ap (λ (v : Writer). v.wire) c.new-w.ensures;
     }
 
 circuit_requires : tie.Need-circuit-requires
 circuit_requires c κs =
-    let q = c.before.before in
-    let s = q.before.before.before.before in
+    let q = c in
+    let s = q in
     record {
-      ranked = ranked q;
-      room = room q;
-      many = three s.args.candidates s.requires.k_least q.before.if1.false c.before.if2.false;
-      place = ap (λ (v : Writer). v.wire) q.before.before.new.ensures;
+      ranked = ranked q.before.before;
+      room = room q.before.before;
+      many = three s.args.candidates s.requires.k_least q.if-candidates-eq1.false c.if-candidates-eq2.false;
+      place = ap (λ (v : Writer). v.wire) q.new-w.ensures;
     }
   where
     three : (k : ℕ) → 1 ≤ k → (k ≡ 1 → ⊥) → (k ≡ 2 → ⊥) → 3 ≤ k
     three k l h g = omega arith
 
-returns_2 : tie.Need-returns-2
+returns_2 : tie.Need-returns-then-candidates-eq2
 returns_2 c =
-    let a = (start_from_pair_circuit c.before.before).args in
-    let e = c.before.before.pair-circuit in
-    subst (λ (v : Writer). Wrote v a.table.now (own_ranking a.candidates a.ballots) e.new.1.0
-    e.result) (new_from_pair_circuit c.before.before).new.ensures
-    (wrote_as (new_from_pair_circuit c.before.before).new.result a.table.now _ _ e.new.1.0
-    e.result (same_list (width_from_slice_known3 c)) e.ensures)
+    let a = c.args in
+    let e = c.pair_circuit in
+    subst (λ (v : Writer). Wrote v a.table.now (own_ranking a.candidates a.ballots) e.new.table
+    e.result) c.new-w.ensures
+    (wrote_as c.new-w.result a.table.now _ _ e.new.table
+    e.result (same_list c.before.before.before.before.before) e.ensures)
 
-returns_3 : tie.Need-returns-3
+returns_3 : tie.Need-returns
 returns_3 c =
-    let a = (start_from_circuit c.before.before).args in
-    let e = c.before.before.circuit in
-    subst (λ (v : Writer). Wrote v a.table.now (own_ranking a.candidates a.ballots) e.new.1.0
-    e.result) (new_from_circuit c.before.before).new.ensures
-    (wrote_as (new_from_circuit c.before.before).new.result a.table.now _ _ e.new.1.0
-    e.result (same_list (width_from_slice_known4 c)) e.ensures)
+    let a = c.args in
+    let e = c.circuit in
+    subst (λ (v : Writer). Wrote v a.table.now (own_ranking a.candidates a.ballots) e.new.table
+    e.result) c.new-w.ensures
+    (wrote_as c.new-w.result a.table.now _ _ e.new.table
+    e.result (same_list c.before.before.before.before.before) e.ensures)
 
-new_requires : tie.Need-new-requires
+new_requires : tie.Need-new-w-requires
 new_requires c κs = search rules
 
-same_length : tie.Need-same-length
+same_length : tie.Need-shape_of-table-then-candidates-eq1
 same_length c = search rules
 
 width_requires : tie.Need-width-requires
 width_requires c κs = search rules
 
-same_length_2 : tie.Need-same-length-2
+same_length_2 : tie.Need-shape_of-table-then-candidates-eq2
 same_length_2 c = search rules
 
-same_length_3 : tie.Need-same-length-3
+same_length_3 : tie.Need-shape_of-table
 same_length_3 c = search rules
 
 pub ranked_list_spec : {M : Type 1} → statement M

@@ -30,44 +30,44 @@ own_is beats k at i s h l =
     ∙ sym (ap (λ (c : Bool). cond c (beats (other i s) i) (at + (s - suc (k - 2))))
     (le-ltb s (suc (k - 2)) (omega arith)))
 
-other_requires : tie.Need-other-requires
-other_requires c κs = omega (arith, c.if1.true, c.before.before.requires.k_most)
+other_requires : tie.Need-other-one-requires
+other_requires c κs = omega (arith, c.if-s-k.true, c.requires.k_most)
 
 kept_requires : tie.Need-kept-requires
 kept_requires c κs =
     record {
-      few = c.before.before.before.requires.k_most;
-      row = low c.before.before.before.args.k c.before.before.before.args.i
-          c.before.before.before.args.s c.other.result c.before.before.before.requires.k_least
-          c.before.if1.true c.other.ensures;
-      column = c.before.before.before.requires.row;
-      long = c.before.before.before.requires.long;
+      few = c.requires.k_most;
+      row = low c.args.k c.args.i
+          c.args.s c.other-one.result c.requires.k_least
+          c.if-s-k.true c.other-one.ensures;
+      column = c.requires.row;
+      long = c.requires.long;
     }
 
-returns : tie.Need-returns
-returns c = other_is (kept_of c.before.before.before.before.args.beats.now
-    c.before.before.before.before.args.k) c.before.before.before.before.args.k
-    c.before.before.before.before.args.at c.before.before.before.before.args.i
-    c.before.before.before.before.args.s c.before.other.result c.kept.result
-    c.before.before.before.before.requires.k_least c.before.before.if1.true
-    c.before.other.ensures c.kept.ensures
+returns : tie.Need-returns-then-s-k
+returns c = other_is (kept_of c.args.beats.now
+    c.args.k) c.args.k
+    c.args.at c.args.i
+    c.args.s c.other-one.result c.kept.result
+    c.requires.k_least c.if-s-k.true
+    c.other-one.ensures c.kept.ensures
 
-sub_if1 : tie.Need-overflow-sub-if1
-sub_if1 c = omega (arith, c.before.requires.k_least)
+sub_if1 : tie.Need-overflow_sub-k
+sub_if1 c = omega (arith, c.requires.k_least)
 
-sub_result : tie.Need-overflow-sub-result
-sub_result c = omega (arith, c.before.before.requires.k_least)
+sub_result : tie.Need-overflow_sub-result
+sub_result c = omega (arith, c.requires.k_least)
 
-sub_result_2 : tie.Need-overflow-sub-result-2
-sub_result_2 c = omega (arith, c.if1.false, c.before.before.requires.k_least)
+sub_result_2 : tie.Need-overflow_sub-result-2
+sub_result_2 c = omega (arith, c.if-s-k.false, c.requires.k_least)
 
-add_result : tie.Need-overflow-add-result
-add_result c = omega (arith, c.before.before.requires.few, c.before.before.requires.small)
+add_result : tie.Need-overflow_add-result
+add_result c = omega (arith, c.requires.few, c.requires.small)
 
-returns_2 : tie.Need-returns-2
-returns_2 c = own_is (kept_of c.before.before.args.beats.now c.before.before.args.k)
-    c.before.before.args.k c.before.before.args.at c.before.before.args.i
-    c.before.before.args.s c.before.before.requires.k_least (omega (arith, c.if1.false))
+returns_2 : tie.Need-returns
+returns_2 c = own_is (kept_of c.args.beats.now c.args.k)
+    c.args.k c.args.at c.args.i
+    c.args.s c.requires.k_least (omega (arith, c.if-s-k.false))
 
 pub joined_spec : {M : Type 1} → statement M
 joined_spec = tie.close (tie.spec sub_if1 other_requires kept_requires returns sub_result sub_result_2 add_result returns_2)

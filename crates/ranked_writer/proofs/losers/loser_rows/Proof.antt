@@ -16,75 +16,65 @@ use Rattle.ranked_writer.proofs.Filling.{Filled, fill_start, fill_next, fill_roo
 use Rattle.ranked_writer.proofs.losers.loser_rows.Statement.{statement}
 use Rattle.ranked_writer.proofs.losers.loser_rows.Tie as tie
 
-abbrev invariant_loop : tie.invariant-loop
+abbrev invariant_loop : tie.invariant-loop-i
 invariant_loop table₀ beats k next₀ i₀ table next i = (i ≤ k) × Filled next₀ table₀ (loser_row (kept_of beats k) (k - 2)) i table next
 
-abbrev decreases_loop : tie.decreases-loop
+abbrev decreases_loop : tie.decreases-loop-i
 decreases_loop table₀ beats k next₀ i₀ table next i = k - i
 
-loop_holds : tie.Need-loop-init invariant_loop decreases_loop
-loop_holds c = let a = c.before.before.args in
+loop_holds : tie.Need-loop-i-init invariant_loop decreases_loop
+loop_holds c = let a = c.args in
     (omega arith, fill_start a.w a.table.now (loser_row (kept_of a.beats.now a.k) (a.k - 2)))
 
 rows_room : (w : Writer) (beats : ℕ → ℕ → ℕ) (k r : ℕ) → Room w (k * r) → Room w (length (blocks w.wire (loser_row beats r) k))
 rows_room w beats k r room = room_less w _ _
     (omega (arith, length_same w.wire (loser_row beats r) r (λ at i. row_length beats r at i) k)) room
 
--- The stages of the function, seen from later ones.
-abbrev start_from_loser_row_arg : tie.After-loser-row-arg invariant_loop decreases_loop → tie.Start invariant_loop decreases_loop
-start_from_loser_row_arg c = c.before.before.before.before.before
-
-abbrev start_from_loser_row : tie.After-loser-row invariant_loop decreases_loop → tie.Start invariant_loop decreases_loop
-start_from_loser_row c = c.before.before.before.before.before.before
-
-abbrev loop_reached_from_slice_known2 : tie.After-slice-known2 invariant_loop decreases_loop → tie.At-loop invariant_loop decreases_loop
-loop_reached_from_slice_known2 c = c.before.before.before.before.before
-
-loser_row_requires : tie.Need-loser-row-requires invariant_loop decreases_loop
+loser_row_requires : tie.Need-loser_row-next-requires invariant_loop decreases_loop
 loser_row_requires c κs =
-    let a = (start_from_loser_row_arg c).args in
-    let l = c.before.before.loop in
+    let a = c.args in
+    let l = c.loop-i in
     let b = loser_row (kept_of a.beats.now a.k) (a.k - 2) in
-    let room = fill_room a.w a.table.now b l.i a.k l.table l.next c.before.loop-test.true
+    let room = fill_room a.w a.table.now b l.i a.k l.table l.next c.loop-i-test.true
     (rows_room a.w (kept_of a.beats.now a.k) a.k (a.k - 2)
-    (start_from_loser_row_arg c).pre.room) l.invariant.1 in
+    c.requires.room) l.invariant.1 in
     record {
       room = room_less l.next _ _ (omega (arith, row_length (kept_of a.beats.now a.k) (a.k - 2) l.next.wire l.i)) room;
-      k_least = (start_from_loser_row_arg c).pre.k_least;
-      k_most = (start_from_loser_row_arg c).pre.k_most;
-      row = c.before.loop-test.true;
-      long = (start_from_loser_row_arg c).pre.long;
+      k_least = c.requires.k_least;
+      k_most = c.requires.k_most;
+      row = c.loop-i-test.true;
+      long = c.requires.long;
     }
 
-add_i : tie.Need-overflow-add-i invariant_loop decreases_loop
-add_i c = omega (arith, c.before.before.before.before.loop-test.true, (start_from_loser_row c.before.before).pre.k_most)
+add_i : tie.Need-overflow_add-i invariant_loop decreases_loop
+add_i c = omega (arith, c.loop-i-test.true, c.requires.k_most)
 
-loop_less : tie.Need-loop-smaller invariant_loop decreases_loop
-loop_less c = omega (arith, c.before.before.before.before.loop-test.true)
+loop_less : tie.Need-loop-i-smaller invariant_loop decreases_loop
+loop_less c = omega (arith, c.loop-i-test.true)
 
-loop_again : tie.Need-loop-preserved invariant_loop decreases_loop
+loop_again : tie.Need-loop-i-preserved invariant_loop decreases_loop
 loop_again c =
-    let a = (start_from_loser_row c.before.before).args in
-    let l = (loop_reached_from_slice_known2 c).loop in
-    let h = c.before.before.loser-row in (
-      omega (arith, c.before.before.before.before.loop-test.true),
+    let a = c.args in
+    let l = c.loop-i in
+    let h = c.loser_row-next in (
+      omega (arith, c.loop-i-test.true),
       fill_next a.w a.table.now (loser_row (kept_of a.beats.now a.k) (a.k - 2)) l.i l.table
-          l.next h.new.1.0 h.result l.inv.1 h.ensures,
+          l.next h.new.table h.result l.invariant.1 h.ensures,
     )
 
-same_length : tie.Need-same-length invariant_loop decreases_loop
-same_length c = c.before.loop.invariant.1.long
+same_length : tie.Need-shape_of-table invariant_loop decreases_loop
+same_length c = c.loop-i.invariant.1.long
 
 rows_are : (beats : ℕ → ℕ → ℕ) (r n k : ℕ) → blocks n (loser_row beats r) k ≡ loser_rows beats r n k
 rows_are beats r n k = unfold loser_rows in refl
 
 returns : tie.Need-returns invariant_loop decreases_loop
 returns c =
-    let a = c.before.before.before.before.args in
-    let l = c.before.loop in
+    let a = c.args in
+    let l = c.loop-i in
     wrote_as a.w a.table.now _ _ l.table l.next (rows_are (kept_of a.beats.now a.k) (a.k - 2) a.w.wire a.k)
     (fill_end a.w a.table.now (loser_row (kept_of a.beats.now a.k) (a.k - 2)) l.i a.k l.table
-    l.next (omega (arith, c.loop-test.false)) l.invariant.0 l.invariant.1)
+    l.next (omega (arith, c.loop-i-test.false)) l.invariant.0 l.invariant.1)
 
 pub loser_rows_spec : {M : Type 1} → statement M
 loser_rows_spec = tie.close (tie.spec invariant_loop decreases_loop loop_holds loser_row_requires add_i loop_less loop_again same_length returns)

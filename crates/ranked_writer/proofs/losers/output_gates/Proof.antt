@@ -20,14 +20,14 @@ use Rattle.ranked_writer.proofs.losers.output_gates.Tie as tie
 abbrev gate : List ℕ → ℕ → ℕ → ℕ → ℕ → List Gate
 gate beats k rows wire i = not_of (joined_wire (kept_of beats k) (suc (k - 2)) (rows + i * (k - 2)) i (2 * (k - 2))) ∷ []
 
-abbrev invariant_loop : tie.invariant-loop
+abbrev invariant_loop : tie.invariant-loop-i
 invariant_loop table₀ beats k rows next₀ i₀ table next i = (i ≤ k) × Filled next₀ table₀ (gate beats k rows) i table next
 
-abbrev decreases_loop : tie.decreases-loop
+abbrev decreases_loop : tie.decreases-loop-i
 decreases_loop table₀ beats k rows next₀ i₀ table next i = k - i
 
-loop_holds : tie.Need-loop-init invariant_loop decreases_loop
-loop_holds c = let a = c.before.before.args in (omega arith, fill_start a.w a.table.now (gate a.beats.now a.k a.rows))
+loop_holds : tie.Need-loop-i-init invariant_loop decreases_loop
+loop_holds c = let a = c.args in (omega arith, fill_start a.w a.table.now (gate a.beats.now a.k a.rows))
 
 -- a row starts before the output gates
 row_low : (k i : ℕ) → k ≤ most_candidates → i < k → (i * (k - 2) ≤ most_pairs) × (i * (k - 2) ≤ k * (k - 2))
@@ -36,90 +36,77 @@ row_low k i h l = (
   mul-le-mul_right {m = i} {n = k} (k - 2) (omega arith),
 )
 
-sub_joined : tie.Need-overflow-sub-joined invariant_loop decreases_loop
-sub_joined c = omega (arith, c.before.before.before.before.requires.k_least)
+sub_joined : tie.Need-overflow_sub-k invariant_loop decreases_loop
+sub_joined c = omega (arith, c.requires.k_least)
 
-mul_joined : tie.Need-overflow-mul-joined invariant_loop decreases_loop
+mul_joined : tie.Need-overflow_mul-i invariant_loop decreases_loop
 mul_joined c = omega (
   arith,
-  row_low c.before.before.before.before.args.k c.before.loop.i
-      c.before.before.before.before.requires.k_most c.loop-test.true,
+  row_low c.args.k c.loop-i.i
+      c.requires.k_most c.loop-i-test.true,
 )
 
-add_joined : tie.Need-overflow-add-joined invariant_loop decreases_loop
+add_joined : tie.Need-overflow_add-rows invariant_loop decreases_loop
 add_joined c = omega (
   arith,
-  row_low c.before.before.before.before.args.k c.before.loop.i
-      c.before.before.before.before.requires.k_most c.loop-test.true,
-  c.before.before.before.before.requires.place,
-  c.before.before.before.before.requires.room.small,
+  row_low c.args.k c.loop-i.i
+      c.requires.k_most c.loop-i-test.true,
+  c.requires.place,
+  c.requires.room.small,
 )
 
-sub_joined_2 : tie.Need-overflow-sub-joined-2 invariant_loop decreases_loop
-sub_joined_2 c = omega (arith, c.before.before.before.before.requires.k_least)
+sub_joined_2 : tie.Need-overflow_sub-k-in-loop-i invariant_loop decreases_loop
+sub_joined_2 c = omega (arith, c.requires.k_least)
 
-mul_joined_2 : tie.Need-overflow-mul-joined-2 invariant_loop decreases_loop
-mul_joined_2 c = omega (arith, c.before.before.before.before.requires.k_most)
+mul_joined_2 : tie.Need-overflow_mul-k invariant_loop decreases_loop
+mul_joined_2 c = omega (arith, c.requires.k_most)
 
-joined_requires : tie.Need-joined-requires invariant_loop decreases_loop
+joined_requires : tie.Need-joined-lost-requires invariant_loop decreases_loop
 joined_requires c κs =
     record {
-      k_least = c.before.before.before.before.requires.k_least;
-      k_most = c.before.before.before.before.requires.k_most;
-      row = c.loop-test.true;
-      few = omega (arith, c.before.before.before.before.requires.k_most);
+      k_least = c.requires.k_least;
+      k_most = c.requires.k_most;
+      row = c.loop-i-test.true;
+      few = omega (arith, c.requires.k_most);
       small = omega (
         arith,
-        row_low c.before.before.before.before.args.k c.before.loop.i
-            c.before.before.before.before.requires.k_most c.loop-test.true,
-        c.before.before.before.before.requires.place,
-        c.before.before.before.before.requires.room.small,
+        row_low c.args.k c.loop-i.i
+            c.requires.k_most c.loop-i-test.true,
+        c.requires.place,
+        c.requires.room.small,
       );
-      long = c.before.before.before.before.requires.long;
+      long = c.requires.long;
     }
 
--- The stages of the function, seen from later ones.
-abbrev start_from_joined : tie.After-joined invariant_loop decreases_loop → tie.Start invariant_loop decreases_loop
-start_from_joined c = c.before.before.before.before.before
-
-abbrev start_from_emit : tie.After-emit invariant_loop decreases_loop → tie.Start invariant_loop decreases_loop
-start_from_emit c = c.before.before.before.before.before.before.before
-
-abbrev loop_reached_from_slice_known2 : tie.After-slice-known2 invariant_loop decreases_loop → tie.At-loop invariant_loop decreases_loop
-loop_reached_from_slice_known2 c = c.before.before.before.before.before.before
-
-abbrev round_from_slice_known2 : tie.After-slice-known2 invariant_loop decreases_loop → tie.In-loop invariant_loop decreases_loop
-round_from_slice_known2 c = c.before.before.before.before.before
-
-emit_requires : tie.Need-emit-requires invariant_loop decreases_loop
+emit_requires : tie.Need-emit-next-requires invariant_loop decreases_loop
 emit_requires c κs =
-    let a = (start_from_joined c.before).args in
-    let l = c.before.before.before.loop in
+    let a = c.args in
+    let l = c.loop-i in
     let b = gate a.beats.now a.k a.rows in
-    fill_room a.w a.table.now b l.i a.k l.table l.next c.before.before.loop-test.true
-    (single_room a.w b a.k (λ at e. refl) (start_from_joined c.before).pre.room) l.invariant.1
+    fill_room a.w a.table.now b l.i a.k l.table l.next c.loop-i-test.true
+    (single_room a.w b a.k (λ at e. refl) c.requires.room) l.invariant.1
 
-add_i : tie.Need-overflow-add-i invariant_loop decreases_loop
-add_i c = omega (arith, (round_from_slice_known2 c).loop-test.taken, (start_from_emit c.before.before).pre.k_most)
+add_i : tie.Need-overflow_add-i invariant_loop decreases_loop
+add_i c = omega (arith, c.loop-i-test.true, c.requires.k_most)
 
-loop_less : tie.Need-loop-smaller invariant_loop decreases_loop
-loop_less c = omega (arith, (round_from_slice_known2 c).loop-test.taken)
+loop_less : tie.Need-loop-i-smaller invariant_loop decreases_loop
+loop_less c = omega (arith, c.loop-i-test.true)
 
-loop_again : tie.Need-loop-preserved invariant_loop decreases_loop
+loop_again : tie.Need-loop-i-preserved invariant_loop decreases_loop
 loop_again c =
-    let a = (start_from_emit c.before.before).args in
-    let l = (loop_reached_from_slice_known2 c).loop in
-    let h = c.before.before.emit in (
-      omega (arith, (round_from_slice_known2 c).loop-test.taken),
+    let a = c.args in
+    let l = c.loop-i in
+    let h = c.emit-next in (
+      omega (arith, c.loop-i-test.true),
       fill_next a.w a.table.now (gate a.beats.now a.k a.rows) l.i l.table l.next
-          h.new.1.0 h.result l.inv.1
-          (wrote_as l.next l.table _ _ h.new.1.0 h.result
-          (ap (λ (x : ℕ). not_of x ∷ []) c.before.before.before.before.joined.ensures)
-          (not_wrote l.next l.table h.new.1.0 h.result _ 0 0 h.ensures)),
+          h.new.table h.result l.invariant.1
+          (wrote_as l.next l.table _ _ h.new.table h.result
+          (ap (λ (x : ℕ). not_of x ∷ []) c.joined-lost.ensures)
+          (not_wrote l.next l.table h.new.table h.result _ 0 0 h.ensures)),
     )
 
-same_length : tie.Need-same-length invariant_loop decreases_loop
-same_length c = c.before.loop.invariant.1.long
+same_length : tie.Need-shape_of-table invariant_loop decreases_loop
+same_length c = c.loop-i.invariant.1.long
 
 outputs_are : (beats : ℕ → ℕ → ℕ) (r rows k wire : ℕ) → wire ≡ rows + k * r
     → blocks wire (λ at i. not_of (joined_wire beats (suc r) (rows + i * r) i (2 * r)) ∷ []) k ≡ output_gates beats r rows k
@@ -129,13 +116,13 @@ outputs_are beats r rows k wire q =
 
 returns : tie.Need-returns invariant_loop decreases_loop
 returns c =
-    let a = c.before.before.before.before.args in
-    let l = c.before.loop in
+    let a = c.args in
+    let l = c.loop-i in
     wrote_as a.w a.table.now _ _ l.table l.next
     (outputs_are (kept_of a.beats.now a.k) (a.k - 2) a.rows a.k a.w.wire
-    c.before.before.before.before.requires.place)
+    c.requires.place)
     (fill_end a.w a.table.now (gate a.beats.now a.k a.rows) l.i a.k l.table l.next
-    (omega (arith, c.loop-test.false)) l.invariant.0 l.invariant.1)
+    (omega (arith, c.loop-i-test.false)) l.invariant.0 l.invariant.1)
 
 pub output_gates_spec : {M : Type 1} → statement M
 output_gates_spec = tie.close (tie.spec invariant_loop decreases_loop loop_holds sub_joined mul_joined add_joined sub_joined_2

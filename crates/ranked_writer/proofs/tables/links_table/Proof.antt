@@ -30,118 +30,110 @@ pub record Inv (p : Ranks) (k : ℕ) (block : ℕ → ℕ → ℕ → List Gate)
   pub wrote : TableTo w₀ table₀ p.candidates block e table next
   pub kept : LinksTo p.candidates rows (entry_end w₀.wire p.candidates block) wires₀ e wires
 
-abbrev invariant_loop : tie.invariant-loop
+abbrev invariant_loop : tie.invariant-loop-e
 invariant_loop table₀ words wires₀ p first k next₀ e₀ table wires next e =
     Inv p k (block p first words) (leb first) next₀ table₀ wires₀ e table wires next
 
-abbrev decreases_loop : tie.decreases-loop
+abbrev decreases_loop : tie.decreases-loop-e
 decreases_loop table₀ words wires₀ p first k next₀ e₀ table wires next e = p.candidates * p.candidates - e
 
 -- the start, seen from the loop and from its turn, and the turn seen from its end
-abbrev start : tie.At-loop invariant_loop decreases_loop → tie.Start invariant_loop decreases_loop
-start c = c.before.before.before.before
-
-abbrev turning : tie.After-links-entry invariant_loop decreases_loop → tie.In-loop invariant_loop decreases_loop
-turning c = c.before.before.before
-
-abbrev written : tie.After-slice-known4 invariant_loop decreases_loop → tie.After-links-entry invariant_loop decreases_loop
-written c = c.before.before.before.before
 
 abbrev block_at : tie.Start invariant_loop decreases_loop → ℕ → ℕ → ℕ → List Gate
 block_at s = block s.args.p s.args.first s.args.words.now
 
-loop_holds : tie.Need-loop-init invariant_loop decreases_loop
+loop_holds : tie.Need-loop-e-init invariant_loop decreases_loop
 loop_holds c =
-    let s = c.before.before.before in
+    let s = c in
     let a = s.args in
     let k = a.p.candidates in
     record {
       same = refl;
       few = omega arith;
-      wrote = table_start a.w a.table.now k (block_at s);
-      kept = links_start k (leb a.first) (entry_end a.w.wire k (block_at s)) a.links.now s.requires.kept.wires_long;
+      wrote = table_start a.w a.table.now k (block_at s.before.before.before);
+      kept = links_start k (leb a.first) (entry_end a.w.wire k (block_at s.before.before.before)) a.links.now s.requires.kept.wires_long;
     }
 
-mul_loop : tie.Need-overflow-mul-loop invariant_loop decreases_loop
-mul_loop c = let s = start c in
+mul_loop : tie.Need-overflow_mul-k invariant_loop decreases_loop
+mul_loop c = let s = c in
     omega (
       arith,
-      square_small s.args.p.candidates s.pre.kept.ranked.k_most,
-      same_square c.loop.invariant.same,
+      square_small s.args.p.candidates s.requires.kept.ranked.k_most,
+      same_square c.loop-e.invariant.same,
     )
 
-now : (c : tie.In-loop invariant_loop decreases_loop)
-    → Turn (start c.before).args.p.candidates (start c.before).args.p.candidates c.before.loop.e
-now c = turn refl (start c.before).pre.kept.ranked.k_most
-    (omega (arith, c.loop-test.true, same_square c.before.loop.invariant.same))
+now : (c : tie.In-loop-e invariant_loop decreases_loop)
+    → Turn c.args.p.candidates c.args.p.candidates c.loop-e.e
+now c = turn refl c.requires.kept.ranked.k_most
+    (omega (arith, c.loop-e-test.true, same_square c.loop-e.invariant.same))
 
-links_entry_requires : tie.Need-links-entry-requires invariant_loop decreases_loop
+links_entry_requires : tie.Need-links_entry-next-requires invariant_loop decreases_loop
 links_entry_requires c κs =
-    let q = c.before.before in
-    let s = start q.before in
+    let q = c in
+    let s = q in
     let a = s.args in
     let k = a.p.candidates in
-    let l = q.before.loop in
-    let t = now q in
-    let from = table_from a.w a.table.now k (block_at s) l.e l.table l.next l.invariant.wrote in
-    let b = s.pre.kept.below in
+    let l = q.loop-e in
+    let t = now q.before.before in
+    let from = table_from a.w a.table.now k (block_at s.before.before.before.before.before.before.before) l.e l.table l.next l.invariant.wrote in
+    let b = s.requires.kept.below in
     record {
       kept = record {
-        ranked = s.pre.kept.ranked;
-        words_long = s.pre.kept.words_long;
+        ranked = s.requires.kept.ranked;
+        words_long = s.requires.kept.words_long;
         wires_long = l.invariant.kept.long;
         below = λ i j hi hj ne. omega (arith, from, b i j hi hj ne);
       };
       number = t.few;
-      room = table_room a.w a.table.now k (block_at s) l.e l.table l.next t.few s.pre.room l.invariant.wrote;
+      room = table_room a.w a.table.now k (block_at s.before.before.before.before.before.before.before) l.e l.table l.next t.few s.requires.room l.invariant.wrote;
     }
 
-add_e : tie.Need-overflow-add-e invariant_loop decreases_loop
-add_e c = omega (arith, (now (turning (written c))).small)
+add_e : tie.Need-overflow_add-e invariant_loop decreases_loop
+add_e c = omega (arith, (now c.before.before.before.before.before.before.before).small)
 
-loop_less : tie.Need-loop-smaller invariant_loop decreases_loop
-loop_less c = omega (arith, (now (turning (written c))).few)
+loop_less : tie.Need-loop-e-smaller invariant_loop decreases_loop
+loop_less c = omega (arith, (now c.before.before.before.before.before.before.before).few)
 
-loop_again : tie.Need-loop-preserved invariant_loop decreases_loop
+loop_again : tie.Need-loop-e-preserved invariant_loop decreases_loop
 loop_again c =
-    let d = written c in
-    let q = turning d in
-    let s = start q.before in
+    let d = c in
+    let q = d in
+    let s = q in
     let a = s.args in
     let k = a.p.candidates in
-    let l = q.before.loop in
-    let t = now q in
-    let h = d.links-entry in
-    let more = table_next a.w a.table.now k (block_at s) l.e l.table l.next h.last.1.0
-    h.result l.inv.wrote h.ensures.wrote in
+    let l = q.loop-e in
+    let t = now q.before.before.before.before.before.before.before in
+    let h = d.links_entry-next in
+    let more = table_next a.w a.table.now k (block_at s.before.before.before.before.before.before.before.before.before.before.before.before) l.e l.table l.next h.new.table
+    h.result l.invariant.wrote h.ensures.wrote in
     record {
-      same = l.inv.same;
+      same = l.invariant.same;
       few = omega (arith, t.few);
       wrote = more;
       kept =
-          links_next k (leb a.first) (entry_end a.w.wire k (block_at s)) a.links.now
-          s.pre.kept.ranked.k_most l.e l.links h.last.1.1.1.0 h.result.wire t.row
-          t.column l.inv.kept h.ensures.kept
-          (end_here a.w a.table.now k (block_at s) l.e (l.e / k) (l.e % k) h.last.1.0 h.result t.number more);
+          links_next k (leb a.first) (entry_end a.w.wire k (block_at s.before.before.before.before.before.before.before.before.before.before.before.before)) a.links.now
+          s.requires.kept.ranked.k_most l.e l.links h.new.links h.result.wire t.row
+          t.column l.invariant.kept h.ensures.kept
+          (end_here a.w a.table.now k (block_at s.before.before.before.before.before.before.before.before.before.before.before.before) l.e (l.e / k) (l.e % k) h.new.table h.result t.number more);
     }
 
-same_length : tie.Need-same-length invariant_loop decreases_loop
-same_length c = c.before.loop.invariant.wrote.long
+same_length : tie.Need-shape_of-table invariant_loop decreases_loop
+same_length c = c.loop-e.invariant.wrote.long
 
-same_length_2 : tie.Need-same-length-2 invariant_loop decreases_loop
-same_length_2 c = c.before.loop.invariant.kept.long ∙ sym (start c.before).pre.kept.wires_long
+same_length_2 : tie.Need-shape_of-links invariant_loop decreases_loop
+same_length_2 c = c.loop-e.invariant.kept.long ∙ sym c.requires.kept.wires_long
 
 returns : tie.Need-returns invariant_loop decreases_loop
 unfolding link_at
 returns c =
-    let s = start c.before in
+    let s = c in
     let a = s.args in
     let k = a.p.candidates in
-    let l = c.before.loop in
-    let all : k * k ≤ l.e = omega (arith, c.loop-test.false, same_square l.invariant.same) in
+    let l = c.loop-e in
+    let all : k * k ≤ l.e = omega (arith, c.loop-e-test.false, same_square l.invariant.same) in
     record {
-      wrote = table_end a.w a.table.now k (block_at s) l.e l.table l.next all l.invariant.few l.invariant.wrote;
-      kept = links_end k (leb a.first) (entry_end a.w.wire k (block_at s)) a.links.now l.e l.links all l.invariant.kept;
+      wrote = table_end a.w a.table.now k (block_at s.before.before.before.before.before) l.e l.table l.next all l.invariant.few l.invariant.wrote;
+      kept = links_end k (leb a.first) (entry_end a.w.wire k (block_at s.before.before.before.before.before)) a.links.now l.e l.links all l.invariant.kept;
     }
 
 pub links_table_spec : {M : Type 1} → statement M

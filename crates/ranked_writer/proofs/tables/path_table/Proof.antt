@@ -13,124 +13,108 @@ use Rattle.ranked_writer.proofs.Keeping.{KeptTo, kept_start, kept_next, kept_end
 use Rattle.ranked_writer.proofs.tables.path_table.Statement.{statement}
 use Rattle.ranked_writer.proofs.tables.path_table.Tie as tie
 
-abbrev invariant_loop : tie.invariant-loop
+abbrev invariant_loop : tie.invariant-loop-e
 invariant_loop table₀ links words₀ p m k next₀ e₀ table words next e =
     (k ≡ p.candidates) × (e ≤ p.candidates * p.candidates)
     × TableTo next₀ table₀ p.candidates (stage_block next₀ table₀ p.candidates p.digits m links words₀) e table next
     × KeptTo p.candidates (stays m) (stage_end next₀ table₀ p.candidates p.digits m links words₀) words₀ e words
 
-abbrev decreases_loop : tie.decreases-loop
+abbrev decreases_loop : tie.decreases-loop-e
 decreases_loop table₀ links words₀ p m k next₀ e₀ table words next e = p.candidates * p.candidates - e
 
-loop_holds : tie.Need-loop-init invariant_loop decreases_loop
+loop_holds : tie.Need-loop-e-init invariant_loop decreases_loop
 loop_holds c =
-    let a = c.before.before.before.args in
+    let a = c.args in
     let k = a.p.candidates in (
       refl,
       omega arith,
       table_start a.w a.table.now k (stage_block a.w a.table.now k a.p.digits a.m a.links.now a.words.now),
       kept_start k (stays a.m) (stage_end a.w a.table.now k a.p.digits a.m a.links.now
-          a.words.now) a.words.now c.before.before.before.requires.ready.kept.words_long,
+          a.words.now) a.words.now c.requires.ready.kept.words_long,
     )
 
-mul_loop : tie.Need-overflow-mul-loop invariant_loop decreases_loop
+mul_loop : tie.Need-overflow_mul-k invariant_loop decreases_loop
 mul_loop c = omega (
   arith,
-  square_small c.before.before.before.before.args.p.candidates
-      c.before.before.before.before.requires.ready.kept.ranked.k_most,
-  same_square c.loop.invariant.0,
+  square_small c.args.p.candidates
+      c.requires.ready.kept.ranked.k_most,
+  same_square c.loop-e.invariant.0,
 )
 
--- The stages of the function, seen from later ones.
-abbrev start_from_loop_done : tie.After-loop invariant_loop decreases_loop → tie.Start invariant_loop decreases_loop
-start_from_loop_done c = c.before.before.before.before.before
+now : (c : tie.In-loop-e invariant_loop decreases_loop)
+    → Turn c.args.p.candidates c.args.p.candidates
+    c.loop-e.e
+now c = turn refl c.requires.ready.kept.ranked.k_most
+    (omega (arith, c.loop-e-test.true, same_square c.loop-e.invariant.0))
 
-abbrev start_from_round : tie.In-loop invariant_loop decreases_loop → tie.Start invariant_loop decreases_loop
-start_from_round c = c.before.before.before.before.before
-
-abbrev start_from_words : tie.After-words invariant_loop decreases_loop → tie.Start invariant_loop decreases_loop
-start_from_words c = start_from_round c.before.before.before.before.before.before
-
-abbrev loop_reached_from_words : tie.After-words invariant_loop decreases_loop → tie.At-loop invariant_loop decreases_loop
-loop_reached_from_words c = c.before.before.before.before.before.before.before
-
-abbrev round_from_words : tie.After-words invariant_loop decreases_loop → tie.In-loop invariant_loop decreases_loop
-round_from_words c = c.before.before.before.before.before.before
-
-now : (c : tie.In-loop invariant_loop decreases_loop)
-    → Turn (start_from_round c).args.p.candidates (start_from_round c).args.p.candidates
-    c.before.loop.e
-now c = turn refl (start_from_round c).pre.ready.kept.ranked.k_most
-    (omega (arith, c.loop-test.true, same_square c.before.loop.invariant.0))
-
-path_entry_requires : tie.Need-path-entry-requires invariant_loop decreases_loop
+path_entry_requires : tie.Need-path_entry-next-requires invariant_loop decreases_loop
 path_entry_requires c κs =
-    let a = (start_from_round c.before.before).args in
+    let a = c.args in
     let k = a.p.candidates in
-    let l = c.before.before.before.loop in
+    let l = c.loop-e in
     let t = now c.before.before in
     let block = stage_block a.w a.table.now k a.p.digits a.m a.links.now a.words.now in
     let same = now_agree a.w a.table.now k a.p.digits a.m a.links.now a.words.now l.e
-    l.words l.invariant.3 (start_from_round c.before.before).pre.stage t.few l.next.wire in
+    l.words l.invariant.3 c.requires.stage t.few l.next.wire in
     record {
       entry = record {
         kept = record {
-          ranked = (start_from_round c.before.before).pre.ready.kept.ranked;
+          ranked = c.requires.ready.kept.ranked;
           words_long = l.invariant.3.long;
-          wires_long = (start_from_round c.before.before).pre.ready.kept.wires_long;
+          wires_long = c.requires.ready.kept.wires_long;
           below = now_below a.w a.table.now k a.p.digits a.m a.links.now a.words.now l.e
               l.words l.invariant.3 l.table l.next l.invariant.2
-              (start_from_round c.before.before).pre.ready.kept.below;
+              c.requires.ready.kept.below;
         };
         number = t.few;
         room = room_less l.next _ _ (omega (arith, ap length same))
             (table_room a.w a.table.now k block l.e l.table l.next t.few
-            (start_from_round c.before.before).pre.ready.room l.invariant.2);
+            c.requires.ready.room l.invariant.2);
       };
-      stage = (start_from_round c.before.before).pre.stage;
+      stage = c.requires.stage;
     }
 
-add_e : tie.Need-overflow-add-e invariant_loop decreases_loop
-add_e c = omega (arith, (now (round_from_words c.before)).small)
+add_e : tie.Need-overflow_add-e invariant_loop decreases_loop
+add_e c = omega (arith, (now c.before.before.before.before.before.before.before).small)
 
-loop_less : tie.Need-loop-smaller invariant_loop decreases_loop
-loop_less c = omega (arith, (now (round_from_words c.before)).few)
+loop_less : tie.Need-loop-e-smaller invariant_loop decreases_loop
+loop_less c = omega (arith, (now c.before.before.before.before.before.before.before).few)
 
-loop_again : tie.Need-loop-preserved invariant_loop decreases_loop
+loop_again : tie.Need-loop-e-preserved invariant_loop decreases_loop
 loop_again c =
-    let a = (start_from_words c.before).args in
+    let a = c.args in
     let k = a.p.candidates in
-    let l = (loop_reached_from_words c.before).loop in
-    let t = now (round_from_words c.before) in
-    let h = c.before.before.before.before.path-entry in
+    let l = c.loop-e in
+    let t = now c.before.before.before.before.before.before.before in
+    let h = c.path_entry-next in
     let block = stage_block a.w a.table.now k a.p.digits a.m a.links.now a.words.now in
     let same = now_agree a.w a.table.now k a.p.digits a.m a.links.now a.words.now l.e
-    l.words l.inv.3 (start_from_words c.before).pre.stage t.few l.next.wire in
-    let more = table_next a.w a.table.now k block l.e l.table l.next h.new.1.0 h.result
-    l.inv.2 (wrote_as l.next l.table _ _ h.new.1.0 h.result same h.ensures.wrote) in (
-      l.inv.0,
+    l.words l.invariant.3 c.requires.stage t.few l.next.wire in
+    let more = table_next a.w a.table.now k block l.e l.table l.next h.new.table h.result
+    l.invariant.2 (wrote_as l.next l.table _ _ h.new.table h.result same h.ensures.wrote) in (
+      l.invariant.0,
       omega (arith, t.few),
       more,
       kept_next k (stays a.m) (stage_end a.w a.table.now k a.p.digits a.m a.links.now
-          a.words.now) a.words.now l.e l.words h.new.1.1.1.0
-          (h.result.wire - suc a.p.digits) t.few t.small l.inv.3 h.ensures.kept
+          a.words.now) a.words.now l.e l.words h.new.words
+          (h.result.wire - suc a.p.digits) t.few t.small l.invariant.3 h.ensures.kept
           (ap (λ (x : ℕ). x - suc a.p.digits)
-          (end_here a.w a.table.now k block l.e (l.e / k) (l.e % k) h.new.1.0 h.result
+          (end_here a.w a.table.now k block l.e (l.e / k) (l.e % k) h.new.table h.result
           t.number more)),
     )
 
-same_length : tie.Need-same-length invariant_loop decreases_loop
-same_length c = c.before.loop.invariant.2.long
+same_length : tie.Need-shape_of-table invariant_loop decreases_loop
+same_length c = c.loop-e.invariant.2.long
 
-same_length_2 : tie.Need-same-length-2 invariant_loop decreases_loop
-same_length_2 c = c.before.loop.invariant.3.long ∙ sym (start_from_loop_done c).pre.ready.kept.words_long
+same_length_2 : tie.Need-shape_of-words invariant_loop decreases_loop
+same_length_2 c = c.loop-e.invariant.3.long ∙ sym c.requires.ready.kept.words_long
 
 returns : tie.Need-returns invariant_loop decreases_loop
 returns c =
-    let a = (start_from_loop_done c).args in
+    let a = c.args in
     let k = a.p.candidates in
-    let l = c.before.loop in
-    let all : k * k ≤ l.e = omega (arith, c.loop-test.false, same_square l.invariant.0) in
+    let l = c.loop-e in
+    let all : k * k ≤ l.e = omega (arith, c.loop-e-test.false, same_square l.invariant.0) in
     record {
       wrote = table_end a.w a.table.now k
           (stage_block a.w a.table.now k a.p.digits a.m a.links.now a.words.now) l.e

@@ -24,107 +24,94 @@ block p = votes_block p.candidates p.ballots p.digits
 abbrev end : ℕ → Ranks → ℕ → ℕ → ℕ
 end wire p i j = entry_end wire p.candidates (block p) i j - suc p.digits
 
-abbrev invariant_loop : tie.invariant-loop
+abbrev invariant_loop : tie.invariant-loop-e
 invariant_loop table₀ words₀ p k next₀ e₀ table words next e =
     (k ≡ p.candidates) × (e ≤ p.candidates * p.candidates)
     × TableTo next₀ table₀ p.candidates (block p) e table next
     × KeptTo p.candidates eqb (end next₀.wire p) words₀ e words
 
-abbrev decreases_loop : tie.decreases-loop
+abbrev decreases_loop : tie.decreases-loop-e
 decreases_loop table₀ words₀ p k next₀ e₀ table words next e = p.candidates * p.candidates - e
 
-loop_holds : tie.Need-loop-init invariant_loop decreases_loop
+loop_holds : tie.Need-loop-e-init invariant_loop decreases_loop
 loop_holds c =
-    let a = c.before.before.args in (
+    let a = c.args in (
       refl,
       omega arith,
       table_start a.w a.table.now a.p.candidates (block a.p),
-      kept_start a.p.candidates eqb (end a.w.wire a.p) a.words.now c.before.before.requires.words_long,
+      kept_start a.p.candidates eqb (end a.w.wire a.p) a.words.now c.requires.words_long,
     )
 
-mul_loop : tie.Need-overflow-mul-loop invariant_loop decreases_loop
+mul_loop : tie.Need-overflow_mul-k invariant_loop decreases_loop
 mul_loop c = omega (
   arith,
-  square_small c.before.before.before.args.p.candidates
-      c.before.before.before.requires.ranked.k_most,
-  same_square c.loop.invariant.0,
+  square_small c.args.p.candidates
+      c.requires.ranked.k_most,
+  same_square c.loop-e.invariant.0,
 )
 
-now : (c : tie.In-loop invariant_loop decreases_loop)
-    → Turn c.before.before.before.before.args.p.candidates
-    c.before.before.before.before.args.p.candidates c.before.loop.e
-now c = turn refl c.before.before.before.before.requires.ranked.k_most
-    (omega (arith, c.loop-test.true, same_square c.before.loop.invariant.0))
+now : (c : tie.In-loop-e invariant_loop decreases_loop)
+    → Turn c.args.p.candidates
+    c.args.p.candidates c.loop-e.e
+now c = turn refl c.requires.ranked.k_most
+    (omega (arith, c.loop-e-test.true, same_square c.loop-e.invariant.0))
 
--- The stages of the function, seen from later ones.
-abbrev start_from_votes_entry_arg2 : tie.After-votes-entry-arg2 invariant_loop decreases_loop → tie.Start invariant_loop decreases_loop
-start_from_votes_entry_arg2 c = c.before.before.before.before.before.before
-
-abbrev start_from_words : tie.After-words invariant_loop decreases_loop → tie.Start invariant_loop decreases_loop
-start_from_words c = start_from_votes_entry_arg2 c.before.before.before.before
-
-abbrev loop_reached_from_words : tie.After-words invariant_loop decreases_loop → tie.At-loop invariant_loop decreases_loop
-loop_reached_from_words c = c.before.before.before.before.before.before.before
-
-abbrev round_from_words : tie.After-words invariant_loop decreases_loop → tie.In-loop invariant_loop decreases_loop
-round_from_words c = c.before.before.before.before.before.before
-
-votes_entry_requires : tie.Need-votes-entry-requires invariant_loop decreases_loop
+votes_entry_requires : tie.Need-votes_entry-next-requires invariant_loop decreases_loop
 votes_entry_requires c κs =
-    let a = (start_from_votes_entry_arg2 c).args in
-    let l = c.before.before.before.loop in
+    let a = c.args in
+    let l = c.loop-e in
     let t = now c.before.before in
     record {
-      ranked = (start_from_votes_entry_arg2 c).pre.ranked;
+      ranked = c.requires.ranked;
       room = table_room a.w a.table.now a.p.candidates (block a.p) l.e l.table l.next
-          t.few (start_from_votes_entry_arg2 c).pre.room l.invariant.2;
+          t.few c.requires.room l.invariant.2;
       number = t.few;
       ballots_below = omega (
         arith,
         table_from a.w a.table.now a.p.candidates (block a.p) l.e
             l.table l.next l.invariant.2,
-        (start_from_votes_entry_arg2 c).pre.ballots_below,
+        c.requires.ballots_below,
       );
       words_long = l.invariant.3.long;
     }
 
-add_e : tie.Need-overflow-add-e invariant_loop decreases_loop
-add_e c = omega (arith, (now (round_from_words c.before)).small)
+add_e : tie.Need-overflow_add-e invariant_loop decreases_loop
+add_e c = omega (arith, (now c.before.before.before.before.before.before.before).small)
 
-loop_less : tie.Need-loop-smaller invariant_loop decreases_loop
-loop_less c = omega (arith, (now (round_from_words c.before)).few)
+loop_less : tie.Need-loop-e-smaller invariant_loop decreases_loop
+loop_less c = omega (arith, (now c.before.before.before.before.before.before.before).few)
 
-loop_again : tie.Need-loop-preserved invariant_loop decreases_loop
+loop_again : tie.Need-loop-e-preserved invariant_loop decreases_loop
 loop_again c =
-    let a = (start_from_words c.before).args in
+    let a = c.args in
     let k = a.p.candidates in
-    let l = (loop_reached_from_words c.before).loop in
-    let t = now (round_from_words c.before) in
-    let h = c.before.before.before.before.votes-entry in
-    let more = table_next a.w a.table.now k (block a.p) l.e l.table l.next h.new.1.0
-    h.result l.inv.2 h.ensures.wrote in (
-      l.inv.0,
+    let l = c.loop-e in
+    let t = now c.before.before.before.before.before.before.before in
+    let h = c.votes_entry-next in
+    let more = table_next a.w a.table.now k (block a.p) l.e l.table l.next h.new.table
+    h.result l.invariant.2 h.ensures.wrote in (
+      l.invariant.0,
       omega (arith, t.few),
       more,
-      kept_next k eqb (end a.w.wire a.p) a.words.now l.e l.words h.new.1.1.0
-          (h.result.wire - suc a.p.digits) t.few t.small l.inv.3 h.ensures.kept
+      kept_next k eqb (end a.w.wire a.p) a.words.now l.e l.words h.new.words
+          (h.result.wire - suc a.p.digits) t.few t.small l.invariant.3 h.ensures.kept
           (ap (λ (x : ℕ). x - suc a.p.digits)
-          (end_here a.w a.table.now k (block a.p) l.e (l.e / k) (l.e % k) h.new.1.0
+          (end_here a.w a.table.now k (block a.p) l.e (l.e / k) (l.e % k) h.new.table
           h.result t.number more)),
     )
 
-same_length : tie.Need-same-length invariant_loop decreases_loop
-same_length c = c.before.loop.invariant.2.long
+same_length : tie.Need-shape_of-table invariant_loop decreases_loop
+same_length c = c.loop-e.invariant.2.long
 
-same_length_2 : tie.Need-same-length-2 invariant_loop decreases_loop
-same_length_2 c = c.before.loop.invariant.3.long ∙ sym c.before.before.before.before.requires.words_long
+same_length_2 : tie.Need-shape_of-words invariant_loop decreases_loop
+same_length_2 c = c.loop-e.invariant.3.long ∙ sym c.requires.words_long
 
 returns : tie.Need-returns invariant_loop decreases_loop
 returns c =
-    let a = c.before.before.before.before.args in
+    let a = c.args in
     let k = a.p.candidates in
-    let l = c.before.loop in
-    let all : k * k ≤ l.e = omega (arith, c.loop-test.false, same_square l.invariant.0) in
+    let l = c.loop-e in
+    let all : k * k ≤ l.e = omega (arith, c.loop-e-test.false, same_square l.invariant.0) in
     let u = kept_end k eqb (end a.w.wire a.p) a.words.now l.e l.words all l.invariant.3 in
     record {
       wrote = table_end a.w a.table.now k (block a.p) l.e l.table l.next all l.invariant.1 l.invariant.2;
