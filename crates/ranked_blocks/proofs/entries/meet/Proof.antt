@@ -9,8 +9,6 @@ use Rattle.ranked_circuit.specs.Contests.{meeting}
 use Rattle.ranked_blocks.proofs.entries.meet.Statement.{statement}
 use Rattle.ranked_blocks.proofs.entries.meet.Tie as tie
 
--- the start, after the last candidate's words were read, and after all six wires were
-
 -- the candidates i, j and l
 pub record Three (k i j : ℕ) : Type 0 where
   pub last : k - 1 < k

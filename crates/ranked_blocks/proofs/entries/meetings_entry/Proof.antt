@@ -16,8 +16,6 @@ use Rattle.ranked_blocks.proofs.Entering.{Place, place, index_small, not_later, 
 use Rattle.ranked_blocks.proofs.entries.meetings_entry.Statement.{statement}
 use Rattle.ranked_blocks.proofs.entries.meetings_entry.Tie as tie
 
--- the start; after the tests, after the block, and after the first of its wires was kept
-
 -- What is known after the tests: the row is the later candidate's and has a block.
 pub record Facts (k e : ℕ) : Type 0 where
   pub here : Place k e

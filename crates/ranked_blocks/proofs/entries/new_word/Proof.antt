@@ -16,8 +16,6 @@ use Rattle.ranked_blocks.proofs.Entering.{apart_later, new_zero, new_first, new_
 use Rattle.ranked_blocks.proofs.entries.new_word.Statement.{statement}
 use Rattle.ranked_blocks.proofs.entries.new_word.Tie as tie
 
--- the start, after the link and the word were read, and after the parts of the way and the cut were
-
 abbrev cut_of : tie.Start → ℕ
 cut_of s = cut_at s.args.p.candidates s.args.p.digits s.args.m s.args.i s.args.j
 

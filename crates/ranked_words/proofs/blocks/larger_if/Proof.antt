@@ -17,8 +17,6 @@ use Rattle.ranked_words.proofs.Cutting.{cut_end_lem}
 use Rattle.ranked_words.proofs.blocks.larger_if.Statement.{statement}
 use Rattle.ranked_words.proofs.blocks.larger_if.Tie as tie
 
--- the start, after the order, and after its last wire was found
-
 order_cut_requires : tie.Need-order_cut-told-requires
 order_cut_requires c κs =
     let s = c in

@@ -14,8 +14,6 @@ use Rattle.ranked_words.proofs.Cutting.{cut_end_lem}
 use Rattle.ranked_words.proofs.blocks.one_of.Statement.{statement}
 use Rattle.ranked_words.proofs.blocks.one_of.Tie as tie
 
--- the start, and after the order
-
 order_cut_requires : tie.Need-order_cut-told-requires
 order_cut_requires c κs =
     let s = c in

@@ -18,8 +18,6 @@ use Rattle.ranked_words.proofs.Cutting.{cut_zero, cut_some}
 use Rattle.ranked_words.proofs.blocks.order_cut.Statement.{statement}
 use Rattle.ranked_words.proofs.blocks.order_cut.Tie as tie
 
--- the start, after the low digits, after the wires of the answers were found, and after the high digits
-
 -- one chain
 order_requires : tie.Need-order-requires
 order_requires c κs =

@@ -11,8 +11,6 @@ use Rattle.ranked_words.proofs.Cutting.{smaller_is, larger_is, smaller_long}
 use Rattle.ranked_words.proofs.blocks.path_or_way.Statement.{statement}
 use Rattle.ranked_words.proofs.blocks.path_or_way.Tie as tie
 
--- the start, and after the way
-
 one_of_requires : tie.Need-one_of-weaker-requires
 one_of_requires c κs =
     let s = c in

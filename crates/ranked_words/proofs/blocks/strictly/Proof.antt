@@ -16,8 +16,6 @@ use Rattle.ranked_circuit.specs.Blocks.{strictly}
 use Rattle.ranked_words.proofs.blocks.strictly.Statement.{statement}
 use Rattle.ranked_words.proofs.blocks.strictly.Tie as tie
 
--- the start, after the lowest digits, and after the differences
-
 emit_requires : tie.Need-emit-lowest-requires
 emit_requires c κs = room_less c.args.w _ _ (omega arith) c.requires.room
 

@@ -10,8 +10,6 @@ use Rattle.gate_words.proofs.Standing.{Stands, stands, stands_after, room_of}
 use Rattle.ranked_words.proofs.meeting.decide.Statement.{statement}
 use Rattle.ranked_words.proofs.meeting.decide.Tie as tie
 
--- the start, and after each gate
-
 emit_requires : tie.Need-emit-forth-requires
 emit_requires c κs = room_less c.args.w _ _ (omega arith) c.requires.room
 

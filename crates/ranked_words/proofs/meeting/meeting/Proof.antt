@@ -15,8 +15,6 @@ use Rattle.ranked_circuit.proofs.BlockLaws.{length_whole, length_strictly}
 use Rattle.ranked_words.proofs.meeting.meeting.Statement.{statement}
 use Rattle.ranked_words.proofs.meeting.meeting.Tie as tie
 
--- the start, and after each comparison
-
 -- the numbers of gates of a comparison both ways, and of one way
 abbrev both : ℕ → ℕ
 both w = 3 + 3 * w

@@ -19,8 +19,6 @@ use Rattle.ranked_writer.proofs.Parts.{list_parts, list_long, duels_from_lem, lo
 use Rattle.ranked_writer.proofs.list.circuit.Statement.{statement}
 use Rattle.ranked_writer.proofs.list.circuit.Tie as tie
 
--- the start, and after each part of the list
-
 -- what is known from the start
 pub record Known (p : Ranks) : Type 0 where
   pub two : p.candidates ≡ suc (suc (p.candidates - 2))

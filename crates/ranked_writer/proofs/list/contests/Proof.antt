@@ -15,8 +15,6 @@ use Rattle.ranked_writer.proofs.Parts.{kept_below, duels_from_lem, meetings_from
 use Rattle.ranked_writer.proofs.list.contests.Statement.{statement}
 use Rattle.ranked_writer.proofs.list.contests.Tie as tie
 
--- the start, and after each table
-
 -- the table of duels is that of the definition
 same : (s : tie.Start) → table s.args.w.wire s.args.p.candidates
     (links_block (s.args.p.candidates - 1) (kept_of s.args.words.now s.args.p.candidates)

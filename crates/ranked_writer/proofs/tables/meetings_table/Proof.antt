@@ -40,8 +40,6 @@ invariant_loop table₀ words wires₀ p k next₀ e₀ table wires next e =
 abbrev decreases_loop : tie.decreases-loop-e
 decreases_loop table₀ words wires₀ p k next₀ e₀ table wires next e = p.candidates * p.candidates - e
 
--- the start, seen from the loop and from its turn, and the turn seen from its end
-
 abbrev block_at : tie.Start invariant_loop decreases_loop → ℕ → ℕ → ℕ → List Gate
 block_at s = block s.args.p s.args.words.now s.args.met.now
 

@@ -61,8 +61,6 @@ ready c i h =
       second_columns = c.requires.columns c.first_winner-first.result inside;
     }
 
--- The first winner is found, seen from each closing byte.
-
 closing_byte_requires : tie.Need-closing_byte-requires
 closing_byte_requires c κs = ready c 0 (omega arith)
 
