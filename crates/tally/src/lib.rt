@@ -1,4 +1,6 @@
 // The counting core's entry points.
+#![tactic(auto)]
+
 pub mod answer;
 pub mod count;
 pub mod measure;

@@ -6,7 +6,6 @@ use mathlib.Core.List.{[], ◌∷◌}
 use Prim.Native.Nat.{ℕ}
 use lib.ListN.{length}
 use borrow.Author.Rules.{rules}
-use borrow.Author.Tests.{not-true, not-false}
 use Rattle.gates.specs.Board.{conditional_count}
 use Rattle.jury.specs.declared.shape.Shape.{Shape}
 use Rattle.jury.specs.Shape.{within_limits, ballot_bytes}
@@ -33,31 +32,31 @@ measured : (s : Shape) (gates conditional inputs : ℕ) → gates ≡ length (ow
 unfolding measures_of
 measured s gates conditional inputs g c i = rw (g, c, i)
 
-is_within_limits_requires : tie.Need-is-within-limits-requires
+is_within_limits_requires : tie.Need-is_within_limits-requires
 is_within_limits_requires c κs = search rules
 
-returns : tie.Need-returns
+returns : tie.Need-returns-then-not-is_within_limits
 unfolding measured_by reason_of
-returns c = sym (outside c.before.before.args.shape
-    (sym c.before.is-within-limits.ensures ∙ not-true c.before.is-within-limits.result c.if1.true))
+returns c = sym (outside c.args.shape
+    (sym c.is_within_limits.ensures ∙ c.if-not-is_within_limits.true))
 
 -- the shape is within its limits
-limits : (c : tie.Else1) → within_limits c.before.before.args.shape ≡ true
-limits c = sym c.before.is-within-limits.ensures ∙ not-false c.before.is-within-limits.result c.if1.false
+limits : (c : tie.Else-not-is_within_limits) → within_limits c.args.shape ≡ true
+limits c = sym c.is_within_limits.ensures ∙ c.if-not-is_within_limits.false
 
-measure_requires : tie.Need-measure-requires
-measure_requires c κs = true_T (within_limits c.before.before.args.shape) (limits c)
+measure_requires : tie.Need-measure-end-requires
+measure_requires c κs = true_T (within_limits c.args.shape) (limits c)
 
-ballot_bytes_requires : tie.Need-ballot-bytes-requires
-ballot_bytes_requires c κs = true_T (within_limits c.before.before.before.args.shape) (limits c.before)
+ballot_bytes_requires : tie.Need-ballot_bytes-requires
+ballot_bytes_requires c κs = true_T (within_limits c.args.shape) (limits c.before)
 
-returns_2 : tie.Need-returns-2
+returns_2 : tie.Need-returns
 unfolding measured_by
 returns_2 c =
-    let s = c.before.before.before.before.args.shape in
-    ap accepted (measured s c.before.measure.result.gate c.before.measure.result.conditional
-    c.ballot-bytes.result c.before.measure.ensures.gates c.before.measure.ensures.conditionals
-    c.ballot-bytes.ensures) ∙ sym (inside s (limits c.before.before))
+    let s = c.args.shape in
+    ap accepted (measured s c.measure-end.result.gate c.measure-end.result.conditional
+    c.ballot_bytes.result c.measure-end.ensures.gates c.measure-end.ensures.conditionals
+    c.ballot_bytes.ensures) ∙ sym (inside s (limits c.before.before))
 
 pub measure_spec : {M : Type 1} → statement M
 measure_spec =

@@ -14,30 +14,30 @@ use Rattle.tally.proofs.OwnList.{own_graded}
 use Rattle.tally.proofs.own.gates.Statement.{statement}
 use Rattle.tally.proofs.own.gates.Tie as tie
 
-is_ranking_requires : tie.Need-is-ranking-requires
+is_ranking_requires : tie.Need-is_ranking-requires
 is_ranking_requires c κs = search rules
 
 measure_requires : tie.Need-measure-requires
 measure_requires c κs = search rules
 
-returns : tie.Need-returns
+returns : tie.Need-returns-then-is_ranking
 returns c = search rules
 
 -- the candidates are graded
-grading : (c : tie.Else1) → is_ranking c.before.before.args.shape ≡ false
-grading c = sym c.before.is-ranking.ensures ∙ c.if1.false
+grading : (c : tie.Else-is_ranking) → is_ranking c.args.shape ≡ false
+grading c = sym c.is_ranking.ensures ∙ c.if-is_ranking.false
 
 gates_requires : tie.Need-gates-requires
 gates_requires c κs =
-    let start = c.before.before in
+    let start = c in
     let s = start.args.shape in
     true_T (graded_limits s) (graded_kind s (T_true (within_limits s) start.requires) (grading c))
 
-returns_2 : tie.Need-returns-2
+returns_2 : tie.Need-returns
 returns_2 c =
-    let told = c.before in
-    let s = told.before.before.args.shape in
-    c.gates.ensures ∙ sym (ap (λ (gs : List Gate). length gs) (own_graded s (grading told)))
+    let told = c in
+    let s = told.args.shape in
+    c.gates.ensures ∙ sym (ap (λ (gs : List Gate). length gs) (own_graded s (grading told.before)))
 
 pub gates_spec : {M : Type 1} → statement M
 gates_spec =

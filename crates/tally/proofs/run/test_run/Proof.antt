@@ -28,123 +28,107 @@ unfolding outcome
 refuses c r e = sym (ap (λ (o : Option Reason). outcome o (size_of (gates_of c.args.table.now))) e)
 
 -- the size that the test of the list answered
-size : tie.After-known-told → Size
-size c = let g = c.before.answer.given in record { gates = g.0.0; conditional = g.0.1.0 }
+size : tie.In-Accepted → Size
+size c = record { gates = c.in-Accepted.gates; conditional = c.in-Accepted.conditional }
 
--- The stages of the function, seen from later ones.
-abbrev start_from_answer : tie.After-answer → tie.Start
-start_from_answer c = c.before.before.before.before.before.before.before.before
-
-abbrev start_from_enum_told : tie.After-enum-told → tie.Start
-start_from_enum_told c = c.before.before.before.before.before.before.before.before
-
-abbrev start_from_enum_told2 : tie.After-enum-told2 → tie.Start
-start_from_enum_told2 c = start_from_answer c.before.before.before.before
-
-abbrev start_from_test_buffers : tie.After-test-buffers → tie.Start
-start_from_test_buffers c = start_from_answer c.before.before.before.before.before.before
-
-abbrev known_told_from_test_buffers : tie.After-test-buffers → tie.After-known-told
-known_told_from_test_buffers c = c.before.before.before.before.before
-
-passed : (c : tie.After-known-told) → let a = (start_from_answer c.before).args in TestPassed a.shape a.table.now (size c)
+passed : (c : tie.In-Accepted) → let a = c.args in TestPassed a.shape a.table.now (size c)
 unfolding outcome_of size
 passed c =
-    let a = (start_from_answer c.before).args in
+    let a = c.args in
     test_passed a.shape a.table.now (size c)
-    (sym c.before.before.before.test.ensures ∙ ap outcome_of c.before.answer.given.1)
+    (sym c.test-answer.ensures ∙ ap outcome_of c.in-Accepted.is)
 
 -- no reason of the ballots applies
-no_reason : (c : tie.After-enum-told2) → let a = (start_from_enum_told2 c).args in
+no_reason : (c : tie.In_default-test) → let a = c.args in
     first_of (ballot_reasons a.shape a.ballots.now) ≡ none
 unfolding refused_for
-no_reason c = sym c.before.before.test2.ensures ∙ ap refused_for c.enum-told2.given.1
+no_reason c = sym c.test.ensures ∙ ap refused_for c.in_default-test.is
 
-test_requires : tie.Need-test-requires
+test_requires : tie.Need-test-answer-requires
 test_requires c κs = search rules
 
-enum_known_answer : tie.Need-enum-known-answer
+enum_known_answer : tie.Need-enum_known-answer
 enum_known_answer c = search rules
 
-enum_told : tie.Need-enum-told
+enum_told : tie.Need-enum_told-1
 enum_told c = search rules
 
-returns : tie.Need-returns
+returns : tie.Need-returns-in_default
 unfolding outcome_of
 returns c =
-    let start = (start_from_enum_told c) in
+    let start = c in
     let a = start.args in
-    let r = reason_of c.enum_told.given.0.0 in
-    let e = ap outcome_of c.enum_told.given.1 in
-    e ∙ refuses start r (by_test a.shape a.table.now a.ballots.now a.tape.now a.wires.now
-    a.board.now r (sym c.before.before.test.ensures ∙ e))
+    let r = reason_of c.in_default.field-0 in
+    let e = ap outcome_of c.in_default.is in
+    e ∙ refuses start.before.before.before.before.before.before.before r (by_test a.shape a.table.now a.ballots.now a.tape.now a.wires.now
+    a.board.now r (sym c.test-answer.ensures ∙ e))
 
-test_requires_2 : tie.Need-test-requires-2
-test_requires_2 c κs = true_T (within_limits (start_from_answer c.before).args.shape) (passed c).within
+test_requires_2 : tie.Need-test-requires
+test_requires_2 c κs = true_T (within_limits c.args.shape) (passed c).within
 
-enum_known_reason : tie.Need-enum-known-reason
+enum_known_reason : tie.Need-enum_known-reason
 enum_known_reason c = search rules
 
-returns_2 : tie.Need-returns-2
+returns_2 : tie.Need-returns-in-Refused
 unfolding outcome_of refused_for
 returns_2 c =
-    let told = c.before.before.before.before in
-    let start = (start_from_answer told.before) in
+    let told = c in
+    let start = told in
     let a = start.args in
-    let r = reason_of c.before.reason.given.0.0 in
-    refuses start r
-    (by_ballots a.shape a.table.now a.ballots.now a.tape.now a.wires.now a.board.now (passed told).reasons r
-    (sym c.before.before.before.test2.ensures ∙ ap refused_for c.before.reason.given.1))
+    let r = reason_of c.in-Refused.reason in
+    refuses start.before.before.before.before.before.before.before.before.before r
+    (by_ballots a.shape a.table.now a.ballots.now a.tape.now a.wires.now a.board.now (passed told.before.before).reasons r
+    (sym c.test.ensures ∙ ap refused_for c.in-Refused.is))
 
-enum_told_2 : tie.Need-enum-told-2
+enum_told_2 : tie.Need-enum_told-in_default-test
 enum_told_2 c = search rules
 
-ballot_bytes_requires : tie.Need-ballot-bytes-requires
+ballot_bytes_requires : tie.Need-ballot_bytes-inputs-requires
 ballot_bytes_requires c κs =
-    let told = c.before.before.before in
-    true_T (within_limits (start_from_answer told.before).args.shape) (passed told).within
+    let told = c in
+    true_T (within_limits told.args.shape) (passed told.before.before).within
 
-test_buffers_requires : tie.Need-test-buffers-requires
+test_buffers_requires : tie.Need-test_buffers-requires
 test_buffers_requires c κs = search rules
 
-enum_known_reason_2 : tie.Need-enum-known-reason-2
+enum_known_reason_2 : tie.Need-enum_known-reason-in-Refused-test_buffers
 enum_known_reason_2 c = search rules
 
-enum_told_3 : tie.Need-enum-told-3
+enum_told_3 : tie.Need-enum_told-in-Accepted-test_buffers
 enum_told_3 c = search rules
 
 -- if the tests before have passed, the tests 7 to 10 decide
-lent_answer : (c : tie.After-test-buffers) → let a = (start_from_test_buffers c).args in
+lent_answer : (c : tie.After-test_buffers) → let a = c.args in
     first_of (run_reasons a.shape a.table.now a.ballots.now a.tape.now a.wires.now a.board.now)
-    ≡ refused_for c.test-buffers.result
+    ≡ refused_for c.test_buffers.result
 unfolding size
 lent_answer c =
-    let passes = c.before.before in
-    let told = passes.before.before.before in
-    let a = (start_from_answer told.before).args in
+    let passes = c in
+    let told = passes in
+    let a = told.args in
     by_lent a.shape a.table.now a.ballots.now a.tape.now a.wires.now a.board.now
-    (passed told).reasons (size told) (refused_for c.test-buffers.result) (passed told).size (no_reason passes)
-    (sym (c.test-buffers.ensures ∙ ap (λ (i : ℕ). first_of
-    (buffer_reasons i a.shape.candidates (size told) a.tape.now a.wires.now a.board.now))
-    c.before.ballot-bytes.ensures))
+    (passed told.before.before.before.before).reasons (size told.before.before.before.before) (refused_for c.test_buffers.result) (passed told.before.before.before.before).size (no_reason passes.before.before)
+    (sym (c.test_buffers.ensures ∙ ap (λ (i : ℕ). first_of
+    (buffer_reasons i a.shape.candidates (size told.before.before.before.before) a.tape.now a.wires.now a.board.now))
+    c.ballot_bytes-inputs.ensures))
 
-returns_3 : tie.Need-returns-3
+returns_3 : tie.Need-returns-in-Refused-test_buffers
 unfolding outcome_of refused_for
 returns_3 c =
-    let lent = c.before.before.before in
-    let start = (start_from_test_buffers lent) in
-    let r = reason_of c.before.reason2.given.0.0 in
-    refuses start r (lent_answer lent ∙ ap refused_for c.before.reason2.given.1)
+    let lent = c in
+    let start = lent in
+    let r = reason_of c.in-Refused-test_buffers.reason in
+    refuses start.before.before.before.before.before.before.before.before.before.before.before.before r (lent_answer lent.before ∙ ap refused_for c.in-Refused-test_buffers.is)
 
-returns_4 : tie.Need-returns-4
+returns_4 : tie.Need-returns-in-Accepted-test_buffers
 unfolding test_outcome refused_for
 returns_4 c =
-    let lent = c.before.before in
-    let told = (known_told_from_test_buffers lent) in
-    let a = (start_from_answer told.before).args in
-    let none_applies = lent_answer lent ∙ ap refused_for c.enum-told3.given.1 in
-    sym (ap outcome_of told.before.answer.given.1) ∙ told.before.before.before.test.ensures
-    ∙ ap (λ (o : Option Reason). outcome o (size_of (gates_of a.table.now))) ((passed told).reasons ∙ sym none_applies)
+    let lent = c in
+    let told = lent in
+    let a = told.args in
+    let none_applies = lent_answer lent.before ∙ ap refused_for c.in-Accepted-test_buffers.is in
+    sym (ap outcome_of told.in-Accepted.is) ∙ told.test-answer.ensures
+    ∙ ap (λ (o : Option Reason). outcome o (size_of (gates_of a.table.now))) ((passed told.before.before.before.before.before).reasons ∙ sym none_applies)
 
 pub test_run_spec : {M : Type 1} → statement M
 test_run_spec =

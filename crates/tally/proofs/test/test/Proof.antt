@@ -5,7 +5,6 @@ use mathlib.Core.Path.{◌≡◌, ◌∙◌, refl, sym, ap}
 use mathlib.Core.Bool.{true}
 use Prim.Native.Nat.{ℕ}
 use borrow.Author.Rules.{rules}
-use borrow.Author.Tests.{not-true, not-false}
 use Rattle.gates.specs.Test.{tested}
 use Rattle.jury.specs.Shape.{within_limits, ballot_bytes}
 use Rattle.jury.specs.Reason.{reason_of, reason_at, list_reason}
@@ -16,88 +15,82 @@ use Rattle.tally.proofs.TestReasons.{outside_list, list_refused, list_accepted}
 use Rattle.tally.proofs.test.test.Statement.{statement}
 use Rattle.tally.proofs.test.test.Tie as tie
 
-is_within_limits_requires : tie.Need-is-within-limits-requires
+is_within_limits_requires : tie.Need-is_within_limits-requires
 is_within_limits_requires c κs = search rules
 
-returns : tie.Need-returns
+returns : tie.Need-returns-then-not-is_within_limits
 unfolding outcome_of reason_of
 returns c =
-    let a = c.before.before.before.args in
+    let a = c.args in
     sym (outside_list a.shape a.table.now
-    (sym c.before.is-within-limits.ensures ∙ not-true c.before.is-within-limits.result c.if1.true))
+    (sym c.is_within_limits.ensures ∙ c.if-not-is_within_limits.true))
 
 -- the shape is within its limits
-limits : (c : tie.Else1) → within_limits c.before.before.before.args.shape ≡ true
-limits c = sym c.before.is-within-limits.ensures ∙ not-false c.before.is-within-limits.result c.if1.false
+limits : (c : tie.Else-not-is_within_limits) → within_limits c.args.shape ≡ true
+limits c = sym c.is_within_limits.ensures ∙ c.if-not-is_within_limits.false
 
-ballot_bytes_requires : tie.Need-ballot-bytes-requires
-ballot_bytes_requires c κs = true_T (within_limits c.before.before.before.args.shape) (limits c)
+ballot_bytes_requires : tie.Need-ballot_bytes-requires
+ballot_bytes_requires c κs = true_T (within_limits c.args.shape) (limits c)
 
 test_requires : tie.Need-test-requires
 test_requires c κs = search rules
 
--- The stages of the function, seen from later ones.
-abbrev start_from_test : tie.After-test → tie.Start
-start_from_test c = c.before.before.before.before.before
-
 -- the gate layer's answer is that of its definition, for the shape's inputs and outputs
-answer : (c : tie.After-test) → let a = (start_from_test c).args in
+answer : (c : tie.After-test) → let a = c.args in
     tested (ballot_bytes a.shape) a.shape.candidates a.table.now ≡ c.test.result
 answer c =
-    let a = (start_from_test c).args in
-    sym (c.test.ensures ∙ ap (λ (n : ℕ). tested n a.shape.candidates a.table.now) c.before.ballot-bytes.ensures)
+    let a = c.args in
+    sym (c.test.ensures ∙ ap (λ (n : ℕ). tested n a.shape.candidates a.table.now) c.ballot_bytes.ensures)
 
-enum_known_gates : tie.Need-enum-known-gates
+enum_known_gates : tie.Need-enum_known-gates
 enum_known_gates c = search rules
 
-enum_told : tie.Need-enum-told
+enum_told : tie.Need-enum_told-1
 enum_told c = search rules
 
-enum_told_2 : tie.Need-enum-told-2
+enum_told_2 : tie.Need-enum_told-in-TooFewGates
 enum_told_2 c = search rules
 
-enum_told_3 : tie.Need-enum-told-3
+enum_told_3 : tie.Need-enum_told-in-TooManyGates
 enum_told_3 c = search rules
 
-enum_known_g : tie.Need-enum-known-g
+enum_known_g : tie.Need-enum_known-g
 enum_known_g c = search rules
 
-returns_2 : tie.Need-returns-2
+returns_2 : tie.Need-returns-in-Accepted
 unfolding outcome_of
 returns_2 c =
-    let t = c.before.before.before in
-    let a = (start_from_test t).args in
-    let g = c.before.gates.given in
-    sym (list_accepted a.shape a.table.now (limits t.before.before) g.0.0 g.0.1.0 (answer t ∙ g.1))
+    let t = c in
+    let a = t.args in
+    sym (list_accepted a.shape a.table.now (limits t.before.before.before) c.in-Accepted.gates c.in-Accepted.conditional (answer t.before ∙ c.in-Accepted.is))
 
-returns_3 : tie.Need-returns-3
+returns_3 : tie.Need-returns-in-PartOfAGate
 unfolding outcome_of reason_of list_reason
 returns_3 c =
-    let t = c.before.before in
-    let a = (start_from_test t).args in
-    sym (list_refused a.shape a.table.now (limits t.before.before) _ (reason_at 2 0) (answer t ∙ c.enum_told.given.1) refl)
+    let t = c in
+    let a = t.args in
+    sym (list_refused a.shape a.table.now (limits t.before.before.before) _ (reason_at 2 0) (answer t.before ∙ c.in-PartOfAGate.is) refl)
 
-returns_4 : tie.Need-returns-4
+returns_4 : tie.Need-returns-in-TooFewGates
 unfolding outcome_of reason_of list_reason
 returns_4 c =
-    let t = c.before.before in
-    let a = (start_from_test t).args in
-    sym (list_refused a.shape a.table.now (limits t.before.before) _ (reason_at 2 0) (answer t ∙ c.enum-told2.given.1) refl)
+    let t = c in
+    let a = t.args in
+    sym (list_refused a.shape a.table.now (limits t.before.before.before) _ (reason_at 2 0) (answer t.before ∙ c.in-TooFewGates.is) refl)
 
-returns_5 : tie.Need-returns-5
+returns_5 : tie.Need-returns-in-TooManyGates
 unfolding outcome_of reason_of list_reason
 returns_5 c =
-    let t = c.before.before in
-    let a = (start_from_test t).args in
-    sym (list_refused a.shape a.table.now (limits t.before.before) _ (reason_at 2 0) (answer t ∙ c.enum-told3.given.1) refl)
+    let t = c in
+    let a = t.args in
+    sym (list_refused a.shape a.table.now (limits t.before.before.before) _ (reason_at 2 0) (answer t.before ∙ c.in-TooManyGates.is) refl)
 
-returns_6 : tie.Need-returns-6
+returns_6 : tie.Need-returns-in-BadGate
 unfolding outcome_of reason_of list_reason
 returns_6 c =
-    let t = c.before.before.before in
-    let a = (start_from_test t).args in
-    let g = c.before.g.given in
-    sym (list_refused a.shape a.table.now (limits t.before.before) _ (reason_at 3 g.0.0) (answer t ∙ g.1) refl)
+    let t = c in
+    let a = t.args in
+    sym (list_refused a.shape a.table.now (limits t.before.before.before) _ (reason_at 3 c.in-BadGate.g) (answer t.before ∙ c.in-BadGate.is) refl)
 
 pub test_spec : {M : Type 1} → statement M
 test_spec =

@@ -8,7 +8,7 @@ use native.Mathlib.Omega.{arith}
 use lib.Dec.{T}
 use lib.ListN.{length}
 use borrow.Author.Rules.{rules}
-use borrow.Author.Tests.{not-true, not-false, le-leb, lt-leb}
+use borrow.Author.Tests.{le-leb, lt-leb}
 use Rattle.gates.specs.Board.{conditional_count}
 use Rattle.jury.specs.declared.shape.Shape.{Shape}
 use Rattle.jury.specs.Shape.{within_limits}
@@ -35,67 +35,63 @@ sized s gates conditional e f =
     ap (λ (n : ℕ). accepted (record { gates = n; conditional = conditional })) g
     ∙ ap (λ (n : ℕ). accepted (record { gates = length (own_list s); conditional = n })) c
 
-is_within_limits_requires : tie.Need-is-within-limits-requires
+is_within_limits_requires : tie.Need-is_within_limits-requires
 is_within_limits_requires c κs = search rules
 
-returns : tie.Need-returns
+returns : tie.Need-returns-then-not-is_within_limits
 unfolding outcome_of reason_of
 returns c =
-    let a = c.before.before.before.args in
+    let a = c.args in
     let r = write_refused a.shape a.table.now (reason_at 1 0)
     (outside a.shape a.table.now
-    (sym c.before.is-within-limits.ensures ∙ not-true c.before.is-within-limits.result c.if1.true)) in
+    (sym c.is_within_limits.ensures ∙ c.if-not-is_within_limits.true)) in
     record { answers = sym r.0; leaves = sym r.1; own_list = holds a.shape }
 
 -- the shape is within its limits
-limits : (c : tie.Else1) → within_limits c.before.before.before.args.shape ≡ true
-limits c = sym c.before.is-within-limits.ensures ∙ not-false c.before.is-within-limits.result c.if1.false
+limits : (c : tie.Else-not-is_within_limits) → within_limits c.args.shape ≡ true
+limits c = sym c.is_within_limits.ensures ∙ c.if-not-is_within_limits.false
 
 gates_requires : tie.Need-gates-requires
-gates_requires c κs = true_T (within_limits c.before.before.before.args.shape) (limits c)
+gates_requires c κs = true_T (within_limits c.args.shape) (limits c)
 
-returns_2 : tie.Need-returns-2
+returns_2 : tie.Need-returns-then-table-gates
 unfolding outcome_of reason_of
 returns_2 c =
-    let measured = c.before in
-    let within = measured.before in
-    let a = within.before.before.before.args in
+    let measured = c in
+    let within = measured in
+    let a = within.args in
     let short = lt-leb (4 * length (own_list a.shape)) (length a.table.now)
-    (omega (arith, c.if2.true, measured.gates.ensures)) in
-    let r = write_refused a.shape a.table.now (reason_at 2 0) (too_short a.shape a.table.now (limits within) short) in
+    (omega (arith, c.if-table-gates.true, measured.gates.ensures)) in
+    let r = write_refused a.shape a.table.now (reason_at 2 0) (too_short a.shape a.table.now (limits within.before.before) short) in
     record { answers = sym r.0; leaves = sym r.1; own_list = holds a.shape }
 
--- The stages of the function, seen from later ones.
-abbrev start_from_else2 : tie.Else2 → tie.Start
-start_from_else2 c = c.before.before.before.before.before
-
 -- the table has room
-room : (c : tie.Else2) → let a = (start_from_else2 c).args in 4 * length (own_list a.shape) ≤ length a.table.now
+room : (c : tie.Else-table-gates) → let a = c.args in 4 * length (own_list a.shape) ≤ length a.table.now
 room c =
-    let measured = c.before in
-    let a = measured.before.before.before.before.args in
-    omega (arith, c.if2.false, measured.gates.ensures)
+    let measured = c in
+    let a = measured.args in
+    omega (arith, c.if-table-gates.false, measured.gates.ensures)
 
-own_list_requires : tie.Need-own-list-requires
+own_list_requires : tie.Need-own_list-end-requires
 own_list_requires c κs =
-    let within = c.before.before.before in
-    true_T (within_limits within.before.before.before.args.shape) (limits within)
+    let within = c in
+    true_T (within_limits within.args.shape) (limits within.before.before.before)
 
-same_length : tie.Need-same-length
+same_length : tie.Need-shape_of-table
 same_length c = search rules
 
-returns_3 : tie.Need-returns-3
+returns_3 : tie.Need-returns
 unfolding outcome_of
 returns_3 c =
-    let done = c.before.before in
-    let test = done.before.before in
-    let within = test.before.before in
-    let a = within.before.before.before.args in
-    let h = room test in
+    let done = c in
+    let test = done in
+    let within = test in
+    let a = within.args in
+    let h = room test.before.before.before.before in
     let r = write_accepted a.shape a.table.now
-    (fits a.shape a.table.now (limits within)
+    (fits a.shape a.table.now (limits within.before.before.before.before.before.before)
     (le-leb (4 * length (own_list a.shape)) (length a.table.now) h)) in
-    let w = done.own-list in
+    let w = done.own_list-end in
     record {
       answers = sized a.shape w.result.gate w.result.conditional w.ensures.gates w.ensures.conditionals ∙ sym r.0;
       leaves = w.ensures.numbers (omega (arith, h)) ∙ stored a.shape a.table.now h ∙ sym r.1;
