@@ -22,7 +22,7 @@ pub struct Totals {
 }
 
 // Why a sheet is refused: its length, or its first bad run.
-#[derive(Drop)]
+#[derive(Clone, Copy)]
 pub enum Refusal {
     Length,
     BadRun(usize),
