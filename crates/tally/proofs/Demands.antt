@@ -210,6 +210,7 @@ accuracy s table size e =
 counting : CountAccuracy
 counting =
     record {
+      accepts = count_accepts;
       says_who_wins = λ s ballots e. plain_says s ballots ((count_accepts s ballots).0 e);
       eight_bytes = plain_length;
     }

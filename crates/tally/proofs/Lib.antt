@@ -12,4 +12,7 @@ pub mod Writing
 pub mod Demands
 pub mod OwnRun
 pub mod Examples
+pub mod RunAlone
+pub mod FlatReasons
 pub mod Monotone
+pub mod RaisedRuns

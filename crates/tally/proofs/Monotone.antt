@@ -61,10 +61,10 @@ module _ (s : Shape) (table : List ℕ) (size : Size) (old new : List ℕ) (r : 
       (sym (unraised s candidate e raises)) ∙ sym (before_plain c)
 
   module _ (e : is_ranking s ≡ false) where
-    before_is : (c : ℕ) → byte_in r.before c ≡ byte_for s old c
+    pub before_is : (c : ℕ) → byte_in r.before c ≡ byte_for s old c
     before_is c = before_plain c ∙ ap (λ (bytes : List ℕ). get_or bytes c 0) (plain_first s old old_accepted ∙ closing_graded s old e)
 
-    after_is : (c : ℕ) → byte_in r.after c ≡ byte_for s new c
+    pub after_is : (c : ℕ) → byte_in r.after c ≡ byte_for s new c
     after_is c = after_plain c ∙ ap (λ (bytes : List ℕ). get_or bytes c 0) (plain_first s new new_accepted ∙ closing_graded s new e)
 
     graded_often : (candidate : ℕ) → RaisedOften s candidate old new → byte_in r.before candidate ≡ 1 → byte_in r.after candidate ≡ 1

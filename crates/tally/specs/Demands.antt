@@ -1,6 +1,6 @@
 -- The three demands. They are stated about definitions; the contracts of the entry points say that the program's
 -- answers and all lent tables are equal to these definitions.
-use Rattle.std.specs.Prelude.{◌≡◌, ◌≢◌, List, [], ◌∷◌, ℕ, ◌+◌, ◌*◌, length, take}
+use Rattle.std.specs.Prelude.{◌≡◌, ◌≢◌, ◌↔◌, List, [], ◌∷◌, ℕ, ◌+◌, ◌*◌, length, take}
 use Rattle.std.proofs.Math.Option.{none}
 use Rattle.gates.specs.Gate.{gates_of}
 use Rattle.gates.specs.Board.{MaskTape}
@@ -61,8 +61,10 @@ pub record Accuracy {Inputs : Type 0} (call : Shape → List ℕ → Inputs → 
 abbrev pub RunAccuracy : (s : Shape) (table : List ℕ) (size : Size) → Type 0
 RunAccuracy = Accuracy run_result (λ s ballots. ballots) AcceptedBallots
 
--- Demand 2 for the plain count: if it is accepted, its bytes say who wins. There are always eight.
+-- Demand 2 for the plain count: it accepts exactly the ballots of `AcceptedBallots`, and if it does, its bytes say
+-- who wins. There are always eight.
 pub record CountAccuracy : Type 0 where
+  pub accepts : (s : Shape) (ballots : List ℕ) → (count_reason s ballots ≡ none) ↔ AcceptedBallots s ballots
   pub says_who_wins : (s : Shape) (ballots : List ℕ) → count_reason s ballots ≡ none
       → SaysWhoWins s ballots (plain_closing s ballots)
   pub eight_bytes : (s : Shape) (ballots : List ℕ) → length (plain_closing s ballots) ≡ most_candidates

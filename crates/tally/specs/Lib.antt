@@ -11,5 +11,8 @@ pub mod Hiding
 pub mod Examples
 pub mod Write
 pub mod Demands
+pub mod RunAlone
+pub mod FlatReasons
 pub mod Monotone
+pub mod RaisedRuns
 pub mod inner
