@@ -20,7 +20,7 @@ use Rattle.jury.specs.Accepted.{AcceptedBallots}
 use Rattle.jury.proofs.AcceptedLaws as ballots_laws
 use Rattle.basics.proofs.Flags.{and_first, and_second}
 use Rattle.jury.proofs.Limits.{bounds, inputs_bound}
-use Rattle.tally.specs.Answer.{refused, accepted, outcome, Size, size_of}
+use Rattle.tally.specs.Answer.{refused, outcome, Size, size_of}
 use Rattle.tally.specs.Test.{test_reasons, test_outcome}
 use Rattle.tally.proofs.TestReasons.{or_else, first_append, TestPassed, test_passed}
 use Rattle.tally.proofs.RunReasons.{first_of_three, outcome_refused}

@@ -19,40 +19,40 @@ use Rattle.trustees.proofs.run.open_closing.Tie as tie
 abbrev bit : ℕ → ℕ → ℕ → List ℕ → ℕ → ℕ
 bit t size first published i = opened t (λ p. part (piece size published p) (first + i))
 
-abbrev invariant_loop : tie.invariant-loop
+abbrev invariant_loop : tie.invariant-loop-j
 invariant_loop t size first k published closing₀ j₀ closing j = (j ≤ k) × (closing ≡ tabulate most_candidates (up_to j (bit t size first published) (λ i. 0)))
 
-abbrev decreases_loop : tie.decreases-loop
+abbrev decreases_loop : tie.decreases-loop-j
 decreases_loop t size first k published closing₀ j₀ closing j = k - j
 
-loop_holds : tie.Need-loop-init invariant_loop decreases_loop
+loop_holds : tie.Need-loop-j-init invariant_loop decreases_loop
 unfolding tabulate
-loop_holds c = let a = c.before.args in (omega arith, sym (fill_start most_candidates (bit a.t a.size a.first a.published.now) (λ i. 0)))
+loop_holds c = let a = c.args in (omega arith, sym (fill_start most_candidates (bit a.t a.size a.first a.published.now) (λ i. 0)))
 
-add_open : tie.Need-overflow-add-open invariant_loop decreases_loop
-add_open c = omega (arith, c.before.before.before.requires)
+add_open : tie.Need-overflow_add-first invariant_loop decreases_loop
+add_open c = omega (arith, c.requires)
 
 open_requires : tie.Need-open-requires invariant_loop decreases_loop
 open_requires c κs =
-    let s = c.before.before.before in
+    let s = c in
     record {
       inside = omega (arith, s.requires.closing_in);
       long = s.requires.published_length;
     }
 
-array_write_closing : tie.Need-array-write-closing invariant_loop decreases_loop
-array_write_closing c = omega (arith, c.before.before.before.before.requires)
+array_write_closing : tie.Need-bounds-closing-j invariant_loop decreases_loop
+array_write_closing c = omega (arith, c.requires)
 
-add_j : tie.Need-overflow-add-j invariant_loop decreases_loop
-add_j c = omega (arith, c.before.before.before.before.requires)
+add_j : tie.Need-overflow_add-j invariant_loop decreases_loop
+add_j c = omega (arith, c.requires)
 
-loop_less : tie.Need-loop-smaller invariant_loop decreases_loop
+loop_less : tie.Need-loop-j-smaller invariant_loop decreases_loop
 loop_less c = omega arith
 
-loop_again : tie.Need-loop-preserved invariant_loop decreases_loop
+loop_again : tie.Need-loop-j-preserved invariant_loop decreases_loop
 loop_again c =
-    let l = c.before.before.loop in
-    let s = c.before.before.before.before in
+    let l = c.loop-j in
+    let s = c in
     let a = s.args in
     let f : ℕ → ℕ = bit a.t a.size a.first a.published.now in (
       omega arith,
@@ -64,8 +64,8 @@ loop_again c =
 
 returns : tie.Need-returns invariant_loop decreases_loop
 returns c =
-    let l = c.before.loop in
-    let s = c.before.before.before in
+    let l = c.loop-j in
+    let s = c in
     let a = s.args in
     let f : ℕ → ℕ = bit a.t a.size a.first a.published.now in
     let e : l.j ≡ a.k = omega arith in

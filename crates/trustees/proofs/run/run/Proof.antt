@@ -36,113 +36,102 @@ call s =
       };
     }
 
--- The stages of the function: the tests refuse; they pass; the gates are evaluated; the closing bits are opened;
--- the wire parts are emptied.
-abbrev started : tie.After-known-told → tie.Start
-started c = let lending = c.before.before.before.before in lending.before.before.before.before.before.before.before.before
-
-abbrev evaluated : tie.After-open-closing → tie.After-evaluate
-evaluated c = c.before.before.before.before.before.before
-
-abbrev passed : tie.After-evaluate → tie.After-known-told
-passed c = c.before.before.before
-
-abbrev size : tie.After-known-told → Size
-size c = let g = c.before.answer.given in record { gates = g.0.0; conditional = g.0.1.0 }
+abbrev size : tie.In-Accepted → Size
+size c = record { gates = c.in-Accepted.gates; conditional = c.in-Accepted.conditional }
 
 -- if the tests pass, no reason applies
-no_reason : (c : tie.After-known-told) → first_of (trustees_reasons (call (started c))) ≡ none
+no_reason : (c : tie.In-Accepted) → first_of (trustees_reasons (call c.before.before.before.before.before.before.before.before)) ≡ none
 unfolding outcome_of
 no_reason c =
-    let of = call (started c) in
+    let of = call c.before.before.before.before.before.before.before.before in
     outcome_accepted (first_of (trustees_reasons of)) (size_of (gates_of of.table)) (size c)
-    (sym c.before.before.before.test.ensures ∙ ap outcome_of c.before.answer.given.1)
+    (sym c.test-answer.ensures ∙ ap outcome_of c.in-Accepted.is)
 
 -- if the tests pass, the answer is the list's own size
-is_size : (c : tie.After-known-told) → size c ≡ size_of (gates_of (call (started c)).table)
+is_size : (c : tie.In-Accepted) → size c ≡ size_of (gates_of (call c.before.before.before.before.before.before.before.before).table)
 unfolding outcome_of outcome
 is_size c =
-    let own = size_of (gates_of (call (started c)).table) in
+    let own = size_of (gates_of (call c.before.before.before.before.before.before.before.before).table) in
     let e : accepted (size c) ≡ accepted own =
-    sym (ap outcome_of c.before.answer.given.1) ∙ c.before.before.before.test.ensures
+    sym (ap outcome_of c.in-Accepted.is) ∙ c.test-answer.ensures
     ∙ ap (λ (o : Option Reason). outcome o own) (no_reason c) in
     cc
 
-ready : (c : tie.After-known-told) → Ready (call (started c)) (size c)
-ready c = call_ready (call (started c)) (size c) (is_size c) (call_passed (call (started c)) (no_reason c))
+ready : (c : tie.In-Accepted) → Ready (call c.before.before.before.before.before.before.before.before) (size c)
+ready c = call_ready (call c.before.before.before.before.before.before.before.before) (size c) (is_size c) (call_passed (call c.before.before.before.before.before.before.before.before) (no_reason c))
 
-test_requires : tie.Need-test-requires
+test_requires : tie.Need-test-answer-requires
 test_requires c κs = search rules
 
-enum_known_answer : tie.Need-enum-known-answer
+enum_known_answer : tie.Need-enum_known-answer
 enum_known_answer c = search rules
 
-enum_told : tie.Need-enum-told
+enum_told : tie.Need-enum_told-1
 enum_told c = search rules
 
-same_length : tie.Need-same-length
+same_length : tie.Need-shape_of-wires-in_default
 same_length c = search rules
 
-same_length_2 : tie.Need-same-length-2
+same_length_2 : tie.Need-shape_of-published-in_default
 same_length_2 c = search rules
 
-returns : tie.Need-returns
+returns : tie.Need-returns-in_default
 unfolding outcome_of trustees_result_after eight_bytes
 returns c =
-    let lending = c.before.before.before in
-    let start = lending.before.before.before.before.before.before.before.before in
-    let r = reason_of c.enum_told.given.0.0 in
-    let told = ap outcome_of c.enum_told.given.1 in
-    let e = result_by (call start) (some r)
-    (outcome_refused (first_of (trustees_reasons (call start))) (size_of (gates_of (call start).table)) r
-    (sym c.before.before.test.ensures ∙ told)) in
+    let lending = c in
+    let start = lending in
+    let r = reason_of c.in_default.field-0 in
+    let told = ap outcome_of c.in_default.is in
+    let e = result_by (call start.before.before.before.before.before.before.before.before) (some r)
+    (outcome_refused (first_of (trustees_reasons (call start.before.before.before.before.before.before.before.before))) (size_of (gates_of (call start.before.before.before.before.before.before.before.before).table)) r
+    (sym c.test-answer.ensures ∙ told)) in
     same_result _ _ (told ∙ sym (ap (λ (q : TrusteesResult). q.answer) e)) (sym (ap (λ (q : TrusteesResult). q.closing) e))
     (sym (ap (λ (q : TrusteesResult). q.wire_parts) e)) (sym (ap (λ (q : TrusteesResult). q.published) e))
 
-mul_factors : tie.Need-overflow-mul-factors
+mul_factors : tie.Need-overflow_mul-factors
 mul_factors c = omega (arith, (ready c).small)
 
 evaluate_requires : tie.Need-evaluate-requires
 evaluate_requires c κs = (ready c.before.before).evaluate
 
-add_open_closing : tie.Need-overflow-add-open-closing
+add_open_closing : tie.Need-overflow_add-factors
 add_open_closing c = omega (arith, (ready c.before.before.before.before.before.before.before).small)
 
-open_closing_requires : tie.Need-open-closing-requires
+open_closing_requires : tie.Need-open_closing-closing-requires
 open_closing_requires c κs =
-    let done = c.before.before.before.before.before in
-    let known = ready (passed done) in
+    let done = c in
+    let known = ready done.before.before.before.before.before.before.before in
     record {
       k_most = known.k_most;
       closing_in = omega arith;
-      published_length = done.evaluate.auto.1.1.1.1.1.1.1.1.0 ∙ known.published_length;
+      published_length = done.evaluate.auto.published ∙ known.published_length;
     }
 
 empty_requires : tie.Need-empty-requires
 empty_requires c κs = search rules
 
-same_length_3 : tie.Need-same-length-3
+same_length_3 : tie.Need-shape_of-wires
 same_length_3 c = search rules
 
-same_length_4 : tie.Need-same-length-4
+same_length_4 : tie.Need-shape_of-published
 same_length_4 c = search rules
 
-returns_2 : tie.Need-returns-2
+returns_2 : tie.Need-returns
 unfolding outcome trustees_result_after
 returns_2 c =
-    let emptied = c.before.before in
-    let opened = emptied.before.before in
-    let done = evaluated opened in
-    let told = passed done in
-    let of = call (started told) in
-    let e = result_by of none (no_reason told) in
+    let emptied = c in
+    let opened = emptied in
+    let done = opened in
+    let told = done in
+    let of = call told.before.before.before.before.before.before.before.before.before.before.before.before.before.before.before.before.before.before.before.before in
+    let e = result_by of none (no_reason told.before.before.before.before.before.before.before.before.before.before.before.before) in
     same_result _ _
-    (sym (ap outcome_of told.before.answer.given.1) ∙ told.before.before.before.test.ensures
-    ∙ ap (λ (o : Option Reason). outcome o (size_of (gates_of of.table))) (no_reason told)
+    (sym (ap outcome_of told.in-Accepted.is) ∙ told.test-answer.ensures
+    ∙ ap (λ (o : Option Reason). outcome o (size_of (gates_of of.table))) (no_reason told.before.before.before.before.before.before.before.before.before.before.before.before)
     ∙ sym (ap (λ (q : TrusteesResult). q.answer) e))
-    (opened.open-closing.ensures ∙ opened_closing of (size told) (ready told) _ done.evaluate.ensures.shown
+    (opened.open_closing-closing.ensures ∙ opened_closing of (size told.before.before.before.before.before.before.before.before.before.before.before.before) (ready told.before.before.before.before.before.before.before.before.before.before.before.before) _ done.evaluate.ensures.shown
     ∙ sym (ap (λ (q : TrusteesResult). q.closing) e))
-    (emptied.empty.ensures ∙ ap (λ (n : ℕ). replicate n 0) done.evaluate.kept.1.1.1.1.1.1.1.0
+    (emptied.empty.ensures ∙ ap (λ (n : ℕ). replicate n 0) done.evaluate.auto.wires
     ∙ sym (ap (λ (q : TrusteesResult). q.wire_parts) e))
     (done.evaluate.ensures.shown ∙ sym (ap (λ (q : TrusteesResult). q.published) e))
 
