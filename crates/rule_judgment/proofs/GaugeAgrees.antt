@@ -13,8 +13,9 @@ use Rattle.rule_judgment.specs.Gauge.{p_of, q_of, beats, closing_of}
 use Rattle.basics.proofs.Cases.{below_or_not, same_or_not}
 use Rattle.basics.proofs.Flags.{never_true}
 use Rattle.rule_judgment.proofs.RunningSums.{running_grows, p_is, q_is}
-use Rattle.rule_judgment.proofs.GaugeConditions.{Beats, beats_iff}
-use Rattle.rule_judgment.proofs.GaugeConditions.Beats.{by_better_median, by_stronger_median, by_larger_p, by_smaller_q}
+use Rattle.rule_judgment.specs.GaugeWinner.{Beats}
+use Rattle.rule_judgment.proofs.GaugeConditions.{beats_iff}
+use Rattle.rule_judgment.specs.GaugeWinner.Beats.{by_better_median, by_stronger_median, by_larger_p, by_smaller_q}
 use Rattle.rule_judgment.proofs.GaugeClosing.{closing_length, closing_one}
 use Rattle.rule_judgment.specs.Judgment.{sequence_of, precedes, judgment_of}
 use Rattle.rule_judgment.specs.Theorems.{EachGets}

@@ -10,10 +10,11 @@ use native.Mathlib.Omega.{arith}
 use lib.ListN.{length, get_or, take, drop, length-append, length-take, length-drop, get_or-append, get_or-eq_default}
 use lib.Seq.{get_or-take, get_or-drop, get_or-append-add, get_or-append_seam, take-append_seam, drop-append-add, append_snoc}
 use Rattle.rule_judgment.specs.Gauge.{beats, beats_all, closing_from, closing_of}
-use Rattle.rule_judgment.specs.GaugeWinner.{BeatsOthers}
+use Rattle.rule_judgment.specs.GaugeWinner.{BeatsOthers, GaugeWinner}
+use Rattle.rule_judgment.specs.GaugeTheorems.{GaugeByteSays}
 use Rattle.basics.proofs.Cases.{same_or_not, below_or_not}
-use Rattle.basics.proofs.Flags.{and_both}
-use Rattle.rule_judgment.proofs.GaugeConditions.{beats_one_way}
+use Rattle.basics.proofs.Flags.{and_both, never_true}
+use Rattle.rule_judgment.proofs.GaugeConditions.{beats_iff, beats_one_way}
 
 -- Whether row i beats all other rows.
 unfoldable pub wins_in : List (List ℕ) → ℕ → Bool
@@ -139,6 +140,23 @@ module _ (rows : List (List ℕ)) (i : ℕ) (h : i < length rows) where
   pub closing_one : (get_or (closing_of rows) i 0 ≡ 1) ↔ BeatsOthers rows i
   closing_one =
       (λ e. winner_beats (one_wins e), λ beaten. closing_at rows i h ∙ ap (λ (t : Bool). cond {A = ℕ} t 1 0) (wins rows i h beaten))
+
+  in_words : BeatsOthers rows i → GaugeWinner rows i
+  in_words beaten j l ne = (beats_iff (get_or rows i []) (get_or rows j [])).0 (beaten j l ne)
+
+  computed : GaugeWinner rows i → BeatsOthers rows i
+  computed beaten j l ne = (beats_iff (get_or rows i []) (get_or rows j [])).1 (beaten j l ne)
+
+  -- a closing byte is 1 exactly if its row wins in words, and 0 exactly if not
+  pub byte_says : GaugeByteSays rows i
+  byte_says = record {
+    one = (λ e. in_words (closing_one.0 e), λ w. closing_one.1 (computed w));
+    zero = (
+      λ e w. let o : get_or (closing_of rows) i 0 ≡ 1 = closing_one.1 (computed w) in omega arith,
+      λ never. closing_at rows i h
+          ∙ ap (λ (t : Bool). cond {A = ℕ} t 1 0) (never_true (wins_in rows i) (λ e. never (in_words (winner_beats e)))),
+    );
+  }
 
 -- a byte that is 1 belongs to a row
 one_at_row : (rows : List (List ℕ)) (i : ℕ) → get_or (closing_of rows) i 0 ≡ 1 → i < length rows

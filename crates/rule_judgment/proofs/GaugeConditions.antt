@@ -1,5 +1,5 @@
--- The four conditions of `beats` as facts about medians, p and q: they exclude each other, and no two rows beat
--- each other.
+-- The test `beats` passes exactly if `Beats` holds; its conditions exclude each other, and no two rows beat each
+-- other.
 -- Assumes nothing.
 use mathlib.Core.Path.{◌≡◌}
 use mathlib.Core.Bool.{true, false, ◌&&◌, ◌||◌}
@@ -11,14 +11,10 @@ use lib.Dec.{ltb}
 use borrow.Author.Tests.{ltb-true, lt-ltb, eqb-true, eq-eqb}
 use Rattle.rule_judgment.specs.Median.{median_of}
 use Rattle.rule_judgment.specs.Gauge.{p_of, q_of, better_median, equal_medians, stronger_median, larger_p, smaller_q, beats}
+use Rattle.rule_judgment.specs.GaugeWinner.{Beats}
+use Rattle.rule_judgment.specs.GaugeWinner.Beats.{by_better_median, by_stronger_median, by_larger_p, by_smaller_q}
+use Rattle.rule_judgment.specs.GaugeTheorems.{Exclusive}
 use Rattle.basics.proofs.Flags.{and_first, and_second, or_either, or_first, or_second, never_true}
-
--- a beats b if one of the four conditions holds
-pub data Beats (a b : List ℕ) : Type 0 where
-  by_better_median : median_of a < median_of b → Beats a b
-  by_stronger_median : median_of a ≡ median_of b → q_of a < p_of a → p_of b < q_of b → Beats a b
-  by_larger_p : median_of a ≡ median_of b → q_of a < p_of a → q_of b < p_of b → p_of b < p_of a → Beats a b
-  by_smaller_q : median_of a ≡ median_of b → p_of a < q_of a → p_of b < q_of b → q_of a < q_of b → Beats a b
 
 module _ (a b : List ℕ) where
   better_fact : better_median a b ≡ true → median_of a < median_of b
@@ -97,7 +93,7 @@ module _ (a b : List ℕ) where
   beats_iff = (beats_holds, beats_passes)
 
 -- no two rows beat each other, whatever the conditions
-never_both : (a b : List ℕ) → Beats a b → Beats b a → ⊥
+pub never_both : (a b : List ℕ) → Beats a b → Beats b a → ⊥
 never_both a b (by_better_median l) (by_better_median r) = omega arith
 never_both a b (by_better_median l) (by_stronger_median m r₁ r₂) = omega arith
 never_both a b (by_better_median l) (by_larger_p m r₁ r₂ r₃) = omega arith
@@ -115,19 +111,6 @@ never_both a b (by_smaller_q m l₁ l₂ l₃) (by_stronger_median m' r₁ r₂)
 never_both a b (by_smaller_q m l₁ l₂ l₃) (by_larger_p m' r₁ r₂ r₃) = omega arith
 never_both a b (by_smaller_q m l₁ l₂ l₃) (by_smaller_q m' r₁ r₂ r₃) = omega arith
 
--- a row that beats another is not beaten by it
-pub beats_one_way : (a b : List ℕ) → beats a b ≡ true → beats b a ≡ false
-beats_one_way a b e = never_true (beats b a) (λ e'. never_both a b (beats_holds a b e) (beats_holds b a e'))
-
--- no two of the four conditions hold at once
-pub record Exclusive (a b : List ℕ) : Type 0 where
-  pub first_second : better_median a b ≡ true → stronger_median a b ≡ false
-  pub first_third : better_median a b ≡ true → larger_p a b ≡ false
-  pub first_fourth : better_median a b ≡ true → smaller_q a b ≡ false
-  pub second_third : stronger_median a b ≡ true → larger_p a b ≡ false
-  pub second_fourth : stronger_median a b ≡ true → smaller_q a b ≡ false
-  pub third_fourth : larger_p a b ≡ true → smaller_q a b ≡ false
-
 pub conditions_exclude : (a b : List ℕ) → Exclusive a b
 conditions_exclude a b = record {
   first_second = λ e. never_true (stronger_median a b) (λ f. omega (arith, better_fact a b e, stronger_fact a b f));
@@ -137,3 +120,7 @@ conditions_exclude a b = record {
   second_fourth = λ e. never_true (smaller_q a b) (λ f. omega (arith, stronger_fact a b e, smaller_fact a b f));
   third_fourth = λ e. never_true (smaller_q a b) (λ f. omega (arith, larger_fact a b e, smaller_fact a b f));
 }
+
+-- a row that beats another is not beaten by it
+pub beats_one_way : (a b : List ℕ) → beats a b ≡ true → beats b a ≡ false
+beats_one_way a b e = never_true (beats b a) (λ e'. never_both a b (beats_holds a b e) (beats_holds b a e'))
