@@ -5,7 +5,7 @@ ghost use Rattle.dispatch_rounds.specs.inner.State.{places_after, PlacesFit};
 use jury::shape::Shape;
 
 // A jury's shape and its number of gates. Before they are tested, these may be any numbers.
-#[derive(Drop)]
+#[derive(Clone, Copy)]
 pub struct JuryHeader {
     pub candidates: usize,
     pub grades: usize,

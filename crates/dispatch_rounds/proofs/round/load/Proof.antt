@@ -18,20 +18,20 @@ loaded ballots wires = take (length ballots) ballots ++ drop (length ballots) wi
 copy_requires : tie.Need-copy-requires
 copy_requires c κs = search rules
 
-same_length : tie.Need-same-length
+same_length : tie.Need-shape_of-wires
 same_length c = search rules
 
-returns : tie.Need-returns
+returns : tie.Need-returns-then-given-eq0
 returns c =
-    let a = c.before.before.before.before.before.before.before.args in
-    copied c.before.before.copy.ensures
+    let a = c.args in
+    copied a.ballots.now a.wires.now _ c.copy.ensures
     ∙ ap (λ (x : Bool). cond x (loaded a.ballots.now a.wires.now) a.wires.now)
-    (sym (eq-eqb a.given 0 c.before.before.before.before.if1.true))
+    (sym (eq-eqb a.given 0 c.if-given-eq0.true))
 
-returns_2 : tie.Need-returns-2
+returns_2 : tie.Need-returns-else-given-eq0
 returns_2 c =
-    let a = c.before.before.before.args in
-    ap (λ (x : Bool). cond x (loaded a.ballots.now a.wires.now) a.wires.now) (sym (ne_eqb a.given 0 c.if1.false))
+    let a = c.args in
+    ap (λ (x : Bool). cond x (loaded a.ballots.now a.wires.now) a.wires.now) (sym (ne_eqb a.given 0 c.if-given-eq0.false))
 
 pub load_spec : {M : Type 1} → statement M
 load_spec = tie.close (tie.spec copy_requires same_length returns returns_2)

@@ -20,38 +20,38 @@ made at s c i =
       boards = at.boards + (c + s.candidates);
     }
 
-ballot_bytes_requires : tie.Need-ballot-bytes-requires
+ballot_bytes_requires : tie.Need-ballot_bytes-inputs-requires
 ballot_bytes_requires c κs = search rules
 
-mul_t6 : tie.Need-overflow-mul-t6
+mul_t6 : tie.Need-overflow_mul-result
 mul_t6 c = search rules
 
-add_t7 : tie.Need-overflow-add-t7
+add_t7 : tie.Need-overflow_add-result
 add_t7 c = search rules
 
-add_t8 : tie.Need-overflow-add-t8
+add_t8 : tie.Need-overflow_add-result-2
 add_t8 c = search rules
 
-add_t9 : tie.Need-overflow-add-t9
+add_t9 : tie.Need-overflow_add-result-3
 add_t9 c = search rules
 
-add_t10 : tie.Need-overflow-add-t10
+add_t10 : tie.Need-overflow_add-result-4
 add_t10 c = search rules
 
-add_t11 : tie.Need-overflow-add-t11
+add_t11 : tie.Need-overflow_add-result-5
 add_t11 c = search rules
 
-add_t12 : tie.Need-overflow-add-t12
+add_t12 : tie.Need-overflow_add-result-6
 add_t12 c = search rules
 
-add_t13 : tie.Need-overflow-add-t13
+add_t13 : tie.Need-overflow_add-result-7
 add_t13 c = search rules
 
 returns : tie.Need-returns
 returns c =
-    let measured = c.before.before.before.before.before.before.before.before in
-    let a = measured.before.args in
-    ap (λ (i : ℕ). made a.self a.header a.conditional i) measured.ballot-bytes.ensures
+    let measured = c in
+    let a = measured.args in
+    ap (λ (i : ℕ). made a.self a.header a.conditional i) measured.ballot_bytes-inputs.ensures
 
 pub after_spec : {M : Type 1} → statement M
 after_spec =
