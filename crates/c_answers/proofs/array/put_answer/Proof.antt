@@ -9,73 +9,73 @@ use Rattle.c_answers.proofs.Copying.{Putting, put_turn, all_put}
 use Rattle.c_answers.proofs.array.put_answer.Statement.{statement}
 use Rattle.c_answers.proofs.array.put_answer.Tie as tie
 
-abbrev invariant_loop : tie.invariant-loop
+abbrev invariant_loop : tie.invariant-loop-i
 invariant_loop reason place told answer₀ i₀ answer i = Putting told answer₀ answer i
 
-abbrev decreases_loop : tie.decreases-loop
+abbrev decreases_loop : tie.decreases-loop-i
 decreases_loop reason place told answer₀ i₀ answer i = length told - i
 
-slice_write_answer : tie.Need-slice-write-answer invariant_loop decreases_loop
+slice_write_answer : tie.Need-bounds-answer-0 invariant_loop decreases_loop
 slice_write_answer c = omega arith
 
-slice_write_answer_2 : tie.Need-slice-write-answer-2 invariant_loop decreases_loop
+slice_write_answer_2 : tie.Need-bounds-answer-1 invariant_loop decreases_loop
 slice_write_answer_2 c = omega (arith, length-set c.args.answer.now 0 c.args.reason)
 
-loop_holds : tie.Need-loop-init invariant_loop decreases_loop
+loop_holds : tie.Need-loop-i-init invariant_loop decreases_loop
 loop_holds c = record { upto = omega arith; long = refl; rest = refl }
 
-mul_answer : tie.Need-overflow-mul-answer invariant_loop decreases_loop
+mul_answer : tie.Need-offset_bounds-told-i invariant_loop decreases_loop
 mul_answer c = omega arith
 
-shared_slice_read_answer : tie.Need-shared-slice-read-answer invariant_loop decreases_loop
+shared_slice_read_answer : tie.Need-bounds-told-i invariant_loop decreases_loop
 shared_slice_read_answer c = omega arith
 
 -- the array keeps its length, and each store is inside it
-kept : (c : tie.At-loop invariant_loop decreases_loop) → length c.loop.answer ≡ length c.before.args.answer.now
+kept : (c : tie.At-loop-i invariant_loop decreases_loop) → length c.loop-i.answer ≡ length c.args.answer.now
 kept c =
-    let a = c.before.args in
-    c.loop.invariant.long ∙ length-set (set a.answer.now 0 a.reason) 1 a.place ∙ length-set a.answer.now 0 a.reason
+    let a = c.args in
+    c.loop-i.invariant.long ∙ length-set (set a.answer.now 0 a.reason) 1 a.place ∙ length-set a.answer.now 0 a.reason
 
-inside : (c : tie.After-shared-slice-known invariant_loop decreases_loop) → 2 + c.before.before.loop.i < length c.before.before.before.args.answer.now
-inside c = omega (arith, c.before.loop-test.true, c.before.before.before.requires)
+inside : (c : tie.After-shared_slice_known-1 invariant_loop decreases_loop) → 2 + c.loop-i.i < length c.args.answer.now
+inside c = omega (arith, c.loop-i-test.true, c.requires)
 
-add_answer : tie.Need-overflow-add-answer invariant_loop decreases_loop
-add_answer c = omega (arith, c.before.before.before.well-formed, inside c)
+add_answer : tie.Need-overflow_add-answer invariant_loop decreases_loop
+add_answer c = omega (arith, c.well_formed, inside c)
 
-mul_answer_2 : tie.Need-overflow-mul-answer-2 invariant_loop decreases_loop
-mul_answer_2 c = omega (arith, c.before.before.before.well-formed, inside c)
+mul_answer_2 : tie.Need-offset_bounds-answer-i invariant_loop decreases_loop
+mul_answer_2 c = omega (arith, c.well_formed, inside c)
 
-slice_write_answer_3 : tie.Need-slice-write-answer-3 invariant_loop decreases_loop
+slice_write_answer_3 : tie.Need-bounds-answer-i invariant_loop decreases_loop
 slice_write_answer_3 c = omega (arith, inside c, kept c.before.before)
 
-add_i : tie.Need-overflow-add-i invariant_loop decreases_loop
+add_i : tie.Need-overflow_add-i invariant_loop decreases_loop
 add_i c = omega arith
 
-loop_less : tie.Need-loop-smaller invariant_loop decreases_loop
+loop_less : tie.Need-loop-i-smaller invariant_loop decreases_loop
 loop_less c = omega arith
 
-loop_again : tie.Need-loop-preserved invariant_loop decreases_loop
+loop_again : tie.Need-loop-i-preserved invariant_loop decreases_loop
 loop_again c =
-    let s = c.before.before.before.args in
-    let l = c.before.before.loop in
+    let s = c.args in
+    let l = c.loop-i in
     record {
-      upto = omega (arith, c.before.loop-test.true);
+      upto = omega (arith, c.loop-i-test.true);
       long = length-set l.answer (2 + l.i) (get_or s.told.now l.i 0) ∙ l.invariant.long;
-      rest = put_turn s.told.now l.answer l.i c.before.loop-test.true ∙ l.invariant.rest;
+      rest = put_turn s.told.now l.answer l.i c.loop-i-test.true ∙ l.invariant.rest;
     }
 
-same_length : tie.Need-same-length invariant_loop decreases_loop
+same_length : tie.Need-shape_of-answer invariant_loop decreases_loop
 same_length c = kept c.before
 
 returns : tie.Need-returns invariant_loop decreases_loop
 unfolding status_of
 returns c =
-    let s = c.before.before in
-    let l = c.before.loop in
+    let a = c.args in
+    let l = c.loop-i in
     record {
       returns = refl;
-      writes = all_put s.args.reason s.args.place s.args.told.now s.args.answer.now l.answer l.i s.requires l.invariant
-          c.loop-test.false;
+      writes = all_put a.reason a.place a.told.now a.answer.now l.answer l.i c.requires l.invariant
+          c.loop-i-test.false;
     }
 
 pub put_answer_spec : {M : Type 1} → statement M
