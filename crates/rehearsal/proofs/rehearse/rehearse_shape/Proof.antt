@@ -7,200 +7,146 @@ use Prim.Native.Nat.{ℕ, ◌*◌, ◌-◌, ◌≤◌}
 use native.Mathlib.Omega.{arith}
 use lib.ListN.{length, take, drop}
 use borrow.Author.Rules.{rules}
+use Rattle.jury.specs.declared.shape.Shape.{Shape}
 use Rattle.tally.specs.Answer.{outcome_of}
 use Rattle.tally.specs.declared.answer.Answer.TheVariants as answer
-use Rattle.tally.specs.Write.{write_outcome}
-use Rattle.rehearsal.specs.Rehearsal.{ballots_of_input, rehearsal_outcome, outcome_on}
-use Rattle.rehearsal.specs.inner.Buffers.{Cut}
+use Rattle.tally.specs.Write.{write_outcome, write_result}
+use Rattle.rehearsal.specs.Rehearsal.{shape_of_input, ballots_of_input, rehearsal_outcome, outcome_on}
+use Rattle.rehearsal.specs.inner.Buffers.{Buffers, Cut}
 use Rattle.rehearsal.specs.inner.Rehearses.{ballots_outcome, end_on}
 use Rattle.rehearsal.proofs.Rehearsing.{cut_long, gates_few, list_fits, write_cut, by_the_run, by_the_write, no_ballots, some_ballots}
 use Rattle.rehearsal.proofs.rehearse.rehearse_shape.Statement.{statement}
 use Rattle.rehearsal.proofs.rehearse.rehearse_shape.Tie as tie
 
--- the answer of an accepted write
-gates_of : tie.After-known-told2 → ℕ
-gates_of c = c.before.gates.given.0.0
+-- after an accepted write of g gates, n of them conditional
+module _ (s : Shape) (table tape wires board : List ℕ) (l : Buffers table tape wires board) (g n : ℕ)
+    (e : outcome_of (answer.Accepted g n) ≡ write_outcome s table) where
+  fits : (written : List ℕ) → written ≡ write_result s table → 4 * g ≤ length written
+  fits written leaves = omega (arith, ap length leaves, list_fits s table tape wires board l g n e)
 
-conditional_of : tie.After-known-told2 → ℕ
-conditional_of c = c.before.gates.given.0.1.0
+  -- the list and the buffers are what the run requires
+  cut : (written : List ℕ) → written ≡ write_result s table → Cut s (take (4 * g) written) g n tape wires board
+  cut written leaves = write_cut s table tape wires board l g n e _ (ap (take (4 * g)) leaves)
 
--- The stages of the function, seen from later ones.
-abbrev start_from_write : tie.After-write → tie.Start
-start_from_write c = c.before.before.before.before.before.before.before
-
-abbrev write_from_known_told : tie.After-known-told → tie.After-write
-write_from_known_told c = c.before.before.before.before.before
-
-abbrev write_from_known_told2 : tie.After-known-told2 → tie.After-write
-write_from_known_told2 c = c.before.before.before.before.before
-
-abbrev write_from_list : tie.After-list → tie.After-write
-write_from_list c = c.before.before.before.before.before.before
-
-abbrev known_told2_from_run_list_arg3 : tie.After-run-list-arg3 → tie.After-known-told2
-known_told2_from_run_list_arg3 c = c.before.before.before.before.before
-
-abbrev known_told2_from_run_list_arg6 : tie.After-run-list-arg6 → tie.After-known-told2
-known_told2_from_run_list_arg6 c = c.before.before.before.before.before
-
-outcome_accepted : (c : tie.After-known-told2) →
-    let w = (write_from_known_told2 c) in
-    let start = (start_from_write w) in
-    outcome_of (answer.Accepted (gates_of c) (conditional_of c)) ≡ write_outcome start.args.shape start.args.table.now
-unfolding gates_of conditional_of
-outcome_accepted c =
-    let w = (write_from_known_told2 c) in
-    sym (ap outcome_of c.before.gates.given.1) ∙ w.write.ensures.answers
-
-few : (c : tie.After-known-told2) → gates_of c ≤ 4000
-few c =
-    let w = (write_from_known_told2 c) in
-    let start = (start_from_write w) in
-    let a = start.args in
-    gates_few start.args.shape a.table.now a.tape.now a.wires.now a.board.now
-    start.pre.buffers (gates_of c) (conditional_of c) (outcome_accepted c)
-
-fits : (c : tie.After-known-told2) → 4 * gates_of c ≤ length (write_from_known_told2 c).write.last.1.0
-fits c =
-    let w = (write_from_known_told2 c) in
-    let start = (start_from_write w) in
-    let a = start.args in
-    omega (
-      arith,
-      ap length w.write.ensures.leaves,
-      list_fits start.args.shape a.table.now a.tape.now a.wires.now a.board.now
-          start.pre.buffers (gates_of c) (conditional_of c) (outcome_accepted c),
-    )
+  -- the run's answer is the rehearsal's
+  same_answer : (input ballots : List ℕ) → s ≡ shape_of_input input → ballots ≡ ballots_of_input input
+      → ballots_outcome s ballots ≡ rehearsal_outcome input table
+  same_answer input ballots shape_is f =
+      ap (ballots_outcome s) f ∙ by_the_run s table tape wires board l g n e input shape_is
 
 write_requires : tie.Need-write-requires
 write_requires c κs = search rules
 
-enum_known_reason : tie.Need-enum-known-reason
+enum_known_reason : tie.Need-enum_known-reason
 enum_known_reason c = search rules
 
-enum_known_gates : tie.Need-enum-known-gates
+enum_known_gates : tie.Need-enum_known-gates
 enum_known_gates c = search rules
 
-mul_list : tie.Need-overflow-mul-list
-unfolding gates_of
-mul_list c = record { fits = omega (arith, few c) }
+mul_list : tie.Need-overflow_mul-list
+mul_list c =
+    let a = c.args in
+    record {
+      fits = omega (
+        arith,
+        gates_few a.shape a.table.now a.tape.now a.wires.now a.board.now
+            c.requires.buffers c.in-Accepted.gates c.in-Accepted.conditional
+            (sym (ap outcome_of c.in-Accepted.is) ∙ c.write.ensures.answers),
+      );
+    }
 
-slice_reshare_prefix_list : tie.Need-slice-reshare-prefix-list
-unfolding gates_of
-slice_reshare_prefix_list c = fits c
+slice_reshare_prefix_list : tie.Need-slice_bounds-list-end
+slice_reshare_prefix_list c =
+    let a = c.args in
+    fits a.shape a.table.now a.tape.now a.wires.now a.board.now
+    c.requires.buffers c.in-Accepted.gates c.in-Accepted.conditional
+    (sym (ap outcome_of c.in-Accepted.is) ∙ c.write.ensures.answers) c.write.new.table c.write.ensures.leaves
 
-slice_aggregate_list : tie.Need-slice-aggregate-list
-unfolding gates_of
-slice_aggregate_list c = cut_long (4 * gates_of c.before) (write_from_list c).write.last.1.0 (fits c.before)
+slice_aggregate_list : tie.Need-slice_bounds-list-end-in-Accepted
+slice_aggregate_list c =
+    let a = c.args in
+    cut_long (4 * c.in-Accepted.gates) c.write.new.table
+    (fits a.shape a.table.now a.tape.now a.wires.now a.board.now
+    c.requires.buffers c.in-Accepted.gates c.in-Accepted.conditional
+    (sym (ap outcome_of c.in-Accepted.is) ∙ c.write.ensures.answers) c.write.new.table c.write.ensures.leaves)
 
-slice_aggregate_run_list : tie.Need-slice-aggregate-run-list
-slice_aggregate_run_list c = search rules
+run_list_requires : tie.Need-run_list-requires
+run_list_requires c κs =
+    let a = c.args in
+    cut a.shape a.table.now a.tape.now a.wires.now a.board.now
+    c.requires.buffers c.in-Accepted.gates c.in-Accepted.conditional
+    (sym (ap outcome_of c.in-Accepted.is) ∙ c.write.ensures.answers) c.write.new.table c.write.ensures.leaves
 
--- the list and the buffers are what the run requires
-cut : (c : tie.After-known-told2) →
-    let w = (write_from_known_told2 c) in
-    let start = (start_from_write w) in
-    let a = start.args in
-    Cut start.args.shape (take (4 * gates_of c) w.write.last.1.0) (gates_of c) (conditional_of c)
-    a.tape.now a.wires.now a.board.now
-cut c =
-    let w = (write_from_known_told2 c) in
-    let start = (start_from_write w) in
-    let a = start.args in
-    write_cut start.args.shape a.table.now a.tape.now a.wires.now a.board.now
-    start.pre.buffers (gates_of c) (conditional_of c) (outcome_accepted c) _
-    (ap (take (4 * gates_of c)) w.write.ensures.leaves)
-
-run_list_requires : tie.Need-run-list-requires
-unfolding gates_of conditional_of
-run_list_requires c κs = cut (known_told2_from_run_list_arg3 c)
-
-sub_run_list : tie.Need-overflow-sub-run-list
+sub_run_list : tie.Need-slice_bounds-run_list-count
 sub_run_list c = search rules
 
-part_run_list_start : tie.Need-slice-bounds-run-list-start
+part_run_list_start : tie.Need-slice_bounds-run_list-start
 part_run_list_start c = search rules
 
-part_run_list_end : tie.Need-slice-bounds-run-list-end
+part_run_list_end : tie.Need-slice_bounds-run_list-end-else-input-lt3
 part_run_list_end c = search rules
 
-run_list_requires_2 : tie.Need-run-list-requires-2
-unfolding gates_of conditional_of
-run_list_requires_2 c κs = cut (known_told2_from_run_list_arg6 c)
+run_list_requires_2 : tie.Need-run_list-requires-else-input-lt3
+run_list_requires_2 c κs =
+    let a = c.args in
+    cut a.shape a.table.now a.tape.now a.wires.now a.board.now
+    c.requires.buffers c.in-Accepted.gates c.in-Accepted.conditional
+    (sym (ap outcome_of c.in-Accepted.is) ∙ c.write.ensures.answers) c.write.new.table c.write.ensures.leaves
 
-same_length : tie.Need-same-length
+same_length : tie.Need-shape_of-table-in-Refused
 same_length c = search rules
 
-returns : tie.Need-returns
+returns : tie.Need-returns-in-Refused
 unfolding outcome_on end_on
 returns c =
-    let w = (write_from_known_told c) in
-    let start = (start_from_write w) in
-    let a = start.args in
+    let a = c.args in
     record {
-      answers = by_the_write a.input.now a.table.now start.args.shape c.before.reason.given.0.0 start.pre.shape_is
-          (sym (ap outcome_of c.before.reason.given.1) ∙ w.write.ensures.answers);
+      answers = by_the_write a.input.now a.table.now a.shape c.in-Refused.reason c.requires.shape_is
+          (sym (ap outcome_of c.in-Refused.is) ∙ c.write.ensures.answers);
       on_board = omega arith;
     }
 
--- the run's answer is the rehearsal's
-same_answer : (c : tie.After-known-told2) (ballots : List ℕ) →
-    let w = (write_from_known_told2 c) in
-    let start = (start_from_write w) in
-    let a = start.args in
-    ballots ≡ ballots_of_input a.input.now → ballots_outcome start.args.shape ballots ≡ rehearsal_outcome a.input.now a.table.now
-same_answer c ballots e =
-    let w = (write_from_known_told2 c) in
-    let start = (start_from_write w) in
-    let a = start.args in
-    ap (ballots_outcome start.args.shape) e
-    ∙ by_the_run start.args.shape a.table.now a.tape.now a.wires.now a.board.now
-    start.pre.buffers (gates_of c) (conditional_of c) (outcome_accepted c) a.input.now start.pre.shape_is
-
-same_length_2 : tie.Need-same-length-2
+same_length_2 : tie.Need-shape_of-table-then-input-lt3
 same_length_2 c = search rules
 
-same_length_3 : tie.Need-same-length-3
+same_length_3 : tie.Need-shape_of-wires-then-input-lt3
 same_length_3 c = search rules
 
-same_length_4 : tie.Need-same-length-4
+same_length_4 : tie.Need-shape_of-board-then-input-lt3
 same_length_4 c = search rules
 
-returns_2 : tie.Need-returns-2
+returns_2 : tie.Need-returns-then-input-lt3
 returns_2 c =
-    let run = c.before.before.before.before in
-    let short = run.before.before.before.before in
-    let told = short.before.before in
-    let w = (write_from_known_told2 told) in
-    let start = (start_from_write w) in
-    let a = start.args in
+    let a = c.args in
     record {
-      answers = run.run-list.ensures.answers ∙ same_answer told [] (sym (no_ballots a.input.now short.if1.true));
-      on_board = run.run-list.ensures.on_board;
+      answers = c.run_list.ensures.answers
+          ∙ same_answer a.shape a.table.now a.tape.now a.wires.now a.board.now
+          c.requires.buffers c.in-Accepted.gates c.in-Accepted.conditional
+          (sym (ap outcome_of c.in-Accepted.is) ∙ c.write.ensures.answers)
+          a.input.now [] c.requires.shape_is (sym (no_ballots a.input.now c.if-input-lt3.true));
+      on_board = c.run_list.ensures.on_board;
     }
 
-same_length_5 : tie.Need-same-length-5
+same_length_5 : tie.Need-shape_of-table-else-input-lt3
 same_length_5 c = search rules
 
-same_length_6 : tie.Need-same-length-6
+same_length_6 : tie.Need-shape_of-wires-else-input-lt3
 same_length_6 c = search rules
 
-same_length_7 : tie.Need-same-length-7
+same_length_7 : tie.Need-shape_of-board-else-input-lt3
 same_length_7 c = search rules
 
-returns_3 : tie.Need-returns-3
+returns_3 : tie.Need-returns-else-input-lt3
 returns_3 c =
-    let run = c.before.before.before.before in
-    let long = run.before.before.before.before in
-    let told = long.before.before in
-    let w = (write_from_known_told2 told) in
-    let start = (start_from_write w) in
-    let a = start.args in
+    let a = c.args in
     record {
-      answers = run.run-list2.ensures.answers
-          ∙ same_answer told (take (length a.input.now - 3) (drop 3 a.input.now))
+      answers = c.run_list-else-input-lt3.ensures.answers
+          ∙ same_answer a.shape a.table.now a.tape.now a.wires.now a.board.now
+          c.requires.buffers c.in-Accepted.gates c.in-Accepted.conditional
+          (sym (ap outcome_of c.in-Accepted.is) ∙ c.write.ensures.answers)
+          a.input.now (take (length a.input.now - 3) (drop 3 a.input.now)) c.requires.shape_is
           (some_ballots a.input.now);
-      on_board = run.run-list2.ensures.on_board;
+      on_board = c.run_list-else-input-lt3.ensures.on_board;
     }
 
 pub rehearse_shape_spec : {M : Type 1} → statement M
@@ -213,7 +159,6 @@ rehearse_shape_spec =
     mul_list
     slice_reshare_prefix_list
     slice_aggregate_list
-    slice_aggregate_run_list
     run_list_requires
     sub_run_list
     part_run_list_start

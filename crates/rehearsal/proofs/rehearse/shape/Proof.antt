@@ -21,7 +21,7 @@ new_requires c κs = search rules
 returns : tie.Need-returns
 unfolding shape_of_input
 returns c = c.new.ensures.result
-    ∙ rw (c.before.before.before.byte.ensures, c.before.before.byte2.ensures, c.before.byte3.ensures)
+    ∙ rw (c.byte.ensures, c.byte-2.ensures, c.byte-3.ensures)
 
 pub shape_spec : {M : Type 1} → statement M
 shape_spec = tie.close (tie.spec byte_requires byte_requires_2 byte_requires_3 new_requires returns)
