@@ -1,4 +1,6 @@
 // Admission to an urn of graded ballots, withdrawal from it, and previews of both.
+#![tactic(auto)]
+
 pub mod admit;
 pub mod answer;
 pub mod empty;

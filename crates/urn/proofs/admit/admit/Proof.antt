@@ -16,25 +16,23 @@ use Rattle.urn.proofs.admit.admit.Statement.{statement}
 use Rattle.urn.proofs.admit.admit.Tie as tie
 
 -- no reason applies to an accepted call
-no_reason : (c : tie.After-enum-told) →
-    let a = c.before.before.before.before.before.before.args in
+no_reason : (c : tie.In-Accepted) →
+    let a = c.args in
     first_of (admit_reasons a.k a.d (facts_of a.k a.d a.urn.now a.juror) a.juror a.ballot.now) ≡ none
 unfolding admit_outcome_by counted_by
-no_reason c = accepted_none _ _ _ (sym c.before.before.preview.ensures ∙ ap counted_by c.enum_told.given.1)
+no_reason c = accepted_none _ _ _ (sym c.preview-answer.ensures ∙ ap counted_by c.in-Accepted.is)
 
-preview_requires : tie.Need-preview-requires
+preview_requires : tie.Need-preview-answer-requires
 preview_requires c κs = search rules
 
-enum_told : tie.Need-enum-told
+enum_told : tie.Need-enum_told-1
 enum_told c = search rules
 
-put_ballot_requires : tie.Need-put-ballot-requires
+put_ballot_requires : tie.Need-put_ballot-requires
 put_ballot_requires c κs =
-    let t = c.before in
-    let s = t.before.before.before.before.before.before in
-    let a = s.args in
+    let a = c.args in
     let f = facts_of a.k a.d a.urn.now a.juror in
-    let p = admissible a.k a.d f a.juror a.ballot.now (no_reason t) in
+    let p = admissible a.k a.d f a.juror a.ballot.now (no_reason c.before) in
     let e = facts_sound a.k a.d a.urn.now a.juror p.is_sound in
     record {
       graded = true_T _ p.graded;
@@ -44,27 +42,26 @@ put_ballot_requires c κs =
       size = good_length a.k a.d a.ballot.now p.ballot;
     }
 
-enum_told_2 : tie.Need-enum-told-2
+enum_told_2 : tie.Need-enum_told-in_default
 enum_told_2 c = search rules
 
-same_length : tie.Need-same-length
+same_length : tie.Need-shape_of-urn-in-Accepted
 same_length c =
-    c.before.before.put-ballot.auto.1.1.0
+    c.put_ballot.auto.urn
 
-returns : tie.Need-returns
+returns : tie.Need-returns-in-Accepted
 unfolding admitted
 returns c =
-    let t = c.before.before.before.before in
-    both_parts t.before.before.preview.ensures (c.before.before.put-ballot.ensures ∙ sym (none_new _ _ _ (no_reason t)))
+    both_parts c.preview-answer.ensures (c.put_ballot.ensures ∙ sym (none_new _ _ _ (no_reason c.before.before.before.before)))
 
-same_length_2 : tie.Need-same-length-2
+same_length_2 : tie.Need-shape_of-urn-in_default
 same_length_2 c = search rules
 
-returns_2 : tie.Need-returns-2
+returns_2 : tie.Need-returns-in_default
 unfolding admitted admit_outcome_by counted_by
 returns_2 c =
-    both_parts c.before.before.preview.ensures
-    (sym (refused_kept _ _ _ _ _ (sym c.before.before.preview.ensures ∙ ap counted_by c.enum-told2.given.1)))
+    both_parts c.preview-answer.ensures
+    (sym (refused_kept _ _ _ _ _ (sym c.preview-answer.ensures ∙ ap counted_by c.in_default.is)))
 
 pub admit_spec : {M : Type 1} → statement M
 admit_spec =

@@ -17,99 +17,78 @@ use Rattle.urn.proofs.admit.decide.Statement.{statement}
 use Rattle.urn.proofs.admit.decide.Tie as tie
 use Rattle.basics.proofs.Flags.{and_first_fails}
 
-returns : tie.Need-returns
+returns : tie.Need-returns-then-not-facts
 unfolding admit_outcome_by counted_by reason_of
 returns c =
-    let s = c.before.before.before in
-    let a = s.args in
+    let a = c.args in
     outcome_refused _ _ _ (admit_first_lem a.k a.d a.facts a.juror a.ballot.now
-    ∙ admit_13 _ _ _ _ _ (T_true _ s.requires.graded) (not-true _ c.if1.true))
+    ∙ admit_13 _ _ _ _ _ (T_true _ c.requires.graded) (not-true _ c.if-not-facts.true))
 
-is_juror_requires : tie.Need-is-juror-requires
+is_juror_requires : tie.Need-is_juror-requires
 is_juror_requires c κs = search rules
 
-returns_2 : tie.Need-returns-2
+returns_2 : tie.Need-returns-then-not-is_juror
 unfolding admit_outcome_by counted_by reason_of
 returns_2 c =
-    let e = c.before.before in
-    let s = e.before.before.before in
-    let a = s.args in
+    let a = c.args in
     outcome_refused _ _ _ (admit_first_lem a.k a.d a.facts a.juror a.ballot.now
-    ∙ admit_14 _ _ _ _ _ (T_true _ s.requires.graded) (not-false _ e.if1.false)
+    ∙ admit_14 _ _ _ _ _ (T_true _ c.requires.graded) (not-false _ c.if-not-facts.false)
     (and_first_fails (good_juror a.juror) (not a.facts.present)
-    (sym c.before.is-juror.ensures ∙ not-true _ c.if2.true)))
+    (sym c.is_juror.ensures ∙ c.if-not-is_juror.true)))
 
-returns_3 : tie.Need-returns-3
+returns_3 : tie.Need-returns-then-facts
 unfolding admit_outcome_by counted_by reason_of
 returns_3 c =
-    let e = c.before.before.before in
-    let s = e.before.before.before in
-    let a = s.args in
+    let a = c.args in
     outcome_refused _ _ _ (admit_first_lem a.k a.d a.facts a.juror a.ballot.now
-    ∙ admit_14 _ _ _ _ _ (T_true _ s.requires.graded) (not-false _ e.if1.false)
+    ∙ admit_14 _ _ _ _ _ (T_true _ c.requires.graded) (not-false _ c.if-not-facts.false)
     (juror_present (good_juror a.juror) a.facts.present
-    (sym c.before.before.is-juror.ensures ∙ not-false _ c.before.if2.false) c.if3.true))
+    (sym c.is_juror.ensures ∙ c.if-not-is_juror.false) c.if-facts.true))
 
 test_requires : tie.Need-test-requires
 unfolding jury_of_one
 test_requires c κs =
-    let s = c.before.before.before.before.before.before in
-    graded_T (jury_of_one s.args.k s.args.d) (s.requires.graded)
+    graded_T (jury_of_one c.args.k c.args.d) (c.requires.graded)
 
-enum_known_reason : tie.Need-enum-known-reason
+enum_known_reason : tie.Need-enum_known-reason
 enum_known_reason c = search rules
 
-returns_4 : tie.Need-returns-4
+returns_4 : tie.Need-returns-in-Refused
 unfolding admit_outcome_by counted_by jury_of_one refused_for
 returns_4 c =
-    let t = c.before.before.before in
-    let q = t.before in
-    let e = q.before.before.before in
-    let s = e.before.before.before in
-    let a = s.args in
+    let a = c.args in
     outcome_refused _ _ _ (admit_first_lem a.k a.d a.facts a.juror a.ballot.now
-    ∙ admit_ballot _ _ _ _ _ _ (T_true _ s.requires.graded) (not-false _ e.if1.false)
+    ∙ admit_ballot _ _ _ _ _ _ (T_true _ c.requires.graded) (not-false _ c.if-not-facts.false)
     (juror_absent (good_juror a.juror) a.facts.present
-    (sym q.before.before.is-juror.ensures ∙ not-false _ q.before.if2.false) q.if3.false)
-    (sym t.test.ensures ∙ ap refused_for c.before.reason.given.1))
+    (sym c.is_juror.ensures ∙ c.if-not-is_juror.false) c.if-facts.false)
+    (sym c.test.ensures ∙ ap refused_for c.in-Refused.is))
 
-enum_told : tie.Need-enum-told
+enum_told : tie.Need-enum_told-1
 enum_told c = search rules
 
-returns_5 : tie.Need-returns-5
+returns_5 : tie.Need-returns-then-facts-2
 unfolding admit_outcome_by counted_by jury_of_one refused_for reason_of
 returns_5 c =
-    let t = c.before.before.before in
-    let q = t.before in
-    let e = q.before.before.before in
-    let s = e.before.before.before in
-    let a = s.args in
+    let a = c.args in
     outcome_refused _ _ _ (admit_first_lem a.k a.d a.facts a.juror a.ballot.now
-    ∙ admit_15 _ _ _ _ _ (T_true _ s.requires.graded) (not-false _ e.if1.false)
+    ∙ admit_15 _ _ _ _ _ (T_true _ c.requires.graded) (not-false _ c.if-not-facts.false)
     (juror_absent (good_juror a.juror) a.facts.present
-    (sym q.before.before.is-juror.ensures ∙ not-false _ q.before.if2.false) q.if3.false)
-    (sym t.test.ensures ∙ ap refused_for c.before.enum_told.given.1) (ap not c.if4.true))
+    (sym c.is_juror.ensures ∙ c.if-not-is_juror.false) c.if-facts.false)
+    (sym c.test.ensures ∙ ap refused_for c.in_default.is) (ap not c.if-facts-2.true))
 
-add_t15 : tie.Need-overflow-add-t15
+add_t15 : tie.Need-overflow_add-result
 add_t15 c =
-    let q = c.before.before.before.before.before in
-    let s = q.before.before.before.before.before.before in
-    omega (arith, s.requires.few)
+    omega (arith, c.requires.few)
 
-returns_6 : tie.Need-returns-6
+returns_6 : tie.Need-returns
 unfolding admit_outcome_by counted_by jury_of_one refused_for
 returns_6 c =
-    let i = c.before in
-    let t = i.before.before.before in
-    let q = t.before in
-    let e = q.before.before.before in
-    let s = e.before.before.before in
-    let a = s.args in
+    let a = c.args in
     outcome_accepted _ _ (admit_first_lem a.k a.d a.facts a.juror a.ballot.now
-    ∙ admit_none _ _ _ _ _ (T_true _ s.requires.graded) (not-false _ e.if1.false)
+    ∙ admit_none _ _ _ _ _ (T_true _ c.requires.graded) (not-false _ c.if-not-facts.false)
     (juror_absent (good_juror a.juror) a.facts.present
-    (sym q.before.before.is-juror.ensures ∙ not-false _ q.before.if2.false) q.if3.false)
-    (sym t.test.ensures ∙ ap refused_for i.before.enum_told.given.1) (ap not i.if4.false))
+    (sym c.is_juror.ensures ∙ c.if-not-is_juror.false) c.if-facts.false)
+    (sym c.test.ensures ∙ ap refused_for c.in_default.is) (ap not c.if-facts-2.false))
 
 pub decide_spec : {M : Type 1} → statement M
 decide_spec =

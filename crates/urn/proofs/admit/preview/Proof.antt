@@ -1,7 +1,6 @@
 -- `urn::admit::preview` meets its contract: it answers reason 1, or what the facts about the urn decide.
 -- Assumes nothing.
 use mathlib.Core.Path.{◌∙◌, sym, ap}
-use borrow.Author.Tests.{not-true, not-false}
 use Rattle.jury.specs.Reason.{reason_of}
 use Rattle.basics.proofs.Flags.{true_T}
 use Rattle.urn.specs.declared.facts.Facts.{Facts}
@@ -11,32 +10,30 @@ use Rattle.urn.proofs.Outcomes.{admit_first_lem, admit_1, outcome_refused}
 use Rattle.urn.proofs.admit.preview.Statement.{statement}
 use Rattle.urn.proofs.admit.preview.Tie as tie
 
-is_graded_requires : tie.Need-is-graded-requires
+is_graded_requires : tie.Need-is_graded-requires
 is_graded_requires c κs =
     tt
 
-returns : tie.Need-returns
+returns : tie.Need-returns-then-not-is_graded
 unfolding admit_outcome_by counted_by reason_of
 returns c =
-    let a = c.before.before.before.before.args in
+    let a = c.args in
     outcome_refused _ _ _ (admit_first_lem a.k a.d (facts_of a.k a.d a.urn.now a.juror) a.juror
-    a.ballot.now ∙ admit_1 _ _ _ _ _ (sym c.before.is-graded.ensures ∙ not-true _ c.if1.true))
+    a.ballot.now ∙ admit_1 _ _ _ _ _ (sym c.is_graded.ensures ∙ c.if-not-is_graded.true))
 
-check_requires : tie.Need-check-requires
+check_requires : tie.Need-check-looked-requires
 check_requires c κs =
-    let a = c.before.before.before.before.args in
-    (true_T _ (sym c.before.is-graded.ensures ∙ not-false _ c.if1.false))
+    let a = c.args in
+    (true_T _ (sym c.is_graded.ensures ∙ c.if-not-is_graded.false))
 
 decide_requires : tie.Need-decide-requires
 decide_requires c κs =
-    let e = c.before in
-    record { graded = true_T _ (sym e.before.is-graded.ensures ∙ not-false _ e.if1.false); few = c.check.ensures.few }
+    record { graded = true_T _ (sym c.is_graded.ensures ∙ c.if-not-is_graded.false); few = c.check-looked.ensures.few }
 
-returns_2 : tie.Need-returns-2
+returns_2 : tie.Need-returns
 returns_2 c =
-    let f = c.before in
-    let a = f.before.before.before.before.before.args in
-    c.decide.ensures ∙ ap (λ (x : Facts). admit_outcome_by a.k a.d x a.juror a.ballot.now) f.check.ensures.told
+    let a = c.args in
+    c.decide.ensures ∙ ap (λ (x : Facts). admit_outcome_by a.k a.d x a.juror a.ballot.now) c.check-looked.ensures.told
 
 pub preview_spec : {M : Type 1} → statement M
 preview_spec =

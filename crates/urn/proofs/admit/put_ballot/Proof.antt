@@ -32,30 +32,26 @@ inside s =
 small : (s : tie.Start) → s.args.k * s.args.d ≤ most_candidates * most_grades
 small s = few_bytes s.args.k s.args.d (s.requires.graded)
 
--- The start of the call, seen from after the reading of the slot's number.
-abbrev from_wide : tie.After-wide → tie.Start
-from_wide c = c.before.before.before.before.before
-
 -- the slot's place, from the byte that names it
 placed : (c : tie.After-wide) →
-    let a = c.before.before.before.before.before.args in
+    let a = c.args in
     c.wide.result * (2 + a.k * a.d) ≡ get_or a.urn.now 1 0 * (2 + a.k * a.d)
-placed c = let a = c.before.before.before.before.before.args in ap (λ (m : ℕ). m * (2 + a.k * a.d)) c.wide.ensures
+placed c = let a = c.args in ap (λ (m : ℕ). m * (2 + a.k * a.d)) c.wide.ensures
 
-mul_size : tie.Need-overflow-mul-size
+mul_size : tie.Need-overflow_mul-size
 mul_size c =
     omega (arith, small c.before.before)
 
-add_size : tie.Need-overflow-add-size
+add_size : tie.Need-overflow_add-size
 add_size c =
     omega (arith, small c.before.before)
 
-slice_read_first : tie.Need-slice-read-first
+slice_read_first : tie.Need-bounds-urn-0
 slice_read_first c =
     let l = long c.before.before.before in
     omega arith
 
-slice_read_slot : tie.Need-slice-read-slot
+slice_read_slot : tie.Need-bounds-urn-1
 slice_read_slot c =
     let l = long c.before.before.before.before in
     omega arith
@@ -63,60 +59,53 @@ slice_read_slot c =
 wide_requires : tie.Need-wide-requires
 wide_requires c κs = search rules
 
-mul_at : tie.Need-overflow-mul-at
+mul_at : tie.Need-overflow_mul-at
 mul_at c =
     omega (arith, placed c, inside c.before.before.before.before.before)
 
-slice_read_next : tie.Need-slice-read-next
+slice_read_next : tie.Need-bounds-urn-at
 slice_read_next c =
     omega (arith, placed c.before, inside c.before.before.before.before.before.before)
 
-cast_put_slot : tie.Need-overflow-cast-put-slot
+cast_put_slot : tie.Need-overflow_cast-juror
 cast_put_slot c =
-    let s = c.before.before.before.before.before.before.before in
-    omega (arith, juror_most s.args.juror s.requires.numbered)
+    omega (arith, juror_most c.args.juror c.requires.numbered)
 
-put_slot_requires : tie.Need-put-slot-requires
+put_slot_requires : tie.Need-put_slot-requires
 put_slot_requires c κs =
-    let s = c.before.before.before.before.before.before.before in
-    omega (arith, placed c.before.before, inside s, s.requires.size)
+    omega (arith, placed c.before.before, inside c.before.before.before.before.before.before.before, c.requires.size)
 
-slice_write_urn : tie.Need-slice-write-urn
+slice_write_urn : tie.Need-bounds-urn-0-2
 slice_write_urn c =
-    let s = from_wide c.before.before.before.before.before in
-    let l = long s in
-    let q : length c.before.before.put-slot.new.0 ≡ length s.args.urn.now = c.before.before.put-slot.auto.0 in
-    let r : 0 < length c.before.before.put-slot.new.0 = omega arith in
+    let l = long c.before.before.before.before.before.before.before.before.before.before in
+    let q : length c.put_slot.new.urn ≡ length c.args.urn.now = c.put_slot.auto.urn in
+    let r : 0 < length c.put_slot.new.urn = omega arith in
     r
 
-slice_write_urn_2 : tie.Need-slice-write-urn-2
+slice_write_urn_2 : tie.Need-bounds-urn-1-2
 slice_write_urn_2 c =
-    let s = from_wide c.before.before.before.before.before in
-    let l = long s in
-    let q : length c.before.before.put-slot.new.0 ≡ length s.args.urn.now = c.before.before.put-slot.auto.0 in
-    let r : 1 < length (set c.before.before.put-slot.new.0 0 (get_or s.args.urn.now 1 0)) =
-    omega (arith, length-set c.before.before.put-slot.new.0 0 (get_or s.args.urn.now 1 0)) in
+    let l = long c.before.before.before.before.before.before.before.before.before.before in
+    let q : length c.put_slot.new.urn ≡ length c.args.urn.now = c.put_slot.auto.urn in
+    let r : 1 < length (set c.put_slot.new.urn 0 (get_or c.args.urn.now 1 0)) =
+    omega (arith, length-set c.put_slot.new.urn 0 (get_or c.args.urn.now 1 0)) in
     r
 
-same_length : tie.Need-same-length
+same_length : tie.Need-shape_of-urn
 same_length c =
-    let s = from_wide c.before.before.before.before.before in
-    length-set (set c.before.before.put-slot.new.0 0 (get_or s.args.urn.now 1 0)) 1 _
-    ∙ length-set c.before.before.put-slot.new.0 0 (get_or s.args.urn.now 1 0)
-    ∙ c.before.before.put-slot.auto.0
+    length-set (set c.put_slot.new.urn 0 (get_or c.args.urn.now 1 0)) 1 _
+    ∙ length-set c.put_slot.new.urn 0 (get_or c.args.urn.now 1 0)
+    ∙ c.put_slot.auto.urn
 
 returns : tie.Need-returns
 returns c =
-    let h = c.before.before.before.before.before in
-    let s = h.before.before.before.before.before in
-    let a = s.args in
+    let a = c.args in
     let z = 2 + a.k * a.d in
     let u = a.urn.now in
-    let last = c.before.before.put-slot.new.0 in
-    ap (λ (m : ℕ). set (set last 0 (get_or u 1 0)) 1 (get_or u (m * z) 0)) h.wide.ensures
-    ∙ admit_bytes a.k a.d u (s.requires.graded) s.requires.is_sound s.requires.room a.juror a.ballot.now last s.requires.size
-    (c.before.before.put-slot.ensures ∙ ap (λ (m : ℕ). take (m * z) u
-    ++ (get_or u 0 0 ∷ a.juror ∷ a.ballot.now) ++ drop (m * z + 2 + length a.ballot.now) u) h.wide.ensures)
+    let last = c.put_slot.new.urn in
+    ap (λ (m : ℕ). set (set last 0 (get_or u 1 0)) 1 (get_or u (m * z) 0)) c.wide.ensures
+    ∙ admit_bytes a.k a.d u (c.requires.graded) c.requires.is_sound c.requires.room a.juror a.ballot.now last c.requires.size
+    (c.put_slot.ensures ∙ ap (λ (m : ℕ). take (m * z) u
+    ++ (get_or u 0 0 ∷ a.juror ∷ a.ballot.now) ++ drop (m * z + 2 + length a.ballot.now) u) c.wide.ensures)
 
 pub put_ballot_spec : {M : Type 1} → statement M
 put_ballot_spec =

@@ -5,7 +5,6 @@ use mathlib.Core.Bool.{true}
 use Prim.Native.Nat.{ℕ, ◌*◌}
 use lib.Dec.{T}
 use lib.ListN.{length}
-use borrow.Author.Tests.{not-true, not-false}
 use Rattle.jury.specs.Shape.{graded_limits}
 use Rattle.jury.specs.Reason.{reason_of}
 use Rattle.basics.proofs.Flags.{true_T}
@@ -24,71 +23,66 @@ use Rattle.urn.proofs.empty.empty.Statement.{statement}
 use Rattle.urn.proofs.empty.empty.Tie as tie
 
 -- the shape is that of a graded jury
-graded : (c : tie.Else1) → graded_shape c.before.before.before.args.k c.before.before.before.args.d ≡ true
-graded c = sym c.before.is-graded.ensures ∙ not-false _ c.if1.false
+graded : (c : tie.Else-not-is_graded) → graded_shape c.args.k c.args.d ≡ true
+graded c = sym c.is_graded.ensures ∙ c.if-not-is_graded.false
 
-within : (c : tie.Else1) → T (graded_limits (jury_of_one c.before.before.before.args.k c.before.before.before.args.d))
+within : (c : tie.Else-not-is_graded) → T (graded_limits (jury_of_one c.args.k c.args.d))
 within c = (true_T _ (graded c))
 
-is_graded_requires : tie.Need-is-graded-requires
+is_graded_requires : tie.Need-is_graded-requires
 is_graded_requires c κs = tt
 
-returns : tie.Need-returns
+returns : tie.Need-returns-then-not-is_graded
 unfolding empty_outcome emptied counted_by reason_of
 returns c =
-    let a = c.before.before.before.args in
-    let e = empty_1 a.k a.d a.urn.now (sym c.before.is-graded.ensures ∙ not-true _ c.if1.true) in
+    let a = c.args in
+    let e = empty_1 a.k a.d a.urn.now (sym c.is_graded.ensures ∙ c.if-not-is_graded.true) in
     both_parts (outcome_refused _ _ _ e) (some_old _ _ _ _ e)
 
-mul_bytes : tie.Need-overflow-mul-bytes
+mul_bytes : tie.Need-overflow_mul-bytes
 mul_bytes c =
-    let a = c.before.before.before.args in
+    let a = c.args in
     omega (arith, few_bytes a.k a.d (within c))
 
-slots_in_requires : tie.Need-slots-in-requires
+slots_in_requires : tie.Need-slots_in-slots-requires
 slots_in_requires c κs =
-    let a = c.before.before.before.args in
+    let a = c.args in
     few_bytes a.k a.d (within c)
 
-returns_2 : tie.Need-returns-2
+returns_2 : tie.Need-returns-then-slots-eq0
 unfolding empty_outcome emptied counted_by reason_of
 returns_2 c =
-    let g = c.before.before in
-    let a = g.before.before.before.args in
+    let a = c.args in
     let b = a.k * a.d in
     let m = length a.urn.now in
-    let e = empty_13 a.k a.d a.urn.now (graded g)
-    (counted_false (urn_length b m) (slot_count b m) _ c.before.slots-in.ensures c.if2.true
+    let e = empty_13 a.k a.d a.urn.now (graded c.before.before)
+    (counted_false (urn_length b m) (slot_count b m) _ c.slots_in-slots.ensures c.if-slots-eq0.true
     (count_least b m)) in
     both_parts (outcome_refused _ _ _ e) (some_old _ _ _ _ e)
 
-free_all_requires : tie.Need-free-all-requires
+free_all_requires : tie.Need-free_all-requires
 free_all_requires c κs =
-    let q = c.before in
-    let g = q.before.before in
-    let a = g.before.before.before.args in
+    let a = c.args in
     let b = a.k * a.d in
     let m = length a.urn.now in
-    table b a.urn.now _ (few_bytes a.k a.d (within g))
-    (counted_true (urn_length b m) (slot_count b m) _ q.before.slots-in.ensures q.if2.false)
-    (counted_is (urn_length b m) (slot_count b m) _ q.before.slots-in.ensures q.if2.false)
+    table b a.urn.now _ (few_bytes a.k a.d (within c.before.before.before))
+    (counted_true (urn_length b m) (slot_count b m) _ c.slots_in-slots.ensures c.if-slots-eq0.false)
+    (counted_is (urn_length b m) (slot_count b m) _ c.slots_in-slots.ensures c.if-slots-eq0.false)
 
-same_length : tie.Need-same-length
+same_length : tie.Need-shape_of-urn
 same_length c = search rules
 
-returns_3 : tie.Need-returns-3
+returns_3 : tie.Need-returns
 unfolding empty_outcome emptied counted_by
 returns_3 c =
-    let q = c.before.before.before.before in
-    let g = q.before.before in
-    let a = g.before.before.before.args in
+    let a = c.args in
     let b = a.k * a.d in
     let m = length a.urn.now in
-    let e = empty_none a.k a.d a.urn.now (graded g)
-    (counted_true (urn_length b m) (slot_count b m) _ q.before.slots-in.ensures q.if2.false) in
+    let e = empty_none a.k a.d a.urn.now (graded c.before.before.before.before.before.before)
+    (counted_true (urn_length b m) (slot_count b m) _ c.slots_in-slots.ensures c.if-slots-eq0.false) in
     both_parts (outcome_accepted _ _ e)
-    (c.before.before.free_all.ensures
-    ∙ ap (λ (n : ℕ). bytes_of (all_free n b)) (counted_is (urn_length b m) (slot_count b m) _ q.before.slots-in.ensures q.if2.false)
+    (c.free_all.ensures
+    ∙ ap (λ (n : ℕ). bytes_of (all_free n b)) (counted_is (urn_length b m) (slot_count b m) _ c.slots_in-slots.ensures c.if-slots-eq0.false)
     ∙ sym (none_new _ _ _ e))
 
 pub empty_spec : {M : Type 1} → statement M

@@ -17,69 +17,55 @@ use Rattle.urn.proofs.withdraw.decide.Statement.{statement}
 use Rattle.urn.proofs.withdraw.decide.Tie as tie
 use Rattle.basics.proofs.Flags.{and_first_fails}
 
-returns : tie.Need-returns
+returns : tie.Need-returns-then-not-facts
 unfolding withdraw_outcome_by counted_by reason_of
 returns c =
-    let s = c.before.before in
-    let a = s.args in
+    let a = c.args in
     outcome_refused _ _ _ (withdraw_first_lem a.k a.d a.facts a.juror
-    ∙ withdraw_13 _ _ _ (T_true _ s.requires) (not-true _ c.if1.true))
+    ∙ withdraw_13 _ _ _ (T_true _ c.requires) (not-true _ c.if-not-facts.true))
 
-is_juror_requires : tie.Need-is-juror-requires
+is_juror_requires : tie.Need-is_juror-requires
 is_juror_requires c κs = search rules
 
-returns_2 : tie.Need-returns-2
+returns_2 : tie.Need-returns-then-not-is_juror
 unfolding withdraw_outcome_by counted_by reason_of
 returns_2 c =
-    let e = c.before.before in
-    let s = e.before.before in
-    let a = s.args in
+    let a = c.args in
     outcome_refused _ _ _ (withdraw_first_lem a.k a.d a.facts a.juror
-    ∙ withdraw_14 _ _ _ (T_true _ s.requires) (not-false _ e.if1.false)
+    ∙ withdraw_14 _ _ _ (T_true _ c.requires) (not-false _ c.if-not-facts.false)
     (and_first_fails (good_juror a.juror) a.facts.present
-    (sym c.before.is-juror.ensures ∙ not-true _ c.if2.true)))
+    (sym c.is_juror.ensures ∙ c.if-not-is_juror.true)))
 
-returns_3 : tie.Need-returns-3
+returns_3 : tie.Need-returns-then-not-facts-2
 unfolding withdraw_outcome_by counted_by reason_of
 returns_3 c =
-    let i = c.before.before.before in
-    let e = i.before in
-    let s = e.before.before in
-    let a = s.args in
+    let a = c.args in
     outcome_refused _ _ _ (withdraw_first_lem a.k a.d a.facts a.juror
-    ∙ withdraw_14 _ _ _ (T_true _ s.requires) (not-false _ e.if1.false)
+    ∙ withdraw_14 _ _ _ (T_true _ c.requires) (not-false _ c.if-not-facts.false)
     (juror_gone (good_juror a.juror) a.facts.present
-    (sym i.is-juror.ensures ∙ not-false _ c.before.before.if2.false) (not-true _ c.if3.true)))
+    (sym c.is_juror.ensures ∙ c.if-not-is_juror.false) (not-true _ c.if-not-facts-2.true)))
 
-returns_4 : tie.Need-returns-4
+returns_4 : tie.Need-returns-then-before-eq0
 unfolding withdraw_outcome_by counted_by
 returns_4 c =
-    let q = c.before in
-    let i = q.before.before.before in
-    let e = i.before in
-    let s = e.before.before in
-    let a = s.args in
-    ap accepted {x = 0} {y = a.facts.ballots - 1} (omega (arith, c.if4.true))
+    let a = c.args in
+    ap accepted {x = 0} {y = a.facts.ballots - 1} (omega (arith, c.if-before-eq0.true))
     ∙ outcome_accepted _ _ (withdraw_first_lem a.k a.d a.facts a.juror
-    ∙ withdraw_none _ _ _ (T_true _ s.requires) (not-false _ e.if1.false)
+    ∙ withdraw_none _ _ _ (T_true _ c.requires) (not-false _ c.if-not-facts.false)
     (and_both (good_juror a.juror) a.facts.present
-    (sym i.is-juror.ensures ∙ not-false _ q.before.before.if2.false) (not-false _ q.if3.false)))
+    (sym c.is_juror.ensures ∙ c.if-not-is_juror.false) (not-false _ c.if-not-facts-2.false)))
 
-sub_t11 : tie.Need-overflow-sub-t11
+sub_t11 : tie.Need-overflow_sub-result
 sub_t11 c = search rules
 
-returns_5 : tie.Need-returns-5
+returns_5 : tie.Need-returns
 unfolding withdraw_outcome_by counted_by
 returns_5 c =
-    let q = c.before in
-    let i = q.before.before.before in
-    let e = i.before in
-    let s = e.before.before in
-    let a = s.args in
+    let a = c.args in
     outcome_accepted _ _ (withdraw_first_lem a.k a.d a.facts a.juror
-    ∙ withdraw_none _ _ _ (T_true _ s.requires) (not-false _ e.if1.false)
+    ∙ withdraw_none _ _ _ (T_true _ c.requires) (not-false _ c.if-not-facts.false)
     (and_both (good_juror a.juror) a.facts.present
-    (sym i.is-juror.ensures ∙ not-false _ q.before.before.if2.false) (not-false _ q.if3.false)))
+    (sym c.is_juror.ensures ∙ c.if-not-is_juror.false) (not-false _ c.if-not-facts-2.false)))
 
 pub decide_spec : {M : Type 1} → statement M
 decide_spec =

@@ -58,83 +58,77 @@ from_inside s =
     let a = s.args in
     link_inside a.k a.d a.urn.now (limits s) s.requires.is_sound (holder s) a.before a.slot (told s)
 
-mul_bytes : tie.Need-overflow-mul-bytes
+mul_bytes : tie.Need-overflow_mul-bytes
 mul_bytes c =
     omega (arith, small c.before)
 
-add_size : tie.Need-overflow-add-size
+add_size : tie.Need-overflow_add-size
 add_size c =
     omega (arith, small c.before)
 
-mul_from : tie.Need-overflow-mul-from
+mul_from : tie.Need-overflow_mul-from
 mul_from c =
     omega (arith, from_inside c.before)
 
-mul_at : tie.Need-overflow-mul-at
+mul_at : tie.Need-overflow_mul-at
 mul_at c =
     omega (arith, at_inside c.before)
 
-slice_read_free : tie.Need-slice-read-free
+slice_read_free : tie.Need-bounds-urn-1
 slice_read_free c =
     let l = long c.before.before in
     omega arith
 
-slice_read_urn : tie.Need-slice-read-urn
+slice_read_urn : tie.Need-bounds-urn-at
 slice_read_urn c =
     omega (arith, at_inside c.before.before.before)
 
-slice_write_urn : tie.Need-slice-write-urn
+slice_write_urn : tie.Need-bounds-urn-from
 slice_write_urn c =
     omega (arith, from_inside c.before.before.before)
 
-sub_put_slot : tie.Need-overflow-sub-put-slot
+sub_put_slot : tie.Need-slice_bounds-put_slot-count
 sub_put_slot c =
     omega arith
 
-part_put_slot_start : tie.Need-slice-bounds-put-slot-start
+part_put_slot_start : tie.Need-slice_bounds-put_slot-start
 part_put_slot_start c =
     search rules
 
-part_put_slot_end : tie.Need-slice-bounds-put-slot-end
+part_put_slot_end : tie.Need-slice_bounds-put_slot-end
 part_put_slot_end c =
-    let q = small c.before.before.before.before.before in
+    let q = small c.before.before.before.before in
     q
 
-put_slot_requires : tie.Need-put-slot-requires
+put_slot_requires : tie.Need-put_slot-requires
 put_slot_requires c κs =
-    let t = c.before.before.before.before.before in
-    let s = t.before in
-    let a = s.args in
+    let a = c.args in
     omega (
       arith,
-      at_inside s,
+      at_inside c.before.before.before.before.before,
       length-set a.urn.now (a.before * (2 + a.k * a.d))
           (get_or a.urn.now (a.slot * (2 + a.k * a.d)) 0),
       length-take {A = ℕ} (a.k * a.d - 0) (replicate (most_candidates * most_grades) 0),
     )
 
-cast_urn : tie.Need-overflow-cast-urn
+cast_urn : tie.Need-overflow_cast-urn
 cast_urn c =
-    let t = c.before.before.before.before.before.before.before.before in
-    let s = t.before in
-    let a = s.args in
+    let a = c.args in
     omega (
       arith,
-      slot_below a.k a.d a.urn.now (limits s) s.requires.is_sound (holder s) a.before
-          a.slot (told s),
-      (its_table a.k a.d a.urn.now (limits s) s.requires.is_sound).most,
+      slot_below a.k a.d a.urn.now (limits c.before.before.before.before.before.before.before.before) c.requires.is_sound (holder c.before.before.before.before.before.before.before.before) a.before
+          a.slot (told c.before.before.before.before.before.before.before.before),
+      (its_table a.k a.d a.urn.now (limits c.before.before.before.before.before.before.before.before) c.requires.is_sound).most,
     )
 
-slice_write_urn_2 : tie.Need-slice-write-urn-2
+slice_write_urn_2 : tie.Need-bounds-urn-1-2
 slice_write_urn_2 c =
-    let t = c.before.before.before.before.before.before.before.before in
-    let s = t.before in
-    let a = s.args in
-    let l = long s in
-    let q : length c.before.before.put-slot.new.0
+    let a = c.args in
+    let l = long c.before.before.before.before.before.before.before.before in
+    let q : length c.put_slot.new.urn
     ≡ length (set a.urn.now (a.before * (2 + a.k * a.d))
-    (get_or a.urn.now (a.slot * (2 + a.k * a.d)) 0)) = c.before.before.put-slot.auto.0 in
-    let r : 1 < length c.before.before.put-slot.new.0 =
+    (get_or a.urn.now (a.slot * (2 + a.k * a.d)) 0)) = c.put_slot.auto.urn in
+    let r : 1 < length c.put_slot.new.urn =
     omega (
       arith,
       length-set a.urn.now (a.before * (2 + a.k * a.d))
@@ -142,25 +136,21 @@ slice_write_urn_2 c =
     ) in
     r
 
-same_length : tie.Need-same-length
+same_length : tie.Need-shape_of-urn
 same_length c =
-    let t = c.before.before.before.before.before.before.before.before in
-    let s = t.before in
-    let a = s.args in
-    length-set c.before.before.put-slot.new.0 1 _ ∙ c.before.before.put-slot.auto.0
+    let a = c.args in
+    length-set c.put_slot.new.urn 1 _ ∙ c.put_slot.auto.urn
     ∙ length-set a.urn.now (a.before * (2 + a.k * a.d)) (get_or a.urn.now (a.slot * (2 + a.k * a.d)) 0)
 
 returns : tie.Need-returns
 unfolding holder
 returns c =
-    let t = c.before.before.before.before.before.before.before.before in
-    let s = t.before in
-    let a = s.args in
-    withdraw_bytes a.k a.d a.urn.now (limits s) s.requires.is_sound (holder s) a.before a.slot
-    (told s) (take (a.k * a.d - 0) (replicate (most_candidates * most_grades) 0)) c.before.before.put-slot.new.0
+    let a = c.args in
+    withdraw_bytes a.k a.d a.urn.now (limits c.before.before.before.before.before.before.before.before) c.requires.is_sound (holder c.before.before.before.before.before.before.before.before) a.before a.slot
+    (told c.before.before.before.before.before.before.before.before) (take (a.k * a.d - 0) (replicate (most_candidates * most_grades) 0)) c.put_slot.new.urn
     (ap (λ (m : ℕ). take {A = ℕ} m (replicate (most_candidates * most_grades) 0)) (sub-zero (a.k * a.d))
-    ∙ take_zeros (a.k * a.d) (most_candidates * most_grades) (small s))
-    c.before.before.put-slot.ensures
+    ∙ take_zeros (a.k * a.d) (most_candidates * most_grades) (small c.before.before.before.before.before.before.before.before))
+    c.put_slot.ensures
 
 pub take_ballot_spec : {M : Type 1} → statement M
 take_ballot_spec =
