@@ -4,6 +4,7 @@ use borrow.Author.Rules.{rules}
 use mathlib.Core.Path.{◌≡◌, ◌∙◌, sym, ap}
 use Prim.Native.Nat.{ℕ}
 use lib.ListN.{length}
+use native.Mathlib.Omega.{arith}
 use Rattle.gates.specs.Gate.{gates_of}
 use Rattle.gate_levels.specs.Levels.{levels_of, rounds_of}
 use Rattle.jury.specs.Shape.{within_limits, ballot_bytes}
@@ -17,74 +18,71 @@ use Rattle.levels.proofs.write.write.Statement.{statement}
 use Rattle.levels.proofs.write.write.Tie as tie
 
 -- the list has passed its test
-facts : (c : tie.After-gates) → let a = c.before.before.before.before.before.args in
-    ListFacts a.shape a.table.now c.gates.given.0.0 c.gates.given.0.1.0
+facts : (c : tie.In-Accepted) → let a = c.args in
+    ListFacts a.shape a.table.now c.in-Accepted.gates c.in-Accepted.conditional
 unfolding outcome_of
 facts c =
-    let a = c.before.before.before.before.before.args in
+    let a = c.args in
     list_facts a.shape a.table.now _ _
     (test_passed a.shape a.table.now _
-    (sym c.before.before.test.ensures ∙ ap outcome_of c.gates.given.1))
+    (sym c.test.ensures ∙ ap outcome_of c.in-Accepted.is))
 
 test_requires : tie.Need-test-requires
 test_requires c κs = search rules
 
-enum_known_reason : tie.Need-enum-known-reason
+enum_known_reason : tie.Need-enum_known-reason
 enum_known_reason c = search rules
 
-enum_known_gates : tie.Need-enum-known-gates
+enum_known_gates : tie.Need-enum_known-gates
 enum_known_gates c = search rules
 
-returns : tie.Need-returns
+returns : tie.Need-returns-then-levels-gates
 unfolding depths_outcome level_reason_of
 returns c =
-    let a = c.before.before.before.before.before.before.before.args in
-    let f = facts c.before.before in
-    let differs = c.if1.true in
+    let a = c.args in
+    let f = facts c.before in
+    let differs = c.if-levels-gates.true in
     call_refused a.shape a.table.now a.levels.now (reason_at 200 0)
-    (other_length a.shape a.table.now a.levels.now f.reasons (λ e. differs (e ∙ sym f.gates_are)))
+    (other_length a.shape a.table.now a.levels.now f.reasons (λ e. absurd (omega (arith, differs, e, f.gates_are))))
 
 -- the level table has one number for each gate
-long : (c : tie.Else1) → let a = c.before.before.before.before.before.before.before.args in
+long : (c : tie.Else-levels-gates) → let a = c.args in
     length a.levels.now ≡ length (gates_of a.table.now)
-long c = c.if1.false ∙ (facts c.before.before).gates_are
+long c = omega (arith, c.if-levels-gates.false, (facts c.before).gates_are)
 
-ballot_bytes_requires : tie.Need-ballot-bytes-requires
+ballot_bytes_requires : tie.Need-ballot_bytes-inputs-requires
 ballot_bytes_requires c κs = true_T
-    (within_limits c.before.before.before.before.before.before.before.args.shape)
-    (facts c.before.before).within
+    (within_limits c.args.shape)
+    (facts c.before).within
 
-write_requires : tie.Need-write-requires
+write_requires : tie.Need-write-rounds-requires
 write_requires c κs =
-    let f = facts c.before.before.before.before in
-    let e = c.before.ballot-bytes.ensures in
+    let f = facts c.before.before.before in
+    let e = c.ballot_bytes-inputs.ensures in
     rw e (record { some_input = f.some_input; few = f.few; good = f.good; levels_length = long c.before.before })
 
-returns_2 : tie.Need-returns-2
+returns_2 : tie.Need-returns-in-Refused
 unfolding depths_outcome level_reason_of outcome_of
 returns_2 c =
-    let a = c.before.before.before.before.before.before.args in
-    let g = c.before.reason.given in
-    call_refused a.shape a.table.now a.levels.now (reason_of g.0.0)
-    (of_list a.shape a.table.now a.levels.now (reason_of g.0.0)
-    (sym c.before.before.before.test.ensures ∙ ap outcome_of g.1))
+    let a = c.args in
+    call_refused a.shape a.table.now a.levels.now (reason_of c.in-Refused.reason)
+    (of_list a.shape a.table.now a.levels.now (reason_of c.in-Refused.reason)
+    (sym c.test.ensures ∙ ap outcome_of c.in-Refused.is))
 
-same_length : tie.Need-same-length
+same_length : tie.Need-shape_of-levels
 same_length c = search rules
 
-returns_3 : tie.Need-returns-3
+returns_3 : tie.Need-returns-else-levels-gates
 unfolding depths_outcome
 returns_3 c =
-    let done = c.before.before in
-    let asked = done.before.before in
-    let else = asked.before in
-    let a = else.before.before.before.before.before.before.before.args in
-    let f = facts else.before.before in
-    let inputs = asked.ballot-bytes.ensures in
+    let a = c.args in
+    let else = c.before.before.before.before.before in
+    let f = facts else.before in
+    let inputs = c.ballot_bytes-inputs.ensures in
     same_result
     (ap accepted (depths_are (ballot_bytes a.shape) a.table.now _ _ _ f.gates_are f.conditional_are
-    (done.write.ensures.rounds ∙ ap (λ (n : ℕ). rounds_of n (gates_of a.table.now)) inputs)))
-    (done.write.ensures.levels ∙ ap (λ (n : ℕ). levels_of n (gates_of a.table.now)) inputs)
+    (c.write-rounds.ensures.rounds ∙ ap (λ (n : ℕ). rounds_of n (gates_of a.table.now)) inputs)))
+    (c.write-rounds.ensures.levels ∙ ap (λ (n : ℕ). levels_of n (gates_of a.table.now)) inputs)
     ∙ call_accepted a.shape a.table.now a.levels.now
     (all_pass a.shape a.table.now a.levels.now f.reasons (long else))
 

@@ -9,36 +9,36 @@ use borrow.Author.Rules.{rules}
 use Rattle.levels.proofs.answer.LevelRefusal.place.Statement.{statement}
 use Rattle.levels.proofs.answer.LevelRefusal.place.Tie as tie
 
-enum_known_self : tie.Need-enum-known-self
+enum_known_self : tie.Need-enum_known-self
 enum_known_self c = search rules
 
 place_requires : tie.Need-place-requires
 place_requires c κs = search rules
 
-enum_told : tie.Need-enum-told
+enum_told : tie.Need-enum_told-1
 enum_told c = search rules
 
-enum_told_2 : tie.Need-enum-told-2
+enum_told_2 : tie.Need-enum_told-in-Round
 enum_told_2 c = search rules
 
-enum_told_3 : tie.Need-enum-told-3
+enum_told_3 : tie.Need-enum_told-in-Heard
 enum_told_3 c = search rules
 
-returns : tie.Need-returns
+returns : tie.Need-returns-in-OfCore
 unfolding level_reason_of reason_at
-returns c = c.place.ensures ∙ sym (ap (λ (r : LevelRefusal). (level_reason_of r).place) c.before.before.self.given.1)
+returns c = c.place.ensures ∙ sym (ap (λ (r : LevelRefusal). (level_reason_of r).place) c.in-OfCore.is)
 
-returns_2 : tie.Need-returns-2
+returns_2 : tie.Need-returns-in-Levels
 unfolding level_reason_of reason_at
-returns_2 c = sym (ap (λ (r : LevelRefusal). (level_reason_of r).place) c.enum_told.given.1)
+returns_2 c = sym (ap (λ (r : LevelRefusal). (level_reason_of r).place) c.in-Levels.is)
 
-returns_3 : tie.Need-returns-3
+returns_3 : tie.Need-returns-in-Round
 unfolding level_reason_of reason_at
-returns_3 c = sym (ap (λ (r : LevelRefusal). (level_reason_of r).place) c.enum-told2.given.1)
+returns_3 c = sym (ap (λ (r : LevelRefusal). (level_reason_of r).place) c.in-Round.is)
 
-returns_4 : tie.Need-returns-4
+returns_4 : tie.Need-returns-in-Heard
 unfolding level_reason_of reason_at
-returns_4 c = sym (ap (λ (r : LevelRefusal). (level_reason_of r).place) c.enum-told3.given.1)
+returns_4 c = sym (ap (λ (r : LevelRefusal). (level_reason_of r).place) c.in-Heard.is)
 
 pub place_spec : {M : Type 1} → statement M
 place_spec =
