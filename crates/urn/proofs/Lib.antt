@@ -10,3 +10,4 @@ pub mod EmptyUrn
 pub mod Previews
 pub mod UrnTheorems
 pub mod UrnMemory
+pub mod Order

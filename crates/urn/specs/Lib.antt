@@ -5,5 +5,6 @@ pub mod Empty
 pub mod Theorems
 pub mod Previews
 pub mod Memory
+pub mod Order
 pub mod Examples
 pub mod inner
