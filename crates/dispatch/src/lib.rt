@@ -1,4 +1,6 @@
 // One unit for up to eight juries: a scheduler that shares it out among them (request 2.8).
+#![tactic(auto)]
+
 pub mod dispatch;
 mod tests;
 pub mod verdict;

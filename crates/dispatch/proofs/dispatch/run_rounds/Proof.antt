@@ -15,7 +15,7 @@ use Rattle.dispatch.proofs.Whole.{state_start, few_gates, gets_gate}
 use Rattle.dispatch.proofs.dispatch.run_rounds.Statement.{statement}
 use Rattle.dispatch.proofs.dispatch.run_rounds.Tie as tie
 
-abbrev invariant_loop : tie.invariant-loop
+abbrev invariant_loop : tie.invariant-loop-done
 invariant_loop count headers conditional gates_per_round lists ballots tapes wires₀ boards₀ most shown₀ done₀ wires boards shown done =
     RoundState (done * gates_per_round) (take count headers) (tables_of lists ballots tapes wires₀ boards₀) conditional wires boards shown
     × (length wires ≡ length wires₀)
@@ -23,38 +23,36 @@ invariant_loop count headers conditional gates_per_round lists ballots tapes wir
     × (done ≤ most)
     × ((r : ℕ) → r < done → r * gates_per_round < most)
 
-abbrev decreases_loop : tie.decreases-loop
+abbrev decreases_loop : tie.decreases-loop-done
 decreases_loop count headers conditional gates_per_round lists ballots tapes wires₀ boards₀ most shown₀ done₀ wires boards shown done = most - done
 
 -- From a round back to where the function starts.
-abbrev begun : tie.In-loop invariant_loop decreases_loop → tie.Start invariant_loop decreases_loop
-begun c = c.before.before.before.before.before.before.before.before
 
 -- the tables as they are lent
 abbrev all : tie.Start invariant_loop decreases_loop → Tables
 all s = tables_of s.args.lists.now s.args.ballots.now s.args.tapes.now s.args.wires.now s.args.boards.now
 
 -- a bound for the gates of the longest jury
-few : (c : tie.At-loop invariant_loop decreases_loop) → c.before.longest-list.result ≤ 1048576
+few : (c : tie.At-loop-done invariant_loop decreases_loop) → c.longest_list-most.result ≤ 1048576
 few c =
     let s = c.before.before.before.before.before.before.before in
-    omega (arith, c.before.longest-list.ensures, few_gates 0 (take s.args.count s.args.headers) (all s) s.requires.accepted)
+    omega (arith, c.longest_list-most.ensures, few_gates 0 (take s.args.count s.args.headers) (all s) s.requires.accepted)
 
 -- a round gives at least one gate, so there are no more rounds than gates
 below : (done gates_per_round most : ℕ) → 1 ≤ gates_per_round → done * gates_per_round < most → done < most
 below done gates_per_round most h l = omega (arith, mul-le-mul {n₁ = done} {m₁ = 1} {n₂ = done} {m₂ = gates_per_round} (omega arith) h)
 
-longest_list_requires : tie.Need-longest-list-requires invariant_loop decreases_loop
-longest_list_requires c κs = c.before.before.before.before.before.requires.few
+longest_list_requires : tie.Need-longest_list-most-requires invariant_loop decreases_loop
+longest_list_requires c κs = c.requires.few
 
-loop_holds : tie.Need-loop-init invariant_loop decreases_loop
+loop_holds : tie.Need-loop-done-init invariant_loop decreases_loop
 loop_holds c =
     let s = c.before.before.before.before.before.before in
     let a = s.args in
     let ss = take a.count a.headers in
     let short : length ss ≤ 8 = omega (arith, length-take a.count a.headers, s.requires.few) in (
       subst (λ (n : ℕ). RoundState n ss (all s) a.conditional a.wires.now a.boards.now (replicate 8 0))
-          (sym (zero-mul a.gates-per-round))
+          (sym (zero-mul a.gates_per_round))
           (state_start ss (all s) a.conditional short s.requires.accepted s.requires.conditional_are),
       refl,
       refl,
@@ -62,60 +60,60 @@ loop_holds c =
       λ (r : ℕ) (h : r < 0). absurd (omega arith),
     )
 
-mul_loop : tie.Need-overflow-mul-loop invariant_loop decreases_loop
+mul_loop : tie.Need-overflow_mul-done invariant_loop decreases_loop
 mul_loop c =
-    let s = c.before.before.before.before.before.before.before in
+    let s = c in
     omega (
       arith,
-      mul-le-mul {n₁ = c.loop.done} {m₁ = s.args.gates-per-round} {n₂ = 1048576} {m₂ = 65536}
-          (omega (arith, c.loop.invariant.3, few c)) s.requires.per_round_most,
+      mul-le-mul {n₁ = c.loop-done.done} {m₁ = s.args.gates_per_round} {n₂ = 1048576} {m₂ = 65536}
+          (omega (arith, c.loop-done.invariant.3, few c)) s.requires.per_round_most,
     )
 
-round_requires : tie.Need-round-requires invariant_loop decreases_loop
+round_requires : tie.Need-round-after-requires invariant_loop decreases_loop
 round_requires c κs =
-    let s = begun c.before.before in
-    let l = c.before.before.before.loop in
+    let s = c in
+    let l = c.loop-done in
     let most = few c.before.before.before in
     record {
-      few = s.pre.few;
-      per_round_least = s.pre.per_round_least;
-      per_round_most = s.pre.per_round_most;
+      few = s.requires.few;
+      per_round_least = s.requires.per_round_least;
+      per_round_most = s.requires.per_round_most;
       done_most = omega (arith, l.invariant.3, most);
       wires_lent = s.args.wires.now;
       boards_lent = s.args.boards.now;
       state = l.invariant.0;
     }
 
-add_done : tie.Need-overflow-add-done invariant_loop decreases_loop
+add_done : tie.Need-overflow_add-done invariant_loop decreases_loop
 add_done c =
-    let l = c.before.before.before.before.before.before.before.before in
-    omega (arith, l.loop.invariant.3, few l)
+    let l = c in
+    omega (arith, l.loop-done.invariant.3, few l.before.before.before.before.before.before.before.before)
 
 -- this round is needed: the longest jury is not finished
-needed : (c : tie.In-loop invariant_loop decreases_loop) → c.before.loop.done < c.before.before.longest-list.result
+needed : (c : tie.In-loop-done invariant_loop decreases_loop) → c.loop-done.done < c.longest_list-most.result
 needed c =
-    let s = c.before.before.before.before.before.before.before.before in
-    below c.before.loop.done s.args.gates-per-round c.before.before.longest-list.result s.requires.per_round_least c.loop-test.true
+    let s = c in
+    below c.loop-done.done s.args.gates_per_round c.longest_list-most.result s.requires.per_round_least c.loop-done-test.true
 
-loop_less : tie.Need-loop-smaller invariant_loop decreases_loop
+loop_less : tie.Need-loop-done-smaller invariant_loop decreases_loop
 loop_less c = omega (arith, needed c.before.before.before.before.before.before.before)
 
-loop_again : tie.Need-loop-preserved invariant_loop decreases_loop
+loop_again : tie.Need-loop-done-preserved invariant_loop decreases_loop
 loop_again c =
-    let s = begun c.before.before.before.before.before.before.before in
+    let s = c.before.before.before.before.before.before.before.before.before.before.before.before.before.before.before in
     let a = s.args in
-    let l = c.before.before.before.before.before.before.before.before.loop in
-    let r = c.before.before.before.before.round in (
-      subst (λ (n : ℕ). RoundState (n * a.gates-per-round) (take a.count a.headers) (all s) a.conditional
-          r.new.1.1.1.1.1.1.1.1.1.0 r.new.1.1.1.1.1.1.1.1.1.1.0 r.result)
+    let l = c.loop-done in
+    let r = c.round-after in (
+      subst (λ (n : ℕ). RoundState (n * a.gates_per_round) (take a.count a.headers) (all s) a.conditional
+          r.new.wires r.new.boards r.result)
           (sym (add-one l.done))
           (r.ensures a.wires.now a.boards.now l.invariant.0),
-      r.auto.1.1.1.1.1.1.1.1.1.0 ∙ l.invariant.1,
-      r.auto.1.1.1.1.1.1.1.1.1.1.0 ∙ l.invariant.2,
+      r.auto.wires ∙ l.invariant.1,
+      r.auto.boards ∙ l.invariant.2,
       omega (arith, needed c.before.before.before.before.before.before.before),
-      further a.gates-per-round
-          c.before.before.before.before.before.before.before.before.before.longest-list.result l.done
-          l.invariant.4 c.before.before.before.before.before.before.before.loop-test.true,
+      further a.gates_per_round
+          c.longest_list-most.result l.done
+          l.invariant.4 c.loop-done-test.true,
     )
   where
     further : (gates_per_round most done : ℕ) → ((r : ℕ) → r < done → r * gates_per_round < most) → done * gates_per_round < most
@@ -124,23 +122,23 @@ loop_again c =
         ⊎_elim (λ (l : r < done). before r l)
         (λ (l : done ≤ r). let e : r ≡ done = omega arith in subst (λ (n : ℕ). n * gates_per_round < most) (sym e) now) (below_or_not r done)
 
-same_length : tie.Need-same-length invariant_loop decreases_loop
-same_length c = c.before.loop.invariant.1
+same_length : tie.Need-shape_of-wires invariant_loop decreases_loop
+same_length c = c.loop-done.invariant.1
 
-same_length_2 : tie.Need-same-length-2 invariant_loop decreases_loop
-same_length_2 c = c.before.loop.invariant.2
+same_length_2 : tie.Need-shape_of-boards invariant_loop decreases_loop
+same_length_2 c = c.loop-done.invariant.2
 
 returns : tie.Need-returns invariant_loop decreases_loop
 returns c =
-    let l = c.before.loop in
-    let most = c.before.before.longest-list.ensures in
-    let s = c.before.before.before.before.before.before.before.before in
+    let l = c.loop-done in
+    let most = c.longest_list-most.ensures in
+    let s = c in
     let ss = take s.args.count s.args.headers in
     record {
       done = l.done;
       shown = l.shown;
-      all = omega (arith, c.loop-test.false, most);
-      none_idle = λ (r : ℕ) h. gets_gate s.args.gates-per-round r ss s.requires.per_round_least (omega (arith, l.invariant.4 r h, most));
+      all = omega (arith, c.loop-done-test.false, most);
+      none_idle = λ (r : ℕ) h. gets_gate s.args.gates_per_round r ss s.requires.per_round_least (omega (arith, l.invariant.4 r h, most));
       state = l.invariant.0;
     }
 

@@ -33,30 +33,8 @@ abbrev pieces : tie.Start → Tables
 pieces s = pieces_of s.args.header (all s)
 
 -- The stages of the function. Each leads back to the one before it.
-abbrev to_start : tie.After-test → tie.Start
-to_start c = c.before.before.before.before.before.before.before.before
-
-abbrev to_list_test : tie.After-known-told → tie.After-test
-to_list_test c = c.before.before.before
-
-abbrev to_list_passed : tie.After-test2 → tie.After-known-told
-to_list_passed c = c.before.before.before.before
-
-abbrev to_ballots_test : tie.After-enum-told2 → tie.After-test2
-to_ballots_test c = c.before.before
-
-abbrev to_ballots_passed : tie.After-test-buffers → tie.After-enum-told2
-to_ballots_passed c = c.before.before.before.before.before.before.before
 
 -- From after the list passed, the ballots passed, or the buffers were tested, back to the start.
-abbrev listed : tie.After-known-told → tie.Start
-listed c = to_start (to_list_test c)
-
-abbrev balloted : tie.After-enum-told2 → tie.After-known-told
-balloted c = to_list_passed (to_ballots_test c)
-
-abbrev buffered : tie.After-test-buffers → tie.After-known-told
-buffered c = balloted (to_ballots_passed c)
 
 -- the first reason decides the answer
 refuses : (s : tie.Start) (r : Reason) → first_of (reasons_of s.args.header (all s)) ≡ some r
@@ -65,219 +43,219 @@ unfolding outcome
 refuses s r e = sym (ap (λ (o : Option Reason). outcome o (size_of (gates_of (list_of s.args.header (all s))))) e)
 
 -- the test of the list, on its piece
-list_outcome : (c : tie.After-test) → let s = to_start c in outcome_of c.test.result
+list_outcome : (c : tie.After-test-answer) → let s = c.before.before.before.before.before.before.before in outcome_of c.test-answer.result
     ≡ test_outcome (header_shape s.args.header) (pieces s).lists
 list_outcome c =
-    let s = to_start c in
-    let n = c.before.before.numbers-fitting in
-    c.test.ensures ∙ ap (test_outcome (header_shape s.args.header)) (list_piece s.args.header (all s) n.result n.ensures)
+    let s = c.before.before.before.before.before.before.before in
+    let n = c.numbers_fitting-numbers in
+    c.test-answer.ensures ∙ ap (test_outcome (header_shape s.args.header)) (list_piece s.args.header (all s) n.result n.ensures)
 
-size : tie.After-known-told → Size
-size c = let g = c.before.answer.given in record { gates = g.0.0; conditional = g.0.1.0 }
+size : tie.In-Accepted → Size
+size c = record { gates = c.in-Accepted.gates; conditional = c.in-Accepted.conditional }
 
-passed : (c : tie.After-known-told) → let s = listed c in TestPassed (header_shape s.args.header) (pieces s).lists (size c)
+passed : (c : tie.In-Accepted) → let s = c.before.before.before.before.before.before.before.before in TestPassed (header_shape s.args.header) (pieces s).lists (size c)
 unfolding outcome_of size
 passed c =
-    let s = listed c in
+    let s = c.before.before.before.before.before.before.before.before in
     test_passed (header_shape s.args.header) (pieces s).lists (size c)
-    (sym (list_outcome (to_list_test c)) ∙ ap outcome_of c.before.answer.given.1)
+    (sym (list_outcome c.before) ∙ ap outcome_of c.in-Accepted.is)
 
 -- the test of the ballots, on their piece
-ballots_outcome : (c : tie.After-test2) → let s = listed (to_list_passed c) in refused_for c.test2.result
+ballots_outcome : (c : tie.After-test) → let s = c.before.before.before.before.before.before.before.before.before.before.before in refused_for c.test.result
     ≡ first_of (ballot_reasons (header_shape s.args.header) (pieces s).ballots)
 ballots_outcome c =
-    let s = listed (to_list_passed c) in
-    let n = c.before.before.bytes-fitting in
-    let i = c.before.before.before.ballot-bytes in
-    c.test2.ensures
+    let s = c.before.before.before.before.before.before.before.before.before.before.before in
+    let n = c.bytes_fitting-ballot_bytes in
+    let i = c.ballot_bytes-inputs in
+    c.test.ensures
     ∙ ap (λ (x : List ℕ). first_of (ballot_reasons (header_shape s.args.header) x))
     (ballots_piece s.args.header (all s) i.result n.result i.ensures n.ensures)
 
-no_reason : (c : tie.After-enum-told2) → let s = listed (balloted c) in
+no_reason : (c : tie.In_default-test) → let s = c.before.before.before.before.before.before.before.before.before.before.before.before in
     first_of (ballot_reasons (header_shape s.args.header) (pieces s).ballots) ≡ none
 unfolding refused_for
-no_reason c = sym (ballots_outcome (to_ballots_test c)) ∙ ap refused_for c.enum-told2.given.1
+no_reason c = sym (ballots_outcome c.before) ∙ ap refused_for c.in_default-test.is
 
-numbers_fitting_requires : tie.Need-numbers-fitting-requires
+numbers_fitting_requires : tie.Need-numbers_fitting-numbers-requires
 numbers_fitting_requires c κs = search rules
 
-slice_aggregate_test : tie.Need-slice-aggregate-test
+slice_aggregate_test : tie.Need-slice_bounds-test-end
 slice_aggregate_test c =
-    let s = c.before.before.before.before.before.before.before in
-    let n = c.before.numbers-fitting in
+    let s = c in
+    let n = c.numbers_fitting-numbers in
     sym (length-take-le n.result s.args.lists.now
     (omega (arith, n.ensures, fitting_most (4 * s.args.header.gates) (length s.args.lists.now))))
 
-test_requires : tie.Need-test-requires
+test_requires : tie.Need-test-answer-requires
 test_requires c κs = search rules
 
-enum_known_answer : tie.Need-enum-known-answer
+enum_known_answer : tie.Need-enum_known-answer
 enum_known_answer c = search rules
 
-enum_told : tie.Need-enum-told
+enum_told : tie.Need-enum_told-1
 enum_told c = search rules
 
-returns : tie.Need-returns
+returns : tie.Need-returns-in_default
 unfolding outcome_of reasons_of
 returns c =
-    let s = to_start c.before.before in
+    let s = c.before.before.before.before.before.before.before.before in
     let p = pieces s in
-    let r = reason_of c.enum_told.given.0.0 in
-    let e = ap outcome_of c.enum_told.given.1 in
+    let r = reason_of c.in_default.field-0 in
+    let e = ap outcome_of c.in_default.is in
     e ∙ refuses s r (by_test (header_shape s.args.header) p.lists p.ballots p.tapes p.wires p.boards r
-    (sym (list_outcome c.before.before) ∙ e))
+    (sym (list_outcome c.before) ∙ e))
 
-ballot_bytes_requires : tie.Need-ballot-bytes-requires
-ballot_bytes_requires c κs = true_T (within_limits (header_shape (listed c).args.header)) (passed c).within
+ballot_bytes_requires : tie.Need-ballot_bytes-inputs-requires
+ballot_bytes_requires c κs = true_T (within_limits (header_shape c.args.header)) (passed c).within
 
-bytes_fitting_requires : tie.Need-bytes-fitting-requires
+bytes_fitting_requires : tie.Need-bytes_fitting-ballot_bytes-requires
 bytes_fitting_requires c κs = search rules
 
-slice_aggregate_test_2 : tie.Need-slice-aggregate-test-2
+slice_aggregate_test_2 : tie.Need-slice_bounds-test-end-2
 slice_aggregate_test_2 c =
-    let s = listed c.before.before.before in
-    let n = c.before.bytes-fitting in
-    let i = c.before.before.ballot-bytes in
+    let s = c in
+    let n = c.bytes_fitting-ballot_bytes in
+    let i = c.ballot_bytes-inputs in
     sym (length-take-le n.result s.args.ballots.now
     (omega (arith, n.ensures, fitting_most (i.result + 0) (length s.args.ballots.now))))
 
-test_requires_2 : tie.Need-test-requires-2
-test_requires_2 c κs = true_T (within_limits (header_shape (listed c.before.before.before).args.header))
-    (passed c.before.before.before).within
+test_requires_2 : tie.Need-test-requires
+test_requires_2 c κs = true_T (within_limits (header_shape c.args.header))
+    (passed c.before.before).within
 
-enum_known_reason : tie.Need-enum-known-reason
+enum_known_reason : tie.Need-enum_known-reason
 enum_known_reason c = search rules
 
-returns_2 : tie.Need-returns-2
+returns_2 : tie.Need-returns-in-Refused
 unfolding outcome_of refused_for reasons_of
 returns_2 c =
-    let t = c.before.before.before in
-    let s = listed (to_list_passed t) in
+    let t = c in
+    let s = t.before.before.before.before.before.before.before.before.before.before.before.before in
     let p = pieces s in
-    let r = reason_of c.before.reason.given.0.0 in
+    let r = reason_of c.in-Refused.reason in
     refuses s r (by_ballots (header_shape s.args.header) p.lists p.ballots p.tapes p.wires p.boards
-    (passed (to_list_passed t)).reasons r (sym (ballots_outcome t) ∙ ap refused_for c.before.reason.given.1))
+    (passed t.before.before.before.before).reasons r (sym (ballots_outcome t.before) ∙ ap refused_for c.in-Refused.is))
 
-enum_told_2 : tie.Need-enum-told-2
+enum_told_2 : tie.Need-enum_told-in_default-test
 enum_told_2 c = search rules
 
-bytes_fitting_requires_2 : tie.Need-bytes-fitting-requires-2
+bytes_fitting_requires_2 : tie.Need-bytes_fitting-masks-requires
 bytes_fitting_requires_2 c κs = search rules
 
-bytes_fitting_requires_3 : tie.Need-bytes-fitting-requires-3
+bytes_fitting_requires_3 : tie.Need-bytes_fitting-values-requires
 bytes_fitting_requires_3 c κs = search rules
 
-bytes_fitting_requires_4 : tie.Need-bytes-fitting-requires-4
+bytes_fitting_requires_4 : tie.Need-bytes_fitting-shown-requires
 bytes_fitting_requires_4 c κs = search rules
 
-slice_aggregate_test_buffers : tie.Need-slice-aggregate-test-buffers
+slice_aggregate_test_buffers : tie.Need-slice_bounds-test_buffers-end
 unfolding size
 slice_aggregate_test_buffers c =
-    let s = listed (balloted c.before.before.before.before) in
-    let n = c.before.before.before.bytes-fitting2 in
+    let s = c in
+    let n = c.bytes_fitting-masks in
     sym (length-take-le n.result s.args.tapes.now
     (omega (
       arith,
       n.ensures,
-      fitting_most ((size (balloted c.before.before.before.before)).conditional + 0)
+      fitting_most ((size c.before.before.before.before.before.before.before).conditional + 0)
           (length s.args.tapes.now),
     )))
 
-slice_aggregate_test_buffers_2 : tie.Need-slice-aggregate-test-buffers-2
+slice_aggregate_test_buffers_2 : tie.Need-slice_bounds-test_buffers-end-2
 unfolding size
 slice_aggregate_test_buffers_2 c =
-    let s = listed (balloted c.before.before.before.before.before) in
-    let n = c.before.before.before.bytes-fitting3 in
+    let s = c in
+    let n = c.bytes_fitting-values in
     sym (length-take-le n.result s.args.wires.now
     (omega (
       arith,
       n.ensures,
       fitting_most
-          ((to_ballots_test c.before.before.before.before.before).before.before.before.ballot-bytes.result
-          + (size (balloted c.before.before.before.before.before)).gates) (length s.args.wires.now),
+          (c.ballot_bytes-inputs.result
+          + (size c.before.before.before.before.before.before.before).gates) (length s.args.wires.now),
     )))
 
-slice_aggregate_test_buffers_3 : tie.Need-slice-aggregate-test-buffers-3
+slice_aggregate_test_buffers_3 : tie.Need-slice_bounds-test_buffers-end-3
 unfolding size
 slice_aggregate_test_buffers_3 c =
-    let s = listed (balloted c.before.before.before.before.before.before) in
-    let n = c.before.before.before.bytes-fitting4 in
+    let s = c in
+    let n = c.bytes_fitting-shown in
     sym (length-take-le n.result s.args.boards.now
     (omega (
       arith,
       n.ensures,
       fitting_most
-          ((size (balloted c.before.before.before.before.before.before)).conditional + s.args.header.candidates)
+          ((size c.before.before.before.before.before.before.before).conditional + s.args.header.candidates)
           (length s.args.boards.now),
     )))
 
-test_buffers_requires : tie.Need-test-buffers-requires
+test_buffers_requires : tie.Need-test_buffers-requires
 test_buffers_requires c κs = search rules
 
-enum_known_reason_2 : tie.Need-enum-known-reason-2
+enum_known_reason_2 : tie.Need-enum_known-reason-in-Refused-test_buffers
 enum_known_reason_2 c = search rules
 
-enum_told_3 : tie.Need-enum-told-3
+enum_told_3 : tie.Need-enum_told-in-Accepted-test_buffers
 enum_told_3 c = search rules
 
 -- the tests of the buffers, on their pieces
-lent_outcome : (c : tie.After-test-buffers) → let s = listed (buffered c) in let p = pieces s in
-    refused_for c.test-buffers.result
+lent_outcome : (c : tie.After-test_buffers) → let s = c.before.before.before.before.before.before.before.before.before.before.before.before.before.before.before.before in let p = pieces s in
+    refused_for c.test_buffers.result
     ≡ first_of (buffer_reasons (ballot_bytes (header_shape s.args.header)) s.args.header.candidates
-    (size (buffered c)) p.tapes p.wires p.boards)
+    (size c.before.before.before.before.before.before.before.before) p.tapes p.wires p.boards)
 unfolding size
 lent_outcome c =
-    let told = buffered c in
-    let s = listed (buffered c) in
+    let told = c.before.before.before.before.before.before.before.before in
+    let s = c in
     let st = s.args.header in
-    let p = pieces s in
+    let p = pieces s.before.before.before.before.before.before.before.before.before.before.before.before.before.before.before.before in
     let k = st.candidates in
     let z = size told in
-    let i = (to_ballots_test (to_ballots_passed c)).before.before.before.ballot-bytes in
-    let n = c.before.before.before.before.before.before.bytes-fitting2 in
-    let v = c.before.before.before.before.before.bytes-fitting3 in
-    let o = c.before.before.before.before.bytes-fitting4 in
-    let facts = stated_size st (all s) z (passed told) in
-    c.test-buffers.ensures
+    let i = c.ballot_bytes-inputs in
+    let n = c.bytes_fitting-masks in
+    let v = c.bytes_fitting-values in
+    let o = c.bytes_fitting-shown in
+    let facts = stated_size st (all s.before.before.before.before.before.before.before.before.before.before.before.before.before.before.before.before) z (passed told) in
+    c.test_buffers.ensures
     ∙ ap (λ (x : ℕ). first_of (buffer_reasons x k z (take n.result s.args.tapes.now)
     (take v.result s.args.wires.now) (take o.result s.args.boards.now))) i.ensures
     ∙ ap (λ (x : List ℕ). first_of (buffer_reasons (ballot_bytes (header_shape st)) k z x
     (take v.result s.args.wires.now) (take o.result s.args.boards.now)))
-    (tape_piece st (all s) z.conditional n.result facts.1 n.ensures)
+    (tape_piece st (all s.before.before.before.before.before.before.before.before.before.before.before.before.before.before.before.before) z.conditional n.result facts.1 n.ensures)
     ∙ ap (λ (x : List ℕ). first_of (buffer_reasons (ballot_bytes (header_shape st)) k z p.tapes x
     (take o.result s.args.boards.now)))
-    (wires_piece st (all s) i.result z.gates v.result i.ensures facts.0 v.ensures)
+    (wires_piece st (all s.before.before.before.before.before.before.before.before.before.before.before.before.before.before.before.before) i.result z.gates v.result i.ensures facts.0 v.ensures)
     ∙ ap (λ (x : List ℕ). first_of (buffer_reasons (ballot_bytes (header_shape st)) k z p.tapes p.wires x))
-    (board_piece st (all s) z.conditional o.result facts.1 o.ensures)
+    (board_piece st (all s.before.before.before.before.before.before.before.before.before.before.before.before.before.before.before.before) z.conditional o.result facts.1 o.ensures)
 
 -- if the tests before have passed, the tests of the buffers decide
-whole_outcome : (c : tie.After-test-buffers) → let s = listed (buffered c) in
-    first_of (reasons_of s.args.header (all s)) ≡ refused_for c.test-buffers.result
+whole_outcome : (c : tie.After-test_buffers) → let s = c.before.before.before.before.before.before.before.before.before.before.before.before.before.before.before.before in
+    first_of (reasons_of s.args.header (all s)) ≡ refused_for c.test_buffers.result
 unfolding reasons_of
 whole_outcome c =
-    let told = buffered c in
-    let s = listed (buffered c) in
-    let p = pieces s in
+    let told = c.before.before.before.before.before.before.before.before in
+    let s = c in
+    let p = pieces s.before.before.before.before.before.before.before.before.before.before.before.before.before.before.before.before in
     by_lent (header_shape s.args.header) p.lists p.ballots p.tapes p.wires p.boards
-    (passed told).reasons (size told) (refused_for c.test-buffers.result) (passed told).size
-    (no_reason (to_ballots_passed c)) (sym (lent_outcome c))
+    (passed told).reasons (size told) (refused_for c.test_buffers.result) (passed told).size
+    (no_reason c.before.before.before.before) (sym (lent_outcome c))
 
-returns_3 : tie.Need-returns-3
+returns_3 : tie.Need-returns-in-Refused-test_buffers
 unfolding outcome_of refused_for
 returns_3 c =
-    let t = c.before.before.before in
-    let r = reason_of c.before.reason2.given.0.0 in
-    refuses (listed (buffered t)) r (whole_outcome t ∙ ap refused_for c.before.reason2.given.1)
+    let t = c in
+    let r = reason_of c.in-Refused-test_buffers.reason in
+    refuses t.before.before.before.before.before.before.before.before.before.before.before.before.before.before.before.before.before r (whole_outcome t.before ∙ ap refused_for c.in-Refused-test_buffers.is)
 
-returns_4 : tie.Need-returns-4
+returns_4 : tie.Need-returns-in-Accepted-test_buffers
 unfolding test_outcome refused_for pieces_of
 returns_4 c =
-    let t = c.before.before in
-    let told = buffered t in
-    let s = listed (buffered t) in
-    let none_applies = whole_outcome t ∙ ap refused_for c.enum-told3.given.1 in
-    sym (ap outcome_of told.before.answer.given.1) ∙ list_outcome (to_list_test told)
-    ∙ ap (λ (o : Option Reason). outcome o (size_of (gates_of (list_of s.args.header (all s))))) ((passed told).reasons ∙ sym none_applies)
+    let t = c in
+    let told = t in
+    let s = t.before.before.before.before.before.before.before.before.before.before.before.before.before.before.before.before.before in
+    let none_applies = whole_outcome t.before ∙ ap refused_for c.in-Accepted-test_buffers.is in
+    sym (ap outcome_of told.in-Accepted.is) ∙ list_outcome told.before.before.before.before.before.before.before.before.before.before
+    ∙ ap (λ (o : Option Reason). outcome o (size_of (gates_of (list_of s.args.header (all s))))) ((passed told.before.before.before.before.before.before.before.before.before).reasons ∙ sym none_applies)
 
 pub test_jury_spec : {M : Type 1} → statement M
 test_jury_spec =
