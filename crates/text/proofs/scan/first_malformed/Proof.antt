@@ -11,68 +11,57 @@ use borrow.Author.Rules.{rules}
 use Rattle.text.proofs.scan.first_malformed.Statement.{statement}
 use Rattle.text.proofs.scan.first_malformed.Tie as tie
 
-abbrev invariant_loop : tie.invariant-loop
+abbrev invariant_loop : tie.invariant-loop-at
 invariant_loop text at₀ i₀ at i = (at ≤ length text) × (i ≤ at) × (first_malformed i (lines_of (drop at text)) ≡ first_malformed 0 (lines_of text))
 
-abbrev decreases_loop : tie.decreases-loop
+abbrev decreases_loop : tie.decreases-loop-at
 decreases_loop text at₀ i₀ at i = length text - at
 
-loop_holds : tie.Need-loop-init invariant_loop decreases_loop
+loop_holds : tie.Need-loop-at-init invariant_loop decreases_loop
 loop_holds c = (omega arith, omega arith, refl)
 
-gate_at_requires : tie.Need-gate-at-requires invariant_loop decreases_loop
+gate_at_requires : tie.Need-gate_at-requires invariant_loop decreases_loop
 gate_at_requires c κs = search rules
 
-enum_known_next : tie.Need-enum-known-next invariant_loop decreases_loop
+enum_known_next : tie.Need-enum_known-next invariant_loop decreases_loop
 enum_known_next c = search rules
 
-enum_told : tie.Need-enum-told invariant_loop decreases_loop
+enum_told : tie.Need-enum_told-1 invariant_loop decreases_loop
 enum_told c = search rules
 
--- The stages of the function, seen from later ones.
-abbrev start_from_enum_told : tie.After-enum-told invariant_loop decreases_loop → tie.Start invariant_loop decreases_loop
-start_from_enum_told c = c.before.before.before.before.before.before
-
-abbrev start_from_next : tie.After-next invariant_loop decreases_loop → tie.Start invariant_loop decreases_loop
-start_from_next c = c.before.before.before.before.before.before
-
-abbrev loop_reached_from_known_told : tie.After-known-told invariant_loop decreases_loop → tie.At-loop invariant_loop decreases_loop
-loop_reached_from_known_told c = c.before.before.before.before.before
-
-returns : tie.Need-returns invariant_loop decreases_loop
+returns : tie.Need-returns-in_default invariant_loop decreases_loop
 returns c =
-    let l = c.before.before.before.before.loop in
-    let r = c.before.before.gate-at in
-    sym (here_other (start_from_enum_told c).args.text.now l.at r.result r.ensures
-    c.enum_told.given.1 c.before.before.before.loop-test.true l.i) ∙ l.invariant.2
+    let l = c.loop-at in
+    let r = c.gate_at in
+    sym (here_other c.args.text.now l.at r.result r.ensures
+    c.in_default.is c.loop-at-test.true l.i) ∙ l.invariant.2
 
-add_i : tie.Need-overflow-add-i invariant_loop decreases_loop
+add_i : tie.Need-overflow_add-i invariant_loop decreases_loop
 add_i c = omega arith
 
-loop_less : tie.Need-loop-smaller invariant_loop decreases_loop
+loop_less : tie.Need-loop-at-smaller invariant_loop decreases_loop
 loop_less c =
-    let r = c.before.before.before.gate-at in
-    let later = next_later (start_from_next c.before).args.text.now
-    (loop_reached_from_known_told c).loop.at r.result r.ensures _ _ _ _ _ c.before.next.given.1 in
-    omega (arith, c.before.before.before.before.loop-test.true)
+    let r = c.gate_at in
+    let later = next_later c.args.text.now
+    c.loop-at.at r.result r.ensures _ _ _ _ _ c.in-Gate.is in
+    omega (arith, c.loop-at-test.true)
 
-loop_again : tie.Need-loop-preserved invariant_loop decreases_loop
+loop_again : tie.Need-loop-at-preserved invariant_loop decreases_loop
 loop_again c =
-    let l = (loop_reached_from_known_told c).loop in
-    let text = (start_from_next c.before).args.text.now in
-    let r = c.before.before.before.gate-at in
-    let g = c.before.next.given in
-    let next = g.0.1.1.1.1.0 in
-    let later = next_later text l.at r.result r.ensures _ _ _ _ next g.1 in (
-      next_within text l.at r.result r.ensures _ _ _ _ next g.1,
+    let l = c.loop-at in
+    let text = c.args.text.now in
+    let r = c.gate_at in
+    let next = c.in-Gate.next in
+    let later = next_later text l.at r.result r.ensures _ _ _ _ next c.in-Gate.is in (
+      next_within text l.at r.result r.ensures _ _ _ _ next c.in-Gate.is,
       omega arith,
       ap (λ (n : ℕ). first_malformed n (lines_of (drop next text))) (add-one l.i)
-          ∙ sym (later_other text l.at r.result r.ensures _ _ _ _ next g.1 l.i) ∙ l.inv.2,
+          ∙ sym (later_other text l.at r.result r.ensures _ _ _ _ next c.in-Gate.is l.i) ∙ l.invariant.2,
     )
 
-returns_2 : tie.Need-returns-2 invariant_loop decreases_loop
-returns_2 c = sym (other_end c.before.before.before.args.text.now c.before.loop.at c.loop-test.false
-    c.before.loop.i) ∙ c.before.loop.invariant.2
+returns_2 : tie.Need-returns invariant_loop decreases_loop
+returns_2 c = sym (other_end c.args.text.now c.loop-at.at c.loop-at-test.false
+    c.loop-at.i) ∙ c.loop-at.invariant.2
 
 pub first_malformed_spec : {M : Type 1} → statement M
 first_malformed_spec =

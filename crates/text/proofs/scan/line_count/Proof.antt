@@ -11,66 +11,59 @@ use native.Mathlib.Omega.{arith}
 use Rattle.text.proofs.scan.line_count.Statement.{statement}
 use Rattle.text.proofs.scan.line_count.Tie as tie
 
-abbrev invariant_loop : tie.invariant-loop
+abbrev invariant_loop : tie.invariant-loop-i
 invariant_loop text lines₀ i₀ lines i = (i ≤ length text) × (lines ≤ i) × (lines + feeds_of (drop i text) ≡ feeds_of text)
 
-abbrev decreases_loop : tie.decreases-loop
+abbrev decreases_loop : tie.decreases-loop-i
 decreases_loop text lines₀ i₀ lines i = length text - i
 
-loop_holds : tie.Need-loop-init invariant_loop decreases_loop
+loop_holds : tie.Need-loop-i-init invariant_loop decreases_loop
 loop_holds c = (omega arith, omega arith, omega arith)
 
-shared_slice_read_if1 : tie.Need-shared-slice-read-if1 invariant_loop decreases_loop
+shared_slice_read_if1 : tie.Need-bounds-text-i invariant_loop decreases_loop
 shared_slice_read_if1 c = omega arith
 
-add_lines : tie.Need-overflow-add-lines invariant_loop decreases_loop
+add_lines : tie.Need-overflow_add-lines invariant_loop decreases_loop
 add_lines c = omega arith
 
-add_i : tie.Need-overflow-add-i invariant_loop decreases_loop
+add_i : tie.Need-overflow_add-i invariant_loop decreases_loop
 add_i c = omega arith
 
-loop_less : tie.Need-loop-smaller invariant_loop decreases_loop
+loop_less : tie.Need-loop-i-smaller invariant_loop decreases_loop
 loop_less c = omega arith
 
-loop_again : tie.Need-loop-preserved invariant_loop decreases_loop
+loop_again : tie.Need-loop-i-preserved invariant_loop decreases_loop
 loop_again c =
-    let l = c.before.before.before.loop in
-    let text = c.before.before.before.before.args.text.now in
-    let h = c.before.before.loop-test.true in
+    let l = c.loop-i in
+    let text = c.args.text.now in
+    let h = c.loop-i-test.true in
     let e = ap (λ (k : ℕ). feeds_of (drop k text)) (add-one l.i) in
-    ⊎_elim (λ w. (omega arith, omega arith, omega (arith, feed_here text l.i h w.0.taken)))
-    (λ w. (omega arith, omega arith, omega (arith, no_feed_here text l.i h w.0.left))) c.if1.branch
+    ⊎_elim (λ w. (omega arith, omega arith, omega (arith, feed_here text l.i h w.if-text-i-eq-LINE_FEED.true)))
+    (λ w. (omega arith, omega arith, omega (arith, no_feed_here text l.i h w.if-text-i-eq-LINE_FEED.false))) c.if-text-i-eq-LINE_FEED.branch-raw
 
-returns : tie.Need-returns invariant_loop decreases_loop
-returns c = sym (no_lines c.before.before.before.args.text.now (omega arith))
+returns : tie.Need-returns-then-i-eq0 invariant_loop decreases_loop
+returns c = sym (no_lines c.args.text.now (omega arith))
 
-sub_if3 : tie.Need-overflow-sub-if3 invariant_loop decreases_loop
+sub_if3 : tie.Need-overflow_sub-i invariant_loop decreases_loop
 sub_if3 c = omega arith
 
-shared_slice_read_if3 : tie.Need-shared-slice-read-if3 invariant_loop decreases_loop
+shared_slice_read_if3 : tie.Need-bounds-text-i-2 invariant_loop decreases_loop
 shared_slice_read_if3 c = omega arith
 
-add_result : tie.Need-overflow-add-result invariant_loop decreases_loop
+add_result : tie.Need-overflow_add-result invariant_loop decreases_loop
 add_result c = omega arith
 
--- The stages of the function, seen from later ones.
-abbrev start_from_else3 : tie.Else3 invariant_loop decreases_loop → tie.Start invariant_loop decreases_loop
-start_from_else3 c = c.before.before.before.before.before
-
-abbrev start_from_then3 : tie.Then3 invariant_loop decreases_loop → tie.Start invariant_loop decreases_loop
-start_from_then3 c = c.before.before.before.before.before
-
-returns_2 : tie.Need-returns-2 invariant_loop decreases_loop
+returns_2 : tie.Need-returns-then-text-i-eq-LINE_FEED-2 invariant_loop decreases_loop
 returns_2 c =
-    let l = c.before.before.before.before.loop in
-    let text = (start_from_then3 c).args.text.now in
-    omega (arith, closed_lines text l.i (omega arith) (omega arith) c.if3.true, feeds_end text l.i (omega arith))
+    let l = c.loop-i in
+    let text = c.args.text.now in
+    omega (arith, closed_lines text l.i (omega arith) (omega arith) c.if-text-i-eq-LINE_FEED-2.true, feeds_end text l.i (omega arith))
 
-returns_3 : tie.Need-returns-3 invariant_loop decreases_loop
+returns_3 : tie.Need-returns-else-text-i-eq-LINE_FEED-2 invariant_loop decreases_loop
 returns_3 c =
-    let l = c.before.before.before.before.loop in
-    let text = (start_from_else3 c).args.text.now in
-    omega (arith, open_lines text l.i (omega arith) (omega arith) c.if3.false, feeds_end text l.i (omega arith))
+    let l = c.loop-i in
+    let text = c.args.text.now in
+    omega (arith, open_lines text l.i (omega arith) (omega arith) c.if-text-i-eq-LINE_FEED-2.false, feeds_end text l.i (omega arith))
 
 pub line_count_spec : {M : Type 1} → statement M
 line_count_spec =

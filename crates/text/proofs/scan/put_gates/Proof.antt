@@ -17,140 +17,129 @@ use borrow.Author.Rules.{rules}
 use Rattle.text.proofs.scan.put_gates.Statement.{statement}
 use Rattle.text.proofs.scan.put_gates.Tie as tie
 
-abbrev invariant_loop : tie.invariant-loop
+abbrev invariant_loop : tie.invariant-loop-at
 invariant_loop text output₀ at₀ i₀ output at i =
     (at ≤ length text) × (first_malformed 0 (lines_of (drop at text)) ≡ Nowhere) × (i + 4 * length (lines_of (drop at text)) ≤ length output)
     × (length output ≡ length output₀)
     × (sets output i (numbers_of (gates_in (lines_of (drop at text))))
     ≡ sets output₀ 0 (numbers_of (gates_in (lines_of text))))
 
-abbrev decreases_loop : tie.decreases-loop
+abbrev decreases_loop : tie.decreases-loop-at
 decreases_loop text output₀ at₀ i₀ output at i = length text - at
 
-loop_holds : tie.Need-loop-init invariant_loop decreases_loop
-loop_holds c = (omega arith, c.before.before.requires.formed, omega (arith, c.before.before.requires.room), refl, refl)
+loop_holds : tie.Need-loop-at-init invariant_loop decreases_loop
+loop_holds c = (omega arith, c.requires.formed, omega (arith, c.requires.room), refl, refl)
 
-gate_at_requires : tie.Need-gate-at-requires invariant_loop decreases_loop
+gate_at_requires : tie.Need-gate_at-requires invariant_loop decreases_loop
 gate_at_requires c κs = search rules
 
-enum_known_kind : tie.Need-enum-known-kind invariant_loop decreases_loop
+enum_known_kind : tie.Need-enum_known-kind invariant_loop decreases_loop
 enum_known_kind c = search rules
 
-enum_told : tie.Need-enum-told invariant_loop decreases_loop
+enum_told : tie.Need-enum_told-1 invariant_loop decreases_loop
 enum_told c = search rules
 
-same_length : tie.Need-same-length invariant_loop decreases_loop
-same_length c = c.before.before.before.before.loop.invariant.3
+same_length : tie.Need-shape_of-output-in_default invariant_loop decreases_loop
+same_length c = c.loop-at.invariant.3
 
--- The stages of the function, seen from later ones.
-abbrev start_from_enum_told : tie.After-enum-told invariant_loop decreases_loop → tie.Start invariant_loop decreases_loop
-start_from_enum_told c = c.before.before.before.before.before.before.before
-
-abbrev start_from_kind : tie.After-kind invariant_loop decreases_loop → tie.Start invariant_loop decreases_loop
-start_from_kind c = c.before.before.before.before.before.before.before
-
-abbrev loop_reached_from_known_told : tie.After-known-told invariant_loop decreases_loop → tie.At-loop invariant_loop decreases_loop
-loop_reached_from_known_told c = c.before.before.before.before.before
-
-returns : tie.Need-returns invariant_loop decreases_loop
+returns : tie.Need-returns-in_default invariant_loop decreases_loop
 returns c =
-    let l = c.before.before.before.before.loop in
-    let text = (start_from_enum_told c).args.text.now in
-    let r = c.before.before.gate-at in
+    let l = c.loop-at in
+    let text = c.args.text.now in
+    let r = c.gate_at in
     not_both (first_malformed 0 (lines_of (drop l.at text))) 0
-    (here_other text l.at r.result r.ensures c.enum_told.given.1
-    c.before.before.before.loop-test.true 0) l.invariant.1
+    (here_other text l.at r.result r.ensures c.in_default.is
+    c.loop-at-test.true 0) l.invariant.1
 
 -- there is room for one more gate
-room : (c : tie.After-known-told invariant_loop decreases_loop) → (loop_reached_from_known_told c).loop.i + 4
-    ≤ length (loop_reached_from_known_told c).loop.output
+room : (c : tie.In-Gate invariant_loop decreases_loop) → c.loop-at.i + 4
+    ≤ length c.loop-at.output
 room c =
-    let l = (loop_reached_from_known_told c).loop in
-    let r = c.before.before.before.gate-at in
+    let l = c.loop-at in
+    let r = c.gate_at in
     omega (
       arith,
-      l.inv.2,
-      later_lines (start_from_kind c.before).args.text.now l.at r.result
-          r.ensures _ _ _ _ _ c.before.kind.given.1,
+      l.invariant.2,
+      later_lines c.args.text.now l.at r.result
+          r.ensures _ _ _ _ _ c.in-Gate.is,
     )
 
-mul_output : tie.Need-overflow-mul-output invariant_loop decreases_loop
+mul_output : tie.Need-offset_bounds-output-i invariant_loop decreases_loop
 mul_output c = omega (arith, room c)
 
-slice_write_output : tie.Need-slice-write-output invariant_loop decreases_loop
+slice_write_output : tie.Need-bounds-output-i invariant_loop decreases_loop
 slice_write_output c = omega (arith, room c)
 
-add_output : tie.Need-overflow-add-output invariant_loop decreases_loop
+add_output : tie.Need-overflow_add-output invariant_loop decreases_loop
 add_output c = omega (arith, room c)
 
-mul_output_2 : tie.Need-overflow-mul-output-2 invariant_loop decreases_loop
+mul_output_2 : tie.Need-offset_bounds-output-i-in-loop-at invariant_loop decreases_loop
 mul_output_2 c = omega (arith, room c)
 
-slice_write_output_2 : tie.Need-slice-write-output-2 invariant_loop decreases_loop
+slice_write_output_2 : tie.Need-bounds-output-i-in-loop-at invariant_loop decreases_loop
 slice_write_output_2 c = simp length-set (omega (arith, room c))
 
-add_output_2 : tie.Need-overflow-add-output-2 invariant_loop decreases_loop
+add_output_2 : tie.Need-overflow_add-output-in-loop-at invariant_loop decreases_loop
 add_output_2 c = omega (arith, room c)
 
-mul_output_3 : tie.Need-overflow-mul-output-3 invariant_loop decreases_loop
+mul_output_3 : tie.Need-offset_bounds-output-i-in-loop-at-2 invariant_loop decreases_loop
 mul_output_3 c = omega (arith, room c)
 
-slice_write_output_3 : tie.Need-slice-write-output-3 invariant_loop decreases_loop
+slice_write_output_3 : tie.Need-bounds-output-i-in-loop-at-2 invariant_loop decreases_loop
 slice_write_output_3 c = simp length-set (omega (arith, room c))
 
-add_output_3 : tie.Need-overflow-add-output-3 invariant_loop decreases_loop
+add_output_3 : tie.Need-overflow_add-output-in-loop-at-2 invariant_loop decreases_loop
 add_output_3 c = omega (arith, room c)
 
-mul_output_4 : tie.Need-overflow-mul-output-4 invariant_loop decreases_loop
+mul_output_4 : tie.Need-offset_bounds-output-i-in-loop-at-3 invariant_loop decreases_loop
 mul_output_4 c = omega (arith, room c)
 
-slice_write_output_4 : tie.Need-slice-write-output-4 invariant_loop decreases_loop
+slice_write_output_4 : tie.Need-bounds-output-i-in-loop-at-3 invariant_loop decreases_loop
 slice_write_output_4 c = simp length-set (omega (arith, room c))
 
-add_i : tie.Need-overflow-add-i invariant_loop decreases_loop
+add_i : tie.Need-overflow_add-i invariant_loop decreases_loop
 add_i c = omega (arith, room c)
 
-loop_less : tie.Need-loop-smaller invariant_loop decreases_loop
+loop_less : tie.Need-loop-at-smaller invariant_loop decreases_loop
 loop_less c =
-    let r = c.before.before.before.gate-at in
-    let later = next_later (start_from_kind c.before).args.text.now
-    (loop_reached_from_known_told c).loop.at r.result r.ensures _ _ _ _ _ c.before.kind.given.1 in
-    omega (arith, c.before.before.before.before.loop-test.true)
+    let r = c.gate_at in
+    let later = next_later c.args.text.now
+    c.loop-at.at r.result r.ensures _ _ _ _ _ c.in-Gate.is in
+    omega (arith, c.loop-at-test.true)
 
-loop_again : tie.Need-loop-preserved invariant_loop decreases_loop
+loop_again : tie.Need-loop-at-preserved invariant_loop decreases_loop
 loop_again c =
-    let l = (loop_reached_from_known_told c).loop in
-    let text = (start_from_kind c.before).args.text.now in
-    let r = c.before.before.before.gate-at in
-    let g = c.before.kind.given in
-    let next = g.0.1.1.1.1.0 in
-    let k = g.0.0 in
-    let x = g.0.1.0 in
-    let y = g.0.1.1.0 in
-    let z = g.0.1.1.1.0 in
+    let l = c.loop-at in
+    let text = c.args.text.now in
+    let r = c.gate_at in
+    let next = c.in-Gate.next in
+    let k = c.in-Gate.kind in
+    let x = c.in-Gate.a in
+    let y = c.in-Gate.b in
+    let z = c.in-Gate.c in
     let rest = numbers_of (gates_in (lines_of (drop next text))) in
     let long = long_four l.output l.i k x y z in
-    let lines = later_lines text l.at r.result r.ensures _ _ _ _ next g.1 in (
-      next_within text l.at r.result r.ensures _ _ _ _ next g.1,
+    let lines = later_lines text l.at r.result r.ensures _ _ _ _ next c.in-Gate.is in (
+      next_within text l.at r.result r.ensures _ _ _ _ next c.in-Gate.is,
       nowhere_any (lines_of (drop next text)) 1 0
-          (sym (later_other text l.at r.result r.ensures _ _ _ _ next g.1 0) ∙ l.inv.1),
-      omega (arith, l.inv.2),
-      long ∙ l.inv.3,
+          (sym (later_other text l.at r.result r.ensures _ _ _ _ next c.in-Gate.is 0) ∙ l.invariant.1),
+      omega (arith, l.invariant.2),
+      long ∙ l.invariant.3,
       put_four l.output l.i k x y z rest
           ∙ ap (sets l.output l.i)
-          (sym (ap numbers_of (later_gates text l.at r.result r.ensures k x y z next g.1)
+          (sym (ap numbers_of (later_gates text l.at r.result r.ensures k x y z next c.in-Gate.is)
           ∙ numbers_cons (record { kind = k; a = x; b = y; c = z }) (gates_in (lines_of (drop next text)))))
-          ∙ l.inv.4,
+          ∙ l.invariant.4,
     )
 
-same_length_2 : tie.Need-same-length-2 invariant_loop decreases_loop
-same_length_2 c = c.before.loop.invariant.3
+same_length_2 : tie.Need-shape_of-output invariant_loop decreases_loop
+same_length_2 c = c.loop-at.invariant.3
 
-returns_2 : tie.Need-returns-2 invariant_loop decreases_loop
+returns_2 : tie.Need-returns invariant_loop decreases_loop
 returns_2 c =
-    let l = c.before.loop in
+    let l = c.loop-at in
     sym (ap (sets l.output l.i)
-    (ap numbers_of (gates_end c.before.before.before.before.args.text.now l.at c.loop-test.false)
+    (ap numbers_of (gates_end c.args.text.now l.at c.loop-at-test.false)
     ∙ numbers_nil)) ∙ l.invariant.4
 
 pub put_gates_spec : {M : Type 1} → statement M

@@ -17,77 +17,61 @@ use native.Mathlib.Omega.{arith}
 use Rattle.text.proofs.write.put_text.Statement.{statement}
 use Rattle.text.proofs.write.put_text.Tie as tie
 
-abbrev invariant_loop : tie.invariant-loop
+abbrev invariant_loop : tie.invariant-loop-g
 invariant_loop table output₀ gates place₀ g₀ output place g =
     (g ≤ gates) × (place + length (text_of (drop g (gates_of table))) ≤ length output) × (length output ≡ length output₀)
     × (sets output place (text_of (drop g (gates_of table))) ≡ sets output₀ 0 (text_of (gates_of table)))
 
-abbrev decreases_loop : tie.decreases-loop
+abbrev decreases_loop : tie.decreases-loop-g
 decreases_loop table output₀ gates place₀ g₀ output place g = gates - g
 
-loop_holds : tie.Need-loop-init invariant_loop decreases_loop
-loop_holds c = (omega arith, omega (arith, c.before.before.requires), refl, refl)
+loop_holds : tie.Need-loop-g-init invariant_loop decreases_loop
+loop_holds c = (omega arith, omega (arith, c.requires), refl, refl)
 
-mul_at : tie.Need-overflow-mul-at invariant_loop decreases_loop
+mul_at : tie.Need-overflow_mul-at invariant_loop decreases_loop
 mul_at c = omega arith
 
-mul_put_line : tie.Need-overflow-mul-put-line invariant_loop decreases_loop
+mul_put_line : tie.Need-offset_bounds-table-at invariant_loop decreases_loop
 mul_put_line c = omega arith
 
-shared_slice_read_put_line : tie.Need-shared-slice-read-put-line invariant_loop decreases_loop
+shared_slice_read_put_line : tie.Need-bounds-table-at invariant_loop decreases_loop
 shared_slice_read_put_line c = omega arith
 
-add_put_line : tie.Need-overflow-add-put-line invariant_loop decreases_loop
+add_put_line : tie.Need-overflow_add-at invariant_loop decreases_loop
 add_put_line c = omega arith
 
-mul_put_line_2 : tie.Need-overflow-mul-put-line-2 invariant_loop decreases_loop
+mul_put_line_2 : tie.Need-offset_bounds-table-at-in-loop-g invariant_loop decreases_loop
 mul_put_line_2 c = omega arith
 
-shared_slice_read_put_line_2 : tie.Need-shared-slice-read-put-line-2 invariant_loop decreases_loop
+shared_slice_read_put_line_2 : tie.Need-bounds-table-at-in-loop-g invariant_loop decreases_loop
 shared_slice_read_put_line_2 c = omega arith
 
-add_put_line_2 : tie.Need-overflow-add-put-line-2 invariant_loop decreases_loop
+add_put_line_2 : tie.Need-overflow_add-at-in-loop-g invariant_loop decreases_loop
 add_put_line_2 c = omega arith
 
-mul_put_line_3 : tie.Need-overflow-mul-put-line-3 invariant_loop decreases_loop
+mul_put_line_3 : tie.Need-offset_bounds-table-at-in-loop-g-2 invariant_loop decreases_loop
 mul_put_line_3 c = omega arith
 
-shared_slice_read_put_line_3 : tie.Need-shared-slice-read-put-line-3 invariant_loop decreases_loop
+shared_slice_read_put_line_3 : tie.Need-bounds-table-at-in-loop-g-2 invariant_loop decreases_loop
 shared_slice_read_put_line_3 c = omega arith
 
-add_put_line_3 : tie.Need-overflow-add-put-line-3 invariant_loop decreases_loop
+add_put_line_3 : tie.Need-overflow_add-at-in-loop-g-2 invariant_loop decreases_loop
 add_put_line_3 c = omega arith
 
-mul_put_line_4 : tie.Need-overflow-mul-put-line-4 invariant_loop decreases_loop
+mul_put_line_4 : tie.Need-offset_bounds-table-at-in-loop-g-3 invariant_loop decreases_loop
 mul_put_line_4 c = omega arith
 
-shared_slice_read_put_line_4 : tie.Need-shared-slice-read-put-line-4 invariant_loop decreases_loop
+shared_slice_read_put_line_4 : tie.Need-bounds-table-at-in-loop-g-3 invariant_loop decreases_loop
 shared_slice_read_put_line_4 c = omega arith
 
--- The stages of the function, seen from later ones.
-abbrev start_from_loop_reached : tie.At-loop invariant_loop decreases_loop → tie.Start invariant_loop decreases_loop
-start_from_loop_reached c = c.before.before.before
-
-abbrev start_from_put_line_arg : tie.After-put-line-arg invariant_loop decreases_loop → tie.Start invariant_loop decreases_loop
-start_from_put_line_arg c = start_from_loop_reached c.before.before.before.before.before.before
-
-abbrev loop_reached_from_put_line_arg : tie.After-put-line-arg invariant_loop decreases_loop → tie.At-loop invariant_loop decreases_loop
-loop_reached_from_put_line_arg c = c.before.before.before.before.before.before
-
-abbrev start_from_output : tie.After-output invariant_loop decreases_loop → tie.Start invariant_loop decreases_loop
-start_from_output c = start_from_loop_reached c.before.before.before.before.before.before.before.before
-
-abbrev loop_reached_from_output : tie.After-output invariant_loop decreases_loop → tie.At-loop invariant_loop decreases_loop
-loop_reached_from_output c = c.before.before.before.before.before.before.before.before
-
-put_line_requires : tie.Need-put-line-requires invariant_loop decreases_loop
+put_line_requires : tie.Need-put_line-place-requires invariant_loop decreases_loop
 put_line_requires c κs =
-    let l = (loop_reached_from_put_line_arg c).loop in
-    let t = (start_from_put_line_arg c).args.table.now in
+    let l = c.loop-g in
+    let t = c.args.table.now in
     let rest = text_of (drop (suc l.g) (gates_of t)) in
     omega (
       arith,
-      l.inv.1,
+      l.invariant.1,
       ap length (text_from t l.g (omega (arith, length_gates t))),
       length-append
           (line_of (record {
@@ -99,16 +83,16 @@ put_line_requires c κs =
           })) rest,
     )
 
-add_g : tie.Need-overflow-add-g invariant_loop decreases_loop
+add_g : tie.Need-overflow_add-g invariant_loop decreases_loop
 add_g c = omega arith
 
-loop_less : tie.Need-loop-smaller invariant_loop decreases_loop
+loop_less : tie.Need-loop-g-smaller invariant_loop decreases_loop
 loop_less c = omega arith
 
-loop_again : tie.Need-loop-preserved invariant_loop decreases_loop
+loop_again : tie.Need-loop-g-preserved invariant_loop decreases_loop
 loop_again c =
-    let l = (loop_reached_from_output c.before).loop in
-    let t = (start_from_output c.before).args.table.now in
+    let l = c.loop-g in
+    let t = c.args.table.now in
     let rest = text_of (drop (suc l.g) (gates_of t)) in
     let line =
     line_of (record {
@@ -122,25 +106,25 @@ loop_again c =
     let e = ap length here in
     let n = length-append line rest in
     let k = ap (λ (j : ℕ). text_of (drop j (gates_of t))) (add-one l.g) in
-    let r = c.before.before.put-line in
+    let r = c.put_line-place in
     let long = ap length r.ensures.is ∙ length-sets l.output l.place line in (
       omega arith,
-      omega (arith, l.inv.1, r.ensures.next, ap length k),
-      long ∙ l.inv.2,
-      ap (λ (x : List ℕ). sets r.new.1.1.1.1.1.0 r.result x) k
+      omega (arith, l.invariant.1, r.ensures.next, ap length k),
+      long ∙ l.invariant.2,
+      ap (λ (x : List ℕ). sets r.new.output r.result x) k
           ∙ ap (λ (x : List ℕ). sets x r.result rest) r.ensures.is
           ∙ ap (λ (p : ℕ). sets (sets l.output l.place line) p rest) r.ensures.next
           ∙ sym (ap (sets l.output l.place) here ∙ sets_append l.output l.place line rest)
-          ∙ l.inv.3,
+          ∙ l.invariant.3,
     )
 
-same_length : tie.Need-same-length invariant_loop decreases_loop
-same_length c = c.before.loop.invariant.2
+same_length : tie.Need-shape_of-output invariant_loop decreases_loop
+same_length c = c.loop-g.invariant.2
 
 returns : tie.Need-returns invariant_loop decreases_loop
 returns c =
-    let l = c.before.loop in
-    let t = c.before.before.before.before.args.table.now in
+    let l = c.loop-g in
+    let t = c.args.table.now in
     sym (ap (sets l.output l.place) (text_end t l.g (omega (arith, length_gates t)))) ∙ l.invariant.3
 
 pub put_text_spec : {M : Type 1} → statement M

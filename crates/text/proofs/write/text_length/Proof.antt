@@ -14,80 +14,73 @@ use borrow.Author.Rules.{rules}
 use Rattle.text.proofs.write.text_length.Statement.{statement}
 use Rattle.text.proofs.write.text_length.Tie as tie
 
-abbrev invariant_loop : tie.invariant-loop
+abbrev invariant_loop : tie.invariant-loop-g
 invariant_loop table gates total₀ g₀ total g =
     (g ≤ gates) × (total ≤ 44 * g) × (total + length (text_of (drop g (gates_of table))) ≡ length (text_of (gates_of table)))
 
-abbrev decreases_loop : tie.decreases-loop
+abbrev decreases_loop : tie.decreases-loop-g
 decreases_loop table gates total₀ g₀ total g = gates - g
 
-loop_holds : tie.Need-loop-init invariant_loop decreases_loop
+loop_holds : tie.Need-loop-g-init invariant_loop decreases_loop
 loop_holds c = (omega arith, omega arith, omega arith)
 
-mul_at : tie.Need-overflow-mul-at invariant_loop decreases_loop
+mul_at : tie.Need-overflow_mul-at invariant_loop decreases_loop
 mul_at c = omega arith
 
-mul_line_length : tie.Need-overflow-mul-line-length invariant_loop decreases_loop
+mul_line_length : tie.Need-offset_bounds-table-at invariant_loop decreases_loop
 mul_line_length c = omega arith
 
-shared_slice_read_line_length : tie.Need-shared-slice-read-line-length invariant_loop decreases_loop
+shared_slice_read_line_length : tie.Need-bounds-table-at invariant_loop decreases_loop
 shared_slice_read_line_length c = omega arith
 
-add_line_length : tie.Need-overflow-add-line-length invariant_loop decreases_loop
+add_line_length : tie.Need-overflow_add-at invariant_loop decreases_loop
 add_line_length c = omega arith
 
-mul_line_length_2 : tie.Need-overflow-mul-line-length-2 invariant_loop decreases_loop
+mul_line_length_2 : tie.Need-offset_bounds-table-at-in-loop-g invariant_loop decreases_loop
 mul_line_length_2 c = omega arith
 
-shared_slice_read_line_length_2 : tie.Need-shared-slice-read-line-length-2 invariant_loop decreases_loop
+shared_slice_read_line_length_2 : tie.Need-bounds-table-at-in-loop-g invariant_loop decreases_loop
 shared_slice_read_line_length_2 c = omega arith
 
-add_line_length_2 : tie.Need-overflow-add-line-length-2 invariant_loop decreases_loop
+add_line_length_2 : tie.Need-overflow_add-at-in-loop-g invariant_loop decreases_loop
 add_line_length_2 c = omega arith
 
-mul_line_length_3 : tie.Need-overflow-mul-line-length-3 invariant_loop decreases_loop
+mul_line_length_3 : tie.Need-offset_bounds-table-at-in-loop-g-2 invariant_loop decreases_loop
 mul_line_length_3 c = omega arith
 
-shared_slice_read_line_length_3 : tie.Need-shared-slice-read-line-length-3 invariant_loop decreases_loop
+shared_slice_read_line_length_3 : tie.Need-bounds-table-at-in-loop-g-2 invariant_loop decreases_loop
 shared_slice_read_line_length_3 c = omega arith
 
-add_line_length_3 : tie.Need-overflow-add-line-length-3 invariant_loop decreases_loop
+add_line_length_3 : tie.Need-overflow_add-at-in-loop-g-2 invariant_loop decreases_loop
 add_line_length_3 c = omega arith
 
-mul_line_length_4 : tie.Need-overflow-mul-line-length-4 invariant_loop decreases_loop
+mul_line_length_4 : tie.Need-offset_bounds-table-at-in-loop-g-3 invariant_loop decreases_loop
 mul_line_length_4 c = omega arith
 
-shared_slice_read_line_length_4 : tie.Need-shared-slice-read-line-length-4 invariant_loop decreases_loop
+shared_slice_read_line_length_4 : tie.Need-bounds-table-at-in-loop-g-3 invariant_loop decreases_loop
 shared_slice_read_line_length_4 c = omega arith
 
-line_length_requires : tie.Need-line-length-requires invariant_loop decreases_loop
+line_length_requires : tie.Need-line_length-total-requires invariant_loop decreases_loop
 line_length_requires c κs = search rules
 
--- The stages of the function, seen from later ones.
-abbrev start_from_line_length : tie.After-line-length invariant_loop decreases_loop → tie.Start invariant_loop decreases_loop
-start_from_line_length c = c.before.before.before.before.before.before.before.before
-
-abbrev loop_reached_from_line_length : tie.After-line-length invariant_loop decreases_loop → tie.At-loop invariant_loop decreases_loop
-loop_reached_from_line_length c = c.before.before.before.before.before.before
-
-add_total : tie.Need-overflow-add-total invariant_loop decreases_loop
+add_total : tie.Need-overflow_add-total invariant_loop decreases_loop
 add_total c = omega (
   arith,
-  c.line-length.ensures.short,
-  (start_from_line_length c).pre,
-  length_gates (start_from_line_length c).args.table.now,
+  c.line_length-total.ensures.short,
+  c.requires,
+  length_gates c.args.table.now,
 )
 
-add_g : tie.Need-overflow-add-g invariant_loop decreases_loop
+add_g : tie.Need-overflow_add-g invariant_loop decreases_loop
 add_g c = omega arith
 
-loop_less : tie.Need-loop-smaller invariant_loop decreases_loop
+loop_less : tie.Need-loop-g-smaller invariant_loop decreases_loop
 loop_less c = omega arith
 
-loop_again : tie.Need-loop-preserved invariant_loop decreases_loop
+loop_again : tie.Need-loop-g-preserved invariant_loop decreases_loop
 loop_again c =
-    let l = (loop_reached_from_line_length c).loop in
-    let t = (start_from_line_length c).args.table.now in
+    let l = c.loop-g in
+    let t = c.args.table.now in
     let rest = text_of (drop (suc l.g) (gates_of t)) in
     let e = ap length (text_from t l.g (omega (arith, length_gates t))) in
     let n = length-append
@@ -99,12 +92,12 @@ loop_again c =
           get_or t (4 * l.g + 3) 0;
     })) rest in
     let k = ap (λ (j : ℕ). length (text_of (drop j (gates_of t)))) (add-one l.g) in
-    (omega arith, omega (arith, c.line-length.ensures.short), omega (arith, c.line-length.ensures.is, l.inv.2))
+    (omega arith, omega (arith, c.line_length-total.ensures.short), omega (arith, c.line_length-total.ensures.is, l.invariant.2))
 
 returns : tie.Need-returns invariant_loop decreases_loop
 returns c =
-    let t = c.before.before.before.args.table.now in
-    omega (arith, c.before.loop.invariant.2, ap length (text_end t c.before.loop.g (omega (arith, length_gates t))))
+    let t = c.args.table.now in
+    omega (arith, c.loop-g.invariant.2, ap length (text_end t c.loop-g.g (omega (arith, length_gates t))))
 
 pub text_length_spec : {M : Type 1} → statement M
 text_length_spec =

@@ -20,91 +20,68 @@ use borrow.Author.Rules.{rules}
 use Rattle.text.proofs.write.write.Statement.{statement}
 use Rattle.text.proofs.write.write.Tie as tie
 
-test_requires : tie.Need-test-requires
+test_requires : tie.Need-test-tested-requires
 test_requires c κs = search rules
 
-enum_known_tested : tie.Need-enum-known-tested
+enum_known_tested : tie.Need-enum_known-tested
 enum_known_tested c = search rules
 
--- The stages of the function, seen from later ones.
-abbrev start_from_enum_told : tie.After-enum-told → tie.Start
-start_from_enum_told c = c.before.before.before.before.before
-
-abbrev start_from_tested : tie.After-tested → tie.Start
-start_from_tested c = c.before.before.before.before.before
-
-abbrev start_from_else1 : tie.Else1 → tie.Start
-start_from_else1 c = c.before.before.before.before.before.before.before
-
-abbrev start_from_then1 : tie.Then1 → tie.Start
-start_from_then1 c = c.before.before.before.before.before.before.before
-
-abbrev start_from_output : tie.After-output → tie.Start
-start_from_output c = start_from_enum_told c.before.before.before.before.before
-
-abbrev enum_told_from_output : tie.After-output → tie.After-enum-told
-enum_told_from_output c = c.before.before.before.before.before
-
-abbrev text_length_from_slice_known2 : tie.After-slice-known2 → tie.After-text-length
-text_length_from_slice_known2 c = c.before.before.before.before.before
-
-returns : tie.Need-returns
+returns : tie.Need-returns-in-Refused
 unfolding length_outcome text_reason_of outcome_of
 returns c =
-    let a = (start_from_tested c.before).args in
-    let g = c.before.tested.given in
-    same_text (text_refused a.shape a.table.now a.output.now (reason_of g.0.0)
-    (text_of_list a.shape a.table.now a.output.now (reason_of g.0.0)
-    (sym c.before.before.before.test.ensures ∙ ap outcome_of g.1)))
+    let a = c.args in
+    same_text (text_refused a.shape a.table.now a.output.now (reason_of c.in-Refused.reason)
+    (text_of_list a.shape a.table.now a.output.now (reason_of c.in-Refused.reason)
+    (sym c.test-tested.ensures ∙ ap outcome_of c.in-Refused.is)))
 
-enum_told : tie.Need-enum-told
+enum_told : tie.Need-enum_told-1
 enum_told c = search rules
 
 -- the list passes its test
-passed : (c : tie.After-enum-told)
-    → TestPassed (start_from_enum_told c).args.shape (start_from_enum_told c).args.table.now
-    (record { gates = c.enum_told.given.0.0; conditional = c.enum_told.given.0.1.0 })
+passed : (c : tie.In_default)
+    → TestPassed c.args.shape c.args.table.now
+    (record { gates = c.in_default.field-0; conditional = c.in_default.field-1 })
 unfolding outcome_of
-passed c = test_passed (start_from_enum_told c).args.shape (start_from_enum_told c).args.table.now _
-    (sym c.before.before.test.ensures ∙ ap outcome_of c.enum_told.given.1)
+passed c = test_passed c.args.shape c.args.table.now _
+    (sym c.test-tested.ensures ∙ ap outcome_of c.in_default.is)
 
-text_length_requires : tie.Need-text-length-requires
+text_length_requires : tie.Need-text_length-length-requires
 text_length_requires c κs =
-    let a = (start_from_enum_told c).args in
+    let a = c.args in
     (accepted_list (ballot_bytes a.shape) a.shape.candidates a.table.now _ _ (passed c).tests).few
 
-returns_2 : tie.Need-returns-2
+returns_2 : tie.Need-returns-then-output-length
 unfolding length_outcome text_reason_of
 returns_2 c =
-    let a = (start_from_then1 c).args in
+    let a = c.args in
     same_text (text_refused a.shape a.table.now a.output.now (reason_at 24 0)
     (text_short a.shape a.table.now a.output.now (passed c.before.before).reasons
-    (omega (arith, c.if1.true, c.before.text-length.ensures))))
+    (omega (arith, c.if-output-length.true, c.text_length-length.ensures))))
 
 -- the text has room
-fits : (c : tie.Else1) → length (text_of (gates_of (start_from_else1 c).args.table.now))
-    ≤ length (start_from_else1 c).args.output.now
-fits c = omega (arith, c.if1.false, c.before.text-length.ensures)
+fits : (c : tie.Else-output-length) → length (text_of (gates_of c.args.table.now))
+    ≤ length c.args.output.now
+fits c = omega (arith, c.if-output-length.false, c.text_length-length.ensures)
 
-put_text_requires : tie.Need-put-text-requires
+put_text_requires : tie.Need-put_text-requires
 put_text_requires c κs = fits c.before
 
-same_length : tie.Need-same-length
-same_length c = ap length c.before.before.put-text.ensures
-    ∙ length-sets (start_from_output c.before).args.output.now 0
-    (text_of (gates_of (start_from_output c.before).args.table.now))
+same_length : tie.Need-shape_of-output
+same_length c = ap length c.put_text.ensures
+    ∙ length-sets c.args.output.now 0
+    (text_of (gates_of c.args.table.now))
 
-returns_3 : tie.Need-returns-3
+returns_3 : tie.Need-returns
 unfolding length_outcome
 returns_3 c =
-    let a = (start_from_output c.before).args in
+    let a = c.args in
     let text = text_of (gates_of a.table.now) in
     let e = text_accepted a.shape a.table.now a.output.now
-    (text_good a.shape a.table.now a.output.now (passed (enum_told_from_output c.before)).reasons
+    (text_good a.shape a.table.now a.output.now (passed c.before.before.before.before.before.before).reasons
     (fits c.before.before.before.before)) in
     same_text (
-      ap (λ (n : ℕ). accepted n) (text_length_from_slice_known2 c).text-length.ensures ∙ e.0,
-      c.before.before.put-text.ensures
+      ap (λ (n : ℕ). accepted n) c.text_length-length.ensures ∙ e.0,
+      c.put_text.ensures
           ∙ sets_front a.output.now text (fits c.before.before.before.before) ∙ e.1,
     )
 

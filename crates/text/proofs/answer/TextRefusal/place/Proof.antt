@@ -9,29 +9,29 @@ use borrow.Author.Rules.{rules}
 use Rattle.text.proofs.answer.TextRefusal.place.Statement.{statement}
 use Rattle.text.proofs.answer.TextRefusal.place.Tie as tie
 
-enum_known_self : tie.Need-enum-known-self
+enum_known_self : tie.Need-enum_known-self
 enum_known_self c = search rules
 
 place_requires : tie.Need-place-requires
 place_requires c κs = search rules
 
-enum_known_self_2 : tie.Need-enum-known-self-2
+enum_known_self_2 : tie.Need-enum_known-self-in-Line-1
 enum_known_self_2 c = search rules
 
-enum_told : tie.Need-enum-told
+enum_told : tie.Need-enum_told-1
 enum_told c = search rules
 
-returns : tie.Need-returns
+returns : tie.Need-returns-in-OfList
 unfolding text_reason_of reason_at
-returns c = c.place.ensures ∙ sym (ap (λ (r : TextRefusal). (text_reason_of r).place) c.before.before.self.given.1)
+returns c = c.place.ensures ∙ sym (ap (λ (r : TextRefusal). (text_reason_of r).place) c.in-OfList.is)
 
-returns_2 : tie.Need-returns-2
+returns_2 : tie.Need-returns-in-Line
 unfolding text_reason_of reason_at
-returns_2 c = sym (ap (λ (r : TextRefusal). (text_reason_of r).place) c.before.self2.given.1)
+returns_2 c = sym (ap (λ (r : TextRefusal). (text_reason_of r).place) c.in-Line.is)
 
-returns_3 : tie.Need-returns-3
+returns_3 : tie.Need-returns-in-Output
 unfolding text_reason_of reason_at
-returns_3 c = sym (ap (λ (r : TextRefusal). (text_reason_of r).place) c.enum_told.given.1)
+returns_3 c = sym (ap (λ (r : TextRefusal). (text_reason_of r).place) c.in-Output.is)
 
 pub place_spec : {M : Type 1} → statement M
 place_spec =
