@@ -224,11 +224,16 @@ def commit():
     return described.stdout.strip() or "unknown"
 
 
+def kit():
+    """The first word of the toolchain's line on itself: another one makes other code."""
+    return subprocess.run(["rt", "version"], capture_output=True, text=True, check=True).stdout.split()[0]
+
+
 INTRODUCTION = """\
 # The core against the same work in C
 
-Made by `bench/run` on {machine}, at commit {commit}. C is `bench/core.c`,
-compiled by `gcc -O2`; it makes the same tests.
+Made by `bench/run` on {machine}, at commit {commit}, with the toolchain `{kit}`.
+C is `bench/core.c`, compiled by `gcc -O2`; it makes the same tests.
 
 - A time is the processor time of one call, the least over 201 short rounds of many calls each.
 - The time ratio is the median over the rounds. Core and C take turns in each round, so that a slow phase of the machine
@@ -299,7 +304,7 @@ def main():
     }
     calls = calls_table(times, counts)
     print(calls, *tables.values(), sep="\n\n")
-    text = INTRODUCTION.format(machine=machine(), commit=commit()) + f"\n{calls}\n\n![ratios](result.svg)\n"
+    text = INTRODUCTION.format(machine=machine(), commit=commit(), kit=kit()) + f"\n{calls}\n\n![ratios](result.svg)\n"
     text += "".join(f"\n## {title}\n\n{wrapped(said)}\n\n{tables[name]}\n" for title, said, name in SECTIONS)
     (HERE / "RESULT.md").write_text(text)
     (HERE / "result.svg").write_text(plot(times, counts))

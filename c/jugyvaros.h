@@ -1,4 +1,4 @@
-/* The counting core of tasting-jury units, for C. Link target/staticlib/libjugyvaros.a, which tools/library builds;
+/* The counting core of tasting-jury units, for C. Link crates/jugyvaros/out/libjugyvaros.a, which tools/library builds;
  * `tools/library --install PREFIX` installs it below a folder, with a file for pkg-config. c/example.c is a small
  * program that uses it.
  *
