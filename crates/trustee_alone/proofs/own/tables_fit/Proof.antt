@@ -8,36 +8,36 @@ use Rattle.trustee_alone.specs.Own.{own_tables_fit}
 use Rattle.trustee_alone.proofs.own.tables_fit.Statement.{statement}
 use Rattle.trustee_alone.proofs.own.tables_fit.Tie as tie
 
-mul_if1 : tie.Need-overflow-mul-if1
+mul_if1 : tie.Need-overflow_mul-conditional
 mul_if1 c = omega (arith, c.requires)
 
-returns : tie.Need-returns
+returns : tie.Need-returns-then-triples-conditional
 unfolding own_tables_fit
-returns c = let a = c.before.args in rw (ne_eqb (length a.triples.now) (3 * a.conditional) c.if1.true)
+returns c = let a = c.args in rw (ne_eqb (length a.triples.now) (3 * a.conditional) c.if-triples-conditional.true)
 
-add_if2 : tie.Need-overflow-add-if2
-add_if2 c = omega (arith, c.before.requires)
+add_if2 : tie.Need-overflow_add-inputs
+add_if2 c = omega (arith, c.requires)
 
-returns_2 : tie.Need-returns-2
+returns_2 : tie.Need-returns-then-wires-inputs
 unfolding own_tables_fit
-returns_2 c = let a = c.before.before.args in
+returns_2 c = let a = c.args in
     rw (
-      eq-eqb (length a.triples.now) (3 * a.conditional) c.before.if1.false,
-      ne_eqb (length a.wires.now) (a.inputs + a.gates) c.if2.true,
+      eq-eqb (length a.triples.now) (3 * a.conditional) c.if-triples-conditional.false,
+      ne_eqb (length a.wires.now) (a.inputs + a.gates) c.if-wires-inputs.true,
     )
 
-mul_result : tie.Need-overflow-mul-result
-mul_result c = omega (arith, c.before.before.requires)
+mul_result : tie.Need-overflow_mul-result
+mul_result c = omega (arith, c.requires)
 
-add_result : tie.Need-overflow-add-result
-add_result c = omega (arith, c.before.before.requires)
+add_result : tie.Need-overflow_add-result
+add_result c = omega (arith, c.requires)
 
-returns_3 : tie.Need-returns-3
+returns_3 : tie.Need-returns
 unfolding own_tables_fit
-returns_3 c = let a = c.before.before.args in
+returns_3 c = let a = c.args in
     rw (
-      eq-eqb (length a.triples.now) (3 * a.conditional) c.before.if1.false,
-      eq-eqb (length a.wires.now) (a.inputs + a.gates) c.if2.false,
+      eq-eqb (length a.triples.now) (3 * a.conditional) c.if-triples-conditional.false,
+      eq-eqb (length a.wires.now) (a.inputs + a.gates) c.if-wires-inputs.false,
     )
 
 pub tables_fit_spec : {M : Type 1} → statement M

@@ -18,91 +18,66 @@ use Rattle.levels.specs.Answer.{Depths, depths_of, depths_outcome, level_reason_
 use Rattle.tally.proofs.RunReasons.{outcome_refused, accepted_values}
 use Rattle.trustee_rounds.specs.Rounds.{Turn, enters, publishes, closes}
 use Rattle.trustee_alone.specs.Rounds.{round_reasons, round_outcome, own_turn, wires_made, published_made, rounded_wires, rounded_published}
-use Rattle.trustee_alone.proofs.Tests.{pass, outcome_some, outcome_none, left_old, left_new, same_own}
+use Rattle.trustee_alone.proofs.Tests.{outcome_some, outcome_none, left_old, left_new, same_own}
 use Rattle.trustee_alone.proofs.Passed.{Passed, round_passed}
 use Rattle.trustee_alone.proofs.round.round.Statement.{statement}
 use Rattle.trustee_alone.proofs.round.round.Tie as tie
 
--- The stages of the function, seen from later ones.
-abbrev start_from_shared_slice_known : tie.After-shared-slice-known → tie.Start
-start_from_shared_slice_known c = c.before
-
-abbrev start_from_test_round : tie.After-test-round → tie.Start
-start_from_test_round c = start_from_shared_slice_known c.before.before.before.before.before.before.before.before
-
-abbrev start_from_answer : tie.After-answer → tie.Start
-start_from_answer c = start_from_test_round c.before.before
-
-abbrev start_from_enum_told : tie.After-enum-told → tie.Start
-start_from_enum_told c = start_from_test_round c.before.before
-
-abbrev start_from_ballot_bytes : tie.After-ballot-bytes → tie.Start
-start_from_ballot_bytes c = start_from_test_round c.before.before.before.before
-
-abbrev start_from_published : tie.After-published → tie.Start
-start_from_published c = start_from_answer c.before.before.before.before.before.before.before.before
-
-abbrev answer_from_published : tie.After-published → tie.After-answer
-answer_from_published c = c.before.before.before.before.before.before.before.before
-
-abbrev ballot_bytes_from_published : tie.After-published → tie.After-ballot-bytes
-ballot_bytes_from_published c = c.before.before.before.before.before.before
-
 -- the tests have passed, and the answer is the list's own G, C and R
-accepted_by : (c : tie.After-answer) → let a = (start_from_answer c).args in
+accepted_by : (c : tie.In-Accepted) → let a = c.args in
     (first_of (round_reasons a.shape a.table.now a.t a.p a.round a.levels.now a.triples.now
     a.heard.now a.wires.now a.published.now) ≡ none)
     × ((depths_of (ballot_bytes a.shape) (gates_of a.table.now))
     ≡ record {
-      gates = c.answer.given.0.0;
-      conditional = c.answer.given.0.1.0;
+      gates = c.in-Accepted.gates;
+      conditional = c.in-Accepted.conditional;
       rounds =
-          c.answer.given.0.1.1.0;
+          c.in-Accepted.rounds;
     })
 unfolding depths_outcome
 accepted_by c =
-    let a = (start_from_answer c).args in
+    let a = c.args in
     accepted_values
     (first_of (round_reasons a.shape a.table.now a.t a.p a.round a.levels.now a.triples.now
     a.heard.now a.wires.now a.published.now))
     (depths_of (ballot_bytes a.shape) (gates_of a.table.now)) _
-    (sym c.before.before.test-round.ensures ∙ ap depths_outcome c.answer.given.1)
+    (sym c.test_round-answer.ensures ∙ ap depths_outcome c.in-Accepted.is)
 
 -- what holds if the tests have passed
-known : (c : tie.After-answer) → let a = (start_from_answer c).args in
+known : (c : tie.In-Accepted) → let a = c.args in
     Passed a.shape a.table.now a.round a.levels.now a.triples.now a.heard.now a.wires.now
     a.published.now
 known c =
-    let a = (start_from_answer c).args in
+    let a = c.args in
     round_passed a.shape a.table.now a.t a.p a.round a.levels.now a.triples.now
     a.heard.now a.wires.now a.published.now (accepted_by c).0
 
-test_round_requires : tie.Need-test-round-requires
+test_round_requires : tie.Need-test_round-answer-requires
 test_round_requires c κs = search rules
 
-enum_known_answer : tie.Need-enum-known-answer
+enum_known_answer : tie.Need-enum_known-answer
 enum_known_answer c = search rules
 
-enum_told : tie.Need-enum-told
+enum_told : tie.Need-enum_told-1
 enum_told c = search rules
 
-same_length : tie.Need-same-length
+same_length : tie.Need-shape_of-wires-in_default
 same_length c = search rules
 
-same_length_2 : tie.Need-same-length-2
+same_length_2 : tie.Need-shape_of-published-in_default
 same_length_2 c = search rules
 
-returns : tie.Need-returns
+returns : tie.Need-returns-in_default
 unfolding depths_outcome round_outcome rounded_wires rounded_published
 returns c =
-    let a = (start_from_enum_told c).args in
-    let r = level_reason_of c.enum_told.given.0.0 in
-    let e = ap depths_outcome c.enum_told.given.1 in
+    let a = c.args in
+    let r = level_reason_of c.in_default.field-0 in
+    let e = ap depths_outcome c.in_default.is in
     let why = outcome_refused (first_of
     (round_reasons a.shape a.table.now a.t a.p a.round a.levels.now a.triples.now
     a.heard.now a.wires.now a.published.now))
     (depths_of (ballot_bytes a.shape) (gates_of a.table.now)) r
-    (sym c.before.before.test-round.ensures ∙ e) in
+    (sym c.test_round-answer.ensures ∙ e) in
     same_own
     (e ∙ outcome_some
     (first_of (round_reasons a.shape a.table.now a.t a.p a.round a.levels.now a.triples.now
@@ -119,17 +94,17 @@ returns c =
     (published_made a.shape a.table.now a.p a.round a.levels.now a.triples.now a.heard.now
     a.wires.now a.published.now) a.published.now r why)
 
-ballot_bytes_requires : tie.Need-ballot-bytes-requires
-ballot_bytes_requires c κs = true_T (within_limits (start_from_answer c.before).args.shape) (known c.before).facts.within
+ballot_bytes_requires : tie.Need-ballot_bytes-inputs-requires
+ballot_bytes_requires c κs = true_T (within_limits c.args.shape) (known c).facts.within
 
 round_requires : tie.Need-round-requires
 unfolding depths_of
 round_requires c κs =
-    let a = (start_from_ballot_bytes c.before.before).args in
-    let ok = c.before.before.before.before in
-    let p = known ok in
-    let e = c.before.before.ballot-bytes.ensures in
-    let conditional = ap (λ (d : Depths). d.conditional) (accepted_by ok).1 in
+    let a = c.args in
+    let ok = c in
+    let p = known ok.before.before.before in
+    let e = c.ballot_bytes-inputs.ensures in
+    let conditional = ap (λ (d : Depths). d.conditional) (accepted_by ok.before.before.before).1 in
     rw e (record {
       pass = record {
         some_input = p.facts.some_input;
@@ -152,22 +127,22 @@ round_requires c κs =
       published_length = p.lengths.published_length ∙ ap (λ (n : ℕ). 2 * n + a.shape.candidates) conditional;
     })
 
-same_length_3 : tie.Need-same-length-3
+same_length_3 : tie.Need-shape_of-wires
 same_length_3 c = search rules
 
-same_length_4 : tie.Need-same-length-4
+same_length_4 : tie.Need-shape_of-published
 same_length_4 c = search rules
 
-returns_2 : tie.Need-returns-2
+returns_2 : tie.Need-returns
 unfolding depths_outcome depths_of round_outcome rounded_wires rounded_published wires_made published_made own_turn
 returns_2 c =
-    let a = (start_from_published c.before).args in
-    let ok = (answer_from_published c.before) in
-    let by = accepted_by ok in
-    let e = (ballot_bytes_from_published c.before).ballot-bytes.ensures in
+    let a = c.args in
+    let ok = c in
+    let by = accepted_by ok.before.before.before.before.before.before.before.before in
+    let e = c.ballot_bytes-inputs.ensures in
     let conditional = ap (λ (d : Depths). d.conditional) by.1 in
     let rounds = ap (λ (d : Depths). d.rounds) by.1 in
-    let done = c.before.before.before.before.round.ensures in
+    let done = c.round.ensures in
     let u : ℕ → Turn = λ n. record {
       trustee = a.p;
       round = a.round;
@@ -192,8 +167,8 @@ returns_2 c =
     a.heard.now a.wires.now a.published.now))
     (wires_made a.shape a.table.now a.p a.round a.levels.now a.triples.now a.heard.now
     a.wires.now) a.wires.now by.0)
-    (done.shown ∙ ap (λ (n : ℕ). X n ok.answer.given.0.1.1.0 ok.answer.given.0.1.0) e
-    ∙ ap (λ (m : ℕ). X (ballot_bytes a.shape) m ok.answer.given.0.1.0) (sym rounds)
+    (done.shown ∙ ap (λ (n : ℕ). X n ok.in-Accepted.rounds ok.in-Accepted.conditional) e
+    ∙ ap (λ (m : ℕ). X (ballot_bytes a.shape) m ok.in-Accepted.conditional) (sym rounds)
     ∙ ap (λ (c : ℕ). X (ballot_bytes a.shape) (rounds_of (ballot_bytes a.shape) (gates_of a.table.now)) c)
     (sym conditional) ∙ left_new (first_of
     (round_reasons a.shape a.table.now a.t a.p a.round a.levels.now a.triples.now

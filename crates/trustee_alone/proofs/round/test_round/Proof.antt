@@ -20,56 +20,39 @@ use Rattle.trustee_alone.proofs.Sizes.{tables_ready}
 use Rattle.trustee_alone.proofs.round.test_round.Statement.{statement}
 use Rattle.trustee_alone.proofs.round.test_round.Tie as tie
 
--- The stages of the function, seen from later ones.
-abbrev start_from_test : tie.After-test → tie.Start
-start_from_test c = c.before.before.before.before.before.before.before
-
-abbrev start_from_gates : tie.After-gates → tie.Start
-start_from_gates c = start_from_test c.before.before
-
-abbrev start_from_reason : tie.After-reason → tie.Start
-start_from_reason c = start_from_test c.before.before
-
-abbrev start_from_ballot_bytes : tie.After-ballot-bytes → tie.Start
-start_from_ballot_bytes c = start_from_test c.before.before.before.before
-
-abbrev start_from_test_tables : tie.After-test-tables → tie.Start
-start_from_test_tables c = start_from_test c.before.before.before.before.before
-
 -- the list has passed its test
-facts : (c : tie.After-gates) → let a = (start_from_gates c).args in
-    ListFacts a.shape a.table.now c.gates.given.0.0 c.gates.given.0.1.0
+facts : (c : tie.In-Accepted) → let a = c.args in
+    ListFacts a.shape a.table.now c.in-Accepted.gates c.in-Accepted.conditional
 unfolding outcome_of
 facts c =
-    let a = (start_from_gates c).args in
+    let a = c.args in
     list_facts a.shape a.table.now _ _
     (test_passed a.shape a.table.now _
-    (sym c.before.before.test.ensures ∙ ap outcome_of c.gates.given.1))
+    (sym c.test.ensures ∙ ap outcome_of c.in-Accepted.is))
 
 test_requires : tie.Need-test-requires
 test_requires c κs = search rules
 
-enum_known_reason : tie.Need-enum-known-reason
+enum_known_reason : tie.Need-enum_known-reason
 enum_known_reason c = search rules
 
-enum_known_gates : tie.Need-enum-known-gates
+enum_known_gates : tie.Need-enum_known-gates
 enum_known_gates c = search rules
 
-ballot_bytes_requires : tie.Need-ballot-bytes-requires
-ballot_bytes_requires c κs = true_T (within_limits (start_from_gates c.before).args.shape) (facts c.before).within
+ballot_bytes_requires : tie.Need-ballot_bytes-requires
+ballot_bytes_requires c κs = true_T (within_limits c.args.shape) (facts c).within
 
-test_tables_requires : tie.Need-test-tables-requires
+test_tables_requires : tie.Need-test_tables-requires
 test_tables_requires c κs =
-    let a = (start_from_ballot_bytes c).args in
-    let e = c.ballot-bytes.ensures in
-    rw e (tables_ready a.shape a.table.now _ _ (facts c.before.before))
+    let a = c.args in
+    let e = c.ballot_bytes.ensures in
+    rw e (tables_ready a.shape a.table.now _ _ (facts c.before))
 
-returns : tie.Need-returns
+returns : tie.Need-returns-in-Refused
 unfolding depths_outcome level_reason_of outcome_of round_reasons test_outcome
 returns c =
-    let a = (start_from_reason c.before).args in
-    let g = c.before.reason.given in
-    let r = reason_of g.0.0 in
+    let a = c.args in
+    let r = reason_of c.in-Refused.reason in
     outcome_some
     (first_of (round_reasons a.shape a.table.now a.t a.p a.round a.levels.now a.triples.now
     a.heard.now a.wires.now a.published.now))
@@ -78,21 +61,21 @@ returns c =
     (table_reasons (ballot_bytes a.shape) a.shape.candidates (gates_of a.table.now) a.t a.p a.round
     a.levels.now a.triples.now a.heard.now a.wires.now a.published.now) r
     (outcome_refused (first_of (test_reasons a.shape a.table.now)) (size_of (gates_of a.table.now)) r
-    (sym c.before.before.before.test.ensures ∙ ap outcome_of g.1)))
+    (sym c.test.ensures ∙ ap outcome_of c.in-Refused.is)))
 
-returns_2 : tie.Need-returns-2
+returns_2 : tie.Need-returns-in-Accepted
 unfolding round_reasons
 returns_2 c =
-    let a = (start_from_test_tables c).args in
-    c.test-tables.ensures ∙ ap (λ (n : ℕ). outcome
+    let a = c.args in
+    c.test_tables.ensures ∙ ap (λ (n : ℕ). outcome
     (first_of (table_reasons n a.shape.candidates (gates_of a.table.now) a.t a.p a.round
     a.levels.now a.triples.now a.heard.now a.wires.now a.published.now))
-    (depths_of n (gates_of a.table.now))) c.before.ballot-bytes.ensures
+    (depths_of n (gates_of a.table.now))) c.ballot_bytes.ensures
     ∙ ap (λ (o : Option Reason). outcome o (depths_of (ballot_bytes a.shape) (gates_of a.table.now)))
     (sym (behind (test_reasons a.shape a.table.now)
     (table_reasons (ballot_bytes a.shape) a.shape.candidates (gates_of a.table.now) a.t a.p
     a.round a.levels.now a.triples.now a.heard.now a.wires.now a.published.now)
-    (facts c.before.before.before).reasons))
+    (facts c.before.before).reasons))
 
 pub test_round_spec : {M : Type 1} → statement M
 test_round_spec =

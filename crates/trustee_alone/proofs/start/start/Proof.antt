@@ -4,7 +4,7 @@ use borrow.Author.Rules.{rules}
 use mathlib.Core.Path.{◌≡◌, ◌∙◌, sym, ap}
 use mathlib.Core.Option.{none}
 use mathlib.Core.List.{List, ◌++◌}
-use Prim.Native.Nat.{ℕ, ◌+◌}
+use Prim.Native.Nat.{ℕ}
 use native.Mathlib.Omega.{arith}
 use lib.Dec.{eqb}
 use lib.ListN.{length, take, drop, length-replicate}
@@ -28,104 +28,55 @@ use Rattle.trustee_alone.proofs.Sizes.{tables_ready, small_sizes, size_is, Fit, 
 use Rattle.trustee_alone.proofs.start.start.Statement.{statement}
 use Rattle.trustee_alone.proofs.start.start.Tie as tie
 
--- The stages of the function, seen from later ones.
-abbrev start_from_answer : tie.After-answer → tie.Start
-start_from_answer c = c.before.before.before.before.before.before.before.before
-
-abbrev start_from_enum_told : tie.After-enum-told → tie.Start
-start_from_enum_told c = c.before.before.before.before.before.before.before.before
-
-abbrev start_from_ballot_bytes : tie.After-ballot-bytes → tie.Start
-start_from_ballot_bytes c = start_from_answer c.before.before
-
-abbrev start_from_test_own : tie.After-test-own → tie.Start
-start_from_test_own c = start_from_answer c.before.before.before.before.before
-
-abbrev answer_from_test_own : tie.After-test-own → tie.After-answer
-answer_from_test_own c = c.before.before.before.before.before
-
-abbrev start_from_enum_told2 : tie.After-enum-told2 → tie.Start
-start_from_enum_told2 c = start_from_answer c.before.before.before.before.before.before.before
-
-abbrev start_from_reason : tie.After-reason → tie.Start
-start_from_reason c = start_from_answer c.before.before.before.before.before.before.before
-
-abbrev start_from_wires : tie.After-wires → tie.Start
-start_from_wires c = start_from_ballot_bytes c.before.before.before.before.before.before.before.before
-
-abbrev answer_from_wires : tie.After-wires → tie.After-answer
-answer_from_wires c = answer_from_test_own c.before.before.before.before.before
-
-abbrev empty_from_wires : tie.After-wires → tie.After-empty
-empty_from_wires c = c.before
-
-abbrev enum_told2_from_copy_arg : tie.After-copy-arg → tie.After-enum-told2
-enum_told2_from_copy_arg c = c.before.before.before.before.before
-
-abbrev start_from_published : tie.After-published → tie.Start
-start_from_published c = start_from_wires c.before.before.before.before.before.before.before.before
-
-abbrev answer_from_published : tie.After-published → tie.After-answer
-answer_from_published c = answer_from_wires c.before.before.before.before.before.before.before.before
-
-abbrev enum_told2_from_published : tie.After-published → tie.After-enum-told2
-enum_told2_from_published c = enum_told2_from_copy_arg c.before.before.before.before.before.before
-
-abbrev empty_from_published : tie.After-published → tie.After-empty
-empty_from_published c = empty_from_wires c.before.before.before.before.before.before.before.before
-
-abbrev copy_from_published : tie.After-published → tie.After-copy
-copy_from_published c = c.before.before.before.before.before
-
 -- the list has passed its test
-facts : (c : tie.After-answer) → let a = (start_from_answer c).args in
-    ListFacts a.shape a.table.now c.answer.given.0.0 c.answer.given.0.1.0
+facts : (c : tie.In-Accepted) → let a = c.args in
+    ListFacts a.shape a.table.now c.in-Accepted.gates c.in-Accepted.conditional
 unfolding outcome_of
 facts c =
-    let a = (start_from_answer c).args in
+    let a = c.args in
     list_facts a.shape a.table.now _ _
     (test_passed a.shape a.table.now _
-    (sym c.before.before.test.ensures ∙ ap outcome_of c.answer.given.1))
+    (sym c.test-answer.ensures ∙ ap outcome_of c.in-Accepted.is))
 
 -- if the list has passed its test, the tests 16 to 18 decide
-own_answer : (c : tie.After-test-own) → let a = (start_from_test_own c).args in
+own_answer : (c : tie.After-test_own) → let a = c.args in
     first_of (start_reasons a.shape a.table.now a.t a.p a.shares.now a.triples.now a.wires.now
-    a.published.now) ≡ refused_for c.test-own.result
+    a.published.now) ≡ refused_for c.test_own.result
 unfolding start_reasons
 own_answer c =
-    let a = (start_from_test_own c).args in
-    let known = facts (answer_from_test_own c) in
+    let a = c.args in
+    let known = facts c.before.before in
     behind (test_reasons a.shape a.table.now)
     (own_reasons (ballot_bytes a.shape) a.shape.candidates (size_of (gates_of a.table.now)) a.t a.p
     a.shares.now a.triples.now a.wires.now a.published.now) known.reasons
     ∙ sym (
-    c.test-own.ensures ∙ ap (λ (n : ℕ). first_of
+    c.test_own.ensures ∙ ap (λ (n : ℕ). first_of
     (own_reasons n a.shape.candidates
     (record {
-      gates = (answer_from_test_own c).answer.given.0.0;
+      gates = c.in-Accepted.gates;
       conditional =
-          (answer_from_test_own c).answer.given.0.1.0;
+          c.in-Accepted.conditional;
     }) a.t a.p a.shares.now a.triples.now
-    a.wires.now a.published.now)) c.before.before.before.ballot-bytes.ensures
+    a.wires.now a.published.now)) c.ballot_bytes-inputs.ensures
     ∙ ap (λ (z : Size). first_of (own_reasons (ballot_bytes a.shape) a.shape.candidates z a.t a.p
     a.shares.now a.triples.now a.wires.now a.published.now))
     (size_is _ _ a.table.now known.gates_are known.conditional_are))
 
 -- no reason applies
-none_applies : (c : tie.After-enum-told2) → let a = (start_from_enum_told2 c).args in
+none_applies : (c : tie.In_default-test_own) → let a = c.args in
     first_of (start_reasons a.shape a.table.now a.t a.p a.shares.now a.triples.now a.wires.now
     a.published.now) ≡ none
 unfolding refused_for
-none_applies c = own_answer c.before.before ∙ ap refused_for c.enum-told2.given.1
+none_applies c = own_answer c.before ∙ ap refused_for c.in_default-test_own.is
 
 -- so the tables have the right lengths
-lengths : (c : tie.After-enum-told2) → let a = (start_from_enum_told2 c).args in
+lengths : (c : tie.In_default-test_own) → let a = c.args in
     (length a.shares.now ≡ ballot_bytes a.shape)
     × Fit (ballot_bytes a.shape) a.shape.candidates (gates_of a.table.now) a.triples.now a.wires.now
     a.published.now
 unfolding start_reasons own_reasons
 lengths c =
-    let a = (start_from_enum_told2 c).args in
+    let a = c.args in
     let own = (both_passed (test_reasons a.shape a.table.now) _ (none_applies c)).1 in
     let two = (passed _ 17 _ (passed _ 16 _ own).1).0 in
     let l = eqb (length a.shares.now) (ballot_bytes a.shape) in
@@ -136,26 +87,26 @@ lengths c =
           a.published.now (and_second l t two),
     )
 
-test_requires : tie.Need-test-requires
+test_requires : tie.Need-test-answer-requires
 test_requires c κs = search rules
 
-enum_known_answer : tie.Need-enum-known-answer
+enum_known_answer : tie.Need-enum_known-answer
 enum_known_answer c = search rules
 
-enum_told : tie.Need-enum-told
+enum_told : tie.Need-enum_told-1
 enum_told c = search rules
 
-returns : tie.Need-returns
+returns : tie.Need-returns-in_default
 unfolding outcome_of start_reasons start_outcome started_wires started_published test_outcome
 returns c =
-    let a = (start_from_enum_told c).args in
-    let r = reason_of c.enum_told.given.0.0 in
-    let e = ap outcome_of c.enum_told.given.1 in
+    let a = c.args in
+    let r = reason_of c.in_default.field-0 in
+    let e = ap outcome_of c.in_default.is in
     let why = before (test_reasons a.shape a.table.now)
     (own_reasons (ballot_bytes a.shape) a.shape.candidates (size_of (gates_of a.table.now)) a.t a.p
     a.shares.now a.triples.now a.wires.now a.published.now) r
     (outcome_refused (first_of (test_reasons a.shape a.table.now)) (size_of (gates_of a.table.now)) r
-    (sym c.before.before.test.ensures ∙ e)) in
+    (sym c.test-answer.ensures ∙ e)) in
     same_own
     (e ∙ outcome_some
     (first_of (start_reasons a.shape a.table.now a.t a.p a.shares.now a.triples.now a.wires.now
@@ -168,31 +119,31 @@ returns c =
     a.published.now)) (start_published (conditional_count (gates_of a.table.now)) a.shape.candidates)
     a.published.now r why)
 
-ballot_bytes_requires : tie.Need-ballot-bytes-requires
-ballot_bytes_requires c κs = true_T (within_limits (start_from_answer c.before).args.shape) (facts c.before).within
+ballot_bytes_requires : tie.Need-ballot_bytes-inputs-requires
+ballot_bytes_requires c κs = true_T (within_limits c.args.shape) (facts c).within
 
-test_own_requires : tie.Need-test-own-requires
+test_own_requires : tie.Need-test_own-requires
 test_own_requires c κs =
-    let a = (start_from_ballot_bytes c.before.before).args in
-    let e = c.before.before.ballot-bytes.ensures in
+    let a = c.args in
+    let e = c.ballot_bytes-inputs.ensures in
     rw e (small_sizes (ballot_bytes a.shape) a.shape.candidates _ _ a.table.now
-    (tables_ready a.shape a.table.now _ _ (facts c.before.before.before.before)))
+    (tables_ready a.shape a.table.now _ _ (facts c.before)))
 
-enum_known_reason : tie.Need-enum-known-reason
+enum_known_reason : tie.Need-enum_known-reason
 enum_known_reason c = search rules
 
-same_length : tie.Need-same-length
+same_length : tie.Need-shape_of-wires-in-Refused
 same_length c = search rules
 
-same_length_2 : tie.Need-same-length-2
+same_length_2 : tie.Need-shape_of-published-in-Refused
 same_length_2 c = search rules
 
-returns_2 : tie.Need-returns-2
+returns_2 : tie.Need-returns-in-Refused
 unfolding outcome_of refused_for start_outcome started_wires started_published
 returns_2 c =
-    let a = (start_from_reason c.before).args in
-    let r = reason_of c.before.reason.given.0.0 in
-    let why = own_answer c.before.before.before ∙ ap refused_for c.before.reason.given.1 in
+    let a = c.args in
+    let r = reason_of c.in-Refused.reason in
+    let why = own_answer c.before ∙ ap refused_for c.in-Refused.is in
     same_own
     (outcome_some
     (first_of (start_reasons a.shape a.table.now a.t a.p a.shares.now a.triples.now a.wires.now
@@ -205,7 +156,7 @@ returns_2 c =
     a.published.now)) (start_published (conditional_count (gates_of a.table.now)) a.shape.candidates)
     a.published.now r why)
 
-enum_told_2 : tie.Need-enum-told-2
+enum_told_2 : tie.Need-enum_told-in_default-test_own
 enum_told_2 c = search rules
 
 empty_requires : tie.Need-empty-requires
@@ -213,46 +164,46 @@ empty_requires c κs = search rules
 
 copy_requires : tie.Need-copy-requires
 copy_requires c κs =
-    let told = (enum_told2_from_copy_arg c) in
-    let l = lengths told in
+    let told = c in
+    let l = lengths told.before.before.before.before.before in
     omega (
       arith,
       l.0,
       l.1.wires_length,
-      ap length c.before.before.before.empty.ensures,
-      length-replicate {A = ℕ} (length (start_from_enum_told2 told).args.wires.now) 0,
+      ap length c.empty.ensures,
+      length-replicate {A = ℕ} (length told.args.wires.now) 0,
     )
 
 empty_requires_2 : tie.Need-empty-requires-2
 empty_requires_2 c κs = search rules
 
-same_length_3 : tie.Need-same-length-3
+same_length_3 : tie.Need-shape_of-wires
 same_length_3 c = search rules
 
-same_length_4 : tie.Need-same-length-4
+same_length_4 : tie.Need-shape_of-published
 same_length_4 c = search rules
 
-returns_3 : tie.Need-returns-3
+returns_3 : tie.Need-returns
 unfolding outcome_of start_outcome started_wires started_published
 returns_3 c =
-    let a = (start_from_published c.before).args in
-    let told = (enum_told2_from_published c.before) in
-    let known = (answer_from_published c.before) in
-    let why = none_applies told in
-    let l = lengths told in
+    let a = c.args in
+    let told = c in
+    let known = c in
+    let why = none_applies told.before.before.before.before.before.before.before.before.before.before.before.before in
+    let l = lengths told.before.before.before.before.before.before.before.before.before.before.before.before in
     same_own
     (outcome_none
     (first_of (start_reasons a.shape a.table.now a.t a.p a.shares.now a.triples.now a.wires.now
     a.published.now)) (size_of (gates_of a.table.now)) _ why
-    (size_is _ _ a.table.now (facts known).gates_are (facts known).conditional_are))
-    (copied (copy_from_published c.before).copy.ensures
+    (size_is _ _ a.table.now (facts known.before.before.before.before.before.before.before.before.before.before.before.before.before.before.before).gates_are (facts known.before.before.before.before.before.before.before.before.before.before.before.before.before.before.before).conditional_are))
+    (copied a.shares.now c.empty.new.bytes _ c.copy.ensures
     ∙ ap (λ (z : List ℕ). take (length a.shares.now) a.shares.now ++ drop (length a.shares.now) z)
-    (empty_from_published c.before).empty.ensures
+    c.empty.ensures
     ∙ started a.shares.now a.wires.now (ballot_bytes a.shape) (length (gates_of a.table.now)) l.0
     l.1.wires_length ∙ left_new
     (first_of (start_reasons a.shape a.table.now a.t a.p a.shares.now a.triples.now a.wires.now
     a.published.now)) (start_wires (length (gates_of a.table.now)) a.shares.now) a.wires.now why)
-    (c.before.before.empty2.ensures
+    (c.empty-2.ensures
     ∙ started_published_lem a.published.now (conditional_count (gates_of a.table.now)) a.shape.candidates
     l.1.published_length ∙ left_new
     (first_of (start_reasons a.shape a.table.now a.t a.p a.shares.now a.triples.now a.wires.now
