@@ -14,32 +14,32 @@ use Rattle.batch.proofs.RowLaws.{RowLane, row_start, row_turn, row_end}
 use Rattle.batch.proofs.ballots.bad_row.Statement.{statement}
 use Rattle.batch.proofs.ballots.bad_row.Tie as tie
 
-abbrev invariant_loop : tie.invariant-loop
+abbrev invariant_loop : tie.invariant-loop-i
 invariant_loop words once₀ twice₀ i₀ once twice i = (i ≤ length words) × ((j : ℕ) → j < lane_count → RowLane j words once twice i)
 
-abbrev decreases_loop : tie.decreases-loop
+abbrev decreases_loop : tie.decreases-loop-i
 decreases_loop words once₀ twice₀ i₀ once twice i = length words - i
 
-loop_holds : tie.Need-loop-init invariant_loop decreases_loop
+loop_holds : tie.Need-loop-i-init invariant_loop decreases_loop
 loop_holds c = (omega arith, λ j h. row_start j c.args.words.now)
 
-mul_word : tie.Need-overflow-mul-word invariant_loop decreases_loop
+mul_word : tie.Need-offset_bounds-words-i invariant_loop decreases_loop
 mul_word c = omega arith
 
-shared_slice_read_word : tie.Need-shared-slice-read-word invariant_loop decreases_loop
+shared_slice_read_word : tie.Need-bounds-words-i invariant_loop decreases_loop
 shared_slice_read_word c = omega arith
 
-add_i : tie.Need-overflow-add-i invariant_loop decreases_loop
+add_i : tie.Need-overflow_add-i invariant_loop decreases_loop
 add_i c = omega arith
 
-loop_less : tie.Need-loop-smaller invariant_loop decreases_loop
+loop_less : tie.Need-loop-i-smaller invariant_loop decreases_loop
 loop_less c = omega arith
 
-loop_again : tie.Need-loop-preserved invariant_loop decreases_loop
+loop_again : tie.Need-loop-i-preserved invariant_loop decreases_loop
 loop_again c =
-    let at = c.before.before in
-    let l = at.loop in
-    let words = at.before.args.words.now in
+    let at = c in
+    let l = at.loop-i in
+    let words = at.args.words.now in
     let word = get_or words l.i 0 in (
       omega arith,
       λ j h. subst (λ (n : ℕ). RowLane j words (bit_or l.once word) (bit_or l.twice (bit_and l.once word)) n)
@@ -49,8 +49,8 @@ loop_again c =
 returns : tie.Need-returns invariant_loop decreases_loop
 unfolding ones
 returns c =
-    let l = c.before.loop in
-    let words = c.before.before.args.words.now in
+    let l = c.loop-i in
+    let words = c.args.words.now in
     λ j h. row_end j h words l.once l.twice l.i (l.invariant.1 j h)
     (ap ones (drop_of_length-le (lane_of j words) {i = l.i} (omega (arith, lanes_length j words))))
 

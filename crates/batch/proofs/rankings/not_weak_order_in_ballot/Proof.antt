@@ -5,61 +5,61 @@ use mathlib.Core.Path.{◌≡◌, ◌∙◌, ap}
 use Prim.Native.Nat.{ℕ, ◌-◌, ◌≤◌, ◌<◌}
 use native.Mathlib.Omega.{arith}
 use borrow.Author.Rules.{rules}
-use Rattle.jury.specs.Rankings.{before, not_weak_order_after, not_weak_order}
+use Rattle.jury.specs.Rankings.{not_weak_order_after, not_weak_order}
 use Rattle.basics.specs.Below.{some_below}
 use Rattle.batch_lanes.specs.Lane.{lane_count, lane, lane_of}
 use Rattle.batch.proofs.RankLaws.{bit, some_none, some_more}
 use Rattle.batch.proofs.rankings.not_weak_order_in_ballot.Statement.{statement}
 use Rattle.batch.proofs.rankings.not_weak_order_in_ballot.Tie as tie
 
-abbrev invariant_loop : tie.invariant-loop
+abbrev invariant_loop : tie.invariant-loop-i
 invariant_loop words k b faults₀ i₀ faults i = (i ≤ k)
     × ((u : ℕ) → u < lane_count → lane u faults ≡ bit (some_below i (not_weak_order_after k (lane_of u words) b)))
 
-abbrev decreases_loop : tie.decreases-loop
+abbrev decreases_loop : tie.decreases-loop-i
 decreases_loop words k b faults₀ i₀ faults i = k - i
 
-loop_holds : tie.Need-loop-init invariant_loop decreases_loop
+loop_holds : tie.Need-loop-i-init invariant_loop decreases_loop
 loop_holds c =
-    let start = c.before in
+    let start = c in
     let words = start.args.words.now in
     let k = start.args.k in
     let b = start.args.b in
     (omega arith, λ u h. some_none u (not_weak_order_after k (lane_of u words) b))
 
-not_weak_order_after_requires : tie.Need-not-weak-order-after-requires invariant_loop decreases_loop
+not_weak_order_after_requires : tie.Need-not_weak_order_after-faults-requires invariant_loop decreases_loop
 not_weak_order_after_requires c κs = search rules
 
-add_i : tie.Need-overflow-add-i invariant_loop decreases_loop
+add_i : tie.Need-overflow_add-i invariant_loop decreases_loop
 add_i c = omega arith
 
-loop_less : tie.Need-loop-smaller invariant_loop decreases_loop
+loop_less : tie.Need-loop-i-smaller invariant_loop decreases_loop
 loop_less c = omega arith
 
-loop_again : tie.Need-loop-preserved invariant_loop decreases_loop
+loop_again : tie.Need-loop-i-preserved invariant_loop decreases_loop
 loop_again c =
     let called = c in
-    let at = called.before.before in
-    let start = at.before.before in
+    let at = called in
+    let start = at in
     let words = start.args.words.now in
     let k = start.args.k in
     let b = start.args.b in
-    let i = at.loop.i in (
+    let i = at.loop-i.i in (
       omega arith,
-      λ u h. some_more u i (not_weak_order_after k (lane_of u words) b) at.loop.faults _ (at.loop.invariant.1 u h)
-          (called.not-weak-order-after.ensures u h),
+      λ u h. some_more u i (not_weak_order_after k (lane_of u words) b) at.loop-i.faults _ (at.loop-i.invariant.1 u h)
+          (called.not_weak_order_after-faults.ensures u h),
     )
 
 returns : tie.Need-returns invariant_loop decreases_loop
 unfolding not_weak_order
 returns c =
-    let at = c.before in
-    let start = at.before.before in
+    let at = c in
+    let start = at in
     let words = start.args.words.now in
     let k = start.args.k in
     let b = start.args.b in
-    λ u h. at.loop.invariant.1 u h ∙ ap (λ (m : ℕ). bit (some_below m (not_weak_order_after k (lane_of u words) b)))
-    {x = at.loop.i} {y = k} (omega arith)
+    λ u h. at.loop-i.invariant.1 u h ∙ ap (λ (m : ℕ). bit (some_below m (not_weak_order_after k (lane_of u words) b)))
+    {x = at.loop-i.i} {y = k} (omega arith)
 
 pub not_weak_order_in_ballot_spec : {M : Type 1} → statement M
 not_weak_order_in_ballot_spec =

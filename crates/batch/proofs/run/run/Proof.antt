@@ -32,77 +32,70 @@ call s =
       board = a.board.now;
     }
 
--- The stages: the tests pass; the list is evaluated; the wires are emptied.
-abbrev started : tie.After-enum-told → tie.Start
-started c = let lending = c.before.before.before in lending.before.before.before.before.before.before.before
-
-abbrev told_by : tie.After-run → tie.After-enum-told
-told_by c = c.before.before.before
-
-test_run_requires : tie.Need-test-run-requires
+test_run_requires : tie.Need-test_run-answer-requires
 test_run_requires c κs = search rules
 
-enum_told : tie.Need-enum-told
+enum_told : tie.Need-enum_told-1
 enum_told c = search rules
 
 -- if the tests pass, no reason applies
-no_reason : (c : tie.After-enum-told) → first_of (batch_reasons (call (started c))) ≡ none
+no_reason : (c : tie.In-Accepted) → first_of (batch_reasons (call c.before.before.before.before.before.before.before)) ≡ none
 unfolding outcome_of
 no_reason c =
-    let of = call (started c) in
+    let of = call c.before.before.before.before.before.before.before in
     outcome_accepted (first_of (batch_reasons of)) (size_of (gates_of of.table)) _
-    (sym c.before.before.test-run.ensures ∙ ap outcome_of c.enum_told.given.1)
+    (sym c.test_run-answer.ensures ∙ ap outcome_of c.in-Accepted.is)
 
 run_requires : tie.Need-run-requires
 run_requires c κs =
     let told = c.before.before in
-    batch_ready (call (started told)) (batch_passed (call (started told)) (no_reason told))
+    batch_ready (call told.before.before.before.before.before.before.before) (batch_passed (call told.before.before.before.before.before.before.before) (no_reason told))
 
-empty_words_requires : tie.Need-empty-words-requires
+empty_words_requires : tie.Need-empty_words-requires
 empty_words_requires c κs = search rules
 
-enum_told_2 : tie.Need-enum-told-2
+enum_told_2 : tie.Need-enum_told-in_default
 enum_told_2 c = search rules
 
-same_length : tie.Need-same-length
+same_length : tie.Need-shape_of-wires-in-Accepted
 same_length c = search rules
 
-same_length_2 : tie.Need-same-length-2
+same_length_2 : tie.Need-shape_of-board-in-Accepted
 same_length_2 c = search rules
 
-returns : tie.Need-returns
+returns : tie.Need-returns-in-Accepted
 unfolding outcome batch_result_after
 returns c =
-    let emptied = c.before.before in
-    let done = emptied.before.before.before.before.before.before in
-    let told = told_by done in
-    let of = call (started told) in
+    let emptied = c in
+    let done = emptied in
+    let told = done.before.before.before.before.before.before.before.before.before.before.before in
+    let of = call told.before.before.before.before.before.before.before in
     let p = batch_passed of (no_reason told) in
     let e = result_by of none (no_reason told) in
     same_result _ _
-    (told.before.before.test-run.ensures ∙ ap (λ (o : Option Reason). outcome o (size_of (gates_of of.table))) (no_reason told)
+    (told.test_run-answer.ensures ∙ ap (λ (o : Option Reason). outcome o (size_of (gates_of of.table))) (no_reason told)
     ∙ sym (ap (λ (r : RunResult). r.answer) e))
-    (emptied.empty-words.ensures ∙ ap (λ (n : ℕ). replicate n 0) done.run.auto.1.1.1.1.0
+    (emptied.empty_words.ensures ∙ ap (λ (n : ℕ). replicate n 0) done.run.auto.wires
     ∙ sym (ap (λ (r : RunResult). r.wires) e))
-    (words_are _ (board_alone of) (λ i. (c.before.before.before.before.slice-known4.given i).fits) done.run.ensures.board_is
-    ∙ ap (λ (n : ℕ). words_of n (board_alone of)) (done.run.auto.1.1.1.1.1.0 ∙ p.board_length)
+    (words_are _ (board_alone of) (λ i. (c.slice_known-in-Accepted-2-1.given i).fits) done.run.ensures.board_is
+    ∙ ap (λ (n : ℕ). words_of n (board_alone of)) (done.run.auto.board ∙ p.board_length)
     ∙ sym (ap (λ (r : RunResult). r.board) e))
 
-same_length_3 : tie.Need-same-length-3
+same_length_3 : tie.Need-shape_of-wires-in_default
 same_length_3 c = search rules
 
-same_length_4 : tie.Need-same-length-4
+same_length_4 : tie.Need-shape_of-board-in_default
 same_length_4 c = search rules
 
-returns_2 : tie.Need-returns-2
+returns_2 : tie.Need-returns-in_default
 unfolding outcome_of batch_result_after
 returns_2 c =
-    let lending = c.before.before.before in
-    let of = call lending.before.before.before.before.before.before.before in
-    let r = reason_of c.enum-told2.given.0.0 in
-    let told = ap outcome_of c.enum-told2.given.1 in
+    let lending = c.before.before.before.before.before.before.before in
+    let of = call lending in
+    let r = reason_of c.in_default.field-0 in
+    let told = ap outcome_of c.in_default.is in
     let e = result_by of (some r)
-    (outcome_refused (first_of (batch_reasons of)) (size_of (gates_of of.table)) r (sym c.before.before.test-run.ensures ∙ told)) in
+    (outcome_refused (first_of (batch_reasons of)) (size_of (gates_of of.table)) r (sym c.test_run-answer.ensures ∙ told)) in
     same_result _ _ (told ∙ sym (ap (λ (q : RunResult). q.answer) e)) (sym (ap (λ (q : RunResult). q.wires) e))
     (sym (ap (λ (q : RunResult). q.board) e))
 

@@ -31,16 +31,6 @@ call s =
       board = a.board.now;
     }
 
--- The stages: the list passes its test; the ballots pass theirs; the buffers are tested.
-abbrev started : tie.After-known-told → tie.Start
-started c = let lending = c.before.before.before.before in lending.before.before.before.before.before
-
-abbrev list_passed : tie.After-enum-told2 → tie.After-known-told
-list_passed c = c.before.before.before
-
-abbrev ballots_passed : tie.After-test-buffers → tie.After-enum-told2
-ballots_passed c = c.before.before
-
 -- the first reason decides the answer
 refuses : (s : tie.Start) (r : Reason) → first_of (batch_reasons (call s)) ≡ some r
     → refused r ≡ outcome (first_of (batch_reasons (call s))) (size_of (gates_of (call s).table))
@@ -48,99 +38,99 @@ unfolding outcome
 refuses s r e = sym (ap (λ (o : Option Reason). outcome o (size_of (gates_of (call s).table))) e)
 
 -- the size that the test of the list answered
-size : tie.After-known-told → Size
-size c = let g = c.before.answer.given in record { gates = g.0.0; conditional = g.0.1.0 }
+size : tie.In-Accepted → Size
+size c = record { gates = c.in-Accepted.gates; conditional = c.in-Accepted.conditional }
 
-passed : (c : tie.After-known-told) → TestPassed (call (started c)).shape (call (started c)).table (size c)
+passed : (c : tie.In-Accepted) → TestPassed (call c.before.before.before.before.before.before.before).shape (call c.before.before.before.before.before.before.before).table (size c)
 unfolding outcome_of size
 passed c =
-    let of = call (started c) in
+    let of = call c.before.before.before.before.before.before.before in
     test_passed of.shape of.table (size c)
-    (sym c.before.before.before.test.ensures ∙ ap outcome_of c.before.answer.given.1)
+    (sym c.test-answer.ensures ∙ ap outcome_of c.in-Accepted.is)
 
 -- no reason of the ballots applies
-no_reason : (c : tie.After-enum-told2)
-    → let of = call (started (list_passed c)) in first_of (word_ballot_reasons of.shape of.ballots) ≡ none
+no_reason : (c : tie.In_default-test)
+    → let of = call c.before.before.before.before.before.before.before.before.before in first_of (word_ballot_reasons of.shape of.ballots) ≡ none
 unfolding refused_for
-no_reason c = sym c.before.before.test2.ensures ∙ ap refused_for c.enum-told2.given.1
+no_reason c = sym c.test.ensures ∙ ap refused_for c.in_default-test.is
 
-test_requires : tie.Need-test-requires
+test_requires : tie.Need-test-answer-requires
 test_requires c κs = search rules
 
-enum_known_answer : tie.Need-enum-known-answer
+enum_known_answer : tie.Need-enum_known-answer
 enum_known_answer c = search rules
 
-enum_told : tie.Need-enum-told
+enum_told : tie.Need-enum_told-1
 enum_told c = search rules
 
-returns : tie.Need-returns
+returns : tie.Need-returns-in_default
 unfolding outcome_of
 returns c =
-    let start = c.before.before.before.before.before.before.before.before in
-    let r = reason_of c.enum_told.given.0.0 in
-    let e = ap outcome_of c.enum_told.given.1 in
-    e ∙ refuses start r (by_test (call start) r (sym c.before.before.test.ensures ∙ e))
+    let start = c.before.before.before.before.before.before.before in
+    let r = reason_of c.in_default.field-0 in
+    let e = ap outcome_of c.in_default.is in
+    e ∙ refuses start r (by_test (call start) r (sym c.test-answer.ensures ∙ e))
 
-test_requires_2 : tie.Need-test-requires-2
-test_requires_2 c κs = true_T (within_limits (call (started c)).shape) (passed c).within
+test_requires_2 : tie.Need-test-requires
+test_requires_2 c κs = true_T (within_limits (call c.before.before.before.before.before.before.before).shape) (passed c).within
 
-enum_known_reason : tie.Need-enum-known-reason
+enum_known_reason : tie.Need-enum_known-reason
 enum_known_reason c = search rules
 
-returns_2 : tie.Need-returns-2
+returns_2 : tie.Need-returns-in-Refused
 unfolding outcome_of refused_for
 returns_2 c =
-    let told = c.before.before.before.before in
-    let r = reason_of c.before.reason.given.0.0 in
-    refuses (started told) r
-    (by_ballots (call (started told)) (passed told).reasons r
-    (sym c.before.before.before.test2.ensures ∙ ap refused_for c.before.reason.given.1))
+    let told = c.before.before in
+    let r = reason_of c.in-Refused.reason in
+    refuses told.before.before.before.before.before.before.before r
+    (by_ballots (call told.before.before.before.before.before.before.before) (passed told).reasons r
+    (sym c.test.ensures ∙ ap refused_for c.in-Refused.is))
 
-enum_told_2 : tie.Need-enum-told-2
+enum_told_2 : tie.Need-enum_told-in_default-test
 enum_told_2 c = search rules
 
-ballot_bytes_requires : tie.Need-ballot-bytes-requires
+ballot_bytes_requires : tie.Need-ballot_bytes-inputs-requires
 ballot_bytes_requires c κs =
-    let told = list_passed c in
-    true_T (within_limits (call (started told)).shape) (passed told).within
+    let told = c.before.before in
+    true_T (within_limits (call told.before.before.before.before.before.before.before).shape) (passed told).within
 
-test_buffers_requires : tie.Need-test-buffers-requires
+test_buffers_requires : tie.Need-test_buffers-requires
 test_buffers_requires c κs = search rules
 
-enum_known_reason_2 : tie.Need-enum-known-reason-2
+enum_known_reason_2 : tie.Need-enum_known-reason-in-Refused-test_buffers
 enum_known_reason_2 c = search rules
 
-enum_told_3 : tie.Need-enum-told-3
+enum_told_3 : tie.Need-enum_told-in-Accepted-test_buffers
 enum_told_3 c = search rules
 
 -- if the tests before have passed, the tests 7, 9 and 10 decide
-lent_answer : (c : tie.After-test-buffers)
-    → first_of (batch_reasons (call (started (list_passed (ballots_passed c))))) ≡ refused_for c.test-buffers.result
+lent_answer : (c : tie.After-test_buffers)
+    → first_of (batch_reasons (call c.before.before.before.before.before.before.before.before.before.before.before)) ≡ refused_for c.test_buffers.result
 unfolding size
 lent_answer c =
-    let passes = ballots_passed c in
-    let told = list_passed passes in
-    let of = call (started told) in
-    by_lent of (passed told).reasons (size told) (refused_for c.test-buffers.result) (passed told).size (no_reason passes)
-    (sym (c.test-buffers.ensures
+    let passes = c in
+    let told = passes.before.before.before.before in
+    let of = call told.before.before.before.before.before.before.before in
+    by_lent of (passed told).reasons (size told) (refused_for c.test_buffers.result) (passed told).size (no_reason passes.before.before)
+    (sym (c.test_buffers.ensures
     ∙ ap (λ (i : ℕ). first_of (word_buffer_reasons i of.shape.candidates (size told) of.tape of.wires of.board))
-    c.before.ballot-bytes.ensures))
+    c.ballot_bytes-inputs.ensures))
 
-returns_3 : tie.Need-returns-3
+returns_3 : tie.Need-returns-in-Refused-test_buffers
 unfolding outcome_of refused_for
 returns_3 c =
-    let lent = c.before.before.before in
-    let r = reason_of c.before.reason2.given.0.0 in
-    refuses (started (list_passed (ballots_passed lent))) r (lent_answer lent ∙ ap refused_for c.before.reason2.given.1)
+    let lent = c in
+    let r = reason_of c.in-Refused-test_buffers.reason in
+    refuses lent.before.before.before.before.before.before.before.before.before.before.before.before r (lent_answer lent.before ∙ ap refused_for c.in-Refused-test_buffers.is)
 
-returns_4 : tie.Need-returns-4
+returns_4 : tie.Need-returns-in-Accepted-test_buffers
 unfolding test_outcome refused_for
 returns_4 c =
-    let lent = c.before.before in
-    let told = list_passed (ballots_passed lent) in
-    let none_applies = lent_answer lent ∙ ap refused_for c.enum-told3.given.1 in
-    sym (ap outcome_of told.before.answer.given.1) ∙ told.before.before.before.test.ensures
-    ∙ ap (λ (o : Option Reason). outcome o (size_of (gates_of (call (started told)).table))) ((passed told).reasons ∙ sym none_applies)
+    let lent = c in
+    let told = lent.before.before.before.before.before in
+    let none_applies = lent_answer lent.before ∙ ap refused_for c.in-Accepted-test_buffers.is in
+    sym (ap outcome_of told.in-Accepted.is) ∙ told.test-answer.ensures
+    ∙ ap (λ (o : Option Reason). outcome o (size_of (gates_of (call told.before.before.before.before.before.before.before).table))) ((passed told).reasons ∙ sym none_applies)
 
 pub test_run_spec : {M : Type 1} → statement M
 test_run_spec =
