@@ -6,3 +6,4 @@ pub mod Whole
 pub mod Numbering
 pub mod RoundTrip
 pub mod Examples
+pub mod Order

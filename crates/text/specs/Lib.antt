@@ -4,5 +4,6 @@ pub mod Write
 pub mod Read
 pub mod RoundTrip
 pub mod Demands
+pub mod Order
 pub mod Examples
 pub mod inner
