@@ -91,15 +91,9 @@ loop_again c =
       omega (arith, l.invariant.1, one_before l.left b c.loop-left-test.true),
     )
 
-slice_write_urn_2 : tie.Need-bounds-urn-1 invariant_loop decreases_loop
-slice_write_urn_2 c =
-    let q : 1 < length c.loop-left.urn =
-    omega (arith, c.loop-left.invariant.0.size, size_least c.args.bytes c.args.slots c.requires.least) in
-    q
-
 same_length : tie.Need-shape_of-urn invariant_loop decreases_loop
 same_length c =
-    length-set c.loop-left.urn 1 c.loop-left.first ∙ c.loop-left.invariant.0.size ∙ sym c.requires.size
+    length-set c.loop-left.urn _ c.loop-left.first ∙ c.loop-left.invariant.0.size ∙ sym c.requires.size
 
 returns : tie.Need-returns invariant_loop decreases_loop
 returns c =
@@ -125,6 +119,6 @@ free_all_spec =
     sub_left_2
     loop_less
     loop_again
-    slice_write_urn_2
+    (λ c. omega (arith, c.loop-left.invariant.0.size, size_least c.args.bytes c.args.slots c.requires.least))
     same_length
     returns)

@@ -97,8 +97,7 @@ part_put_slot_start c =
 
 part_put_slot_end : tie.Need-slice_bounds-put_slot-end
 part_put_slot_end c =
-    let q = small c.before.before.before.before in
-    q
+    omega (arith, small c.before.before.before.before)
 
 put_slot_requires : tie.Need-put_slot-requires
 put_slot_requires c κs =
