@@ -11,32 +11,30 @@ use borrow.Author.Rules.{rules}
 use Rattle.c_urn.proofs.urns.jugy_admit.Statement.{statement}
 use Rattle.c_urn.proofs.urns.jugy_admit.Tie as tie
 
-returns : tie.Need-returns
+returns : tie.Need-returns-then-answer-lt-ONE_ANSWER
 returns c =
-    let a = c.before.before.before.before.args in
+    let a = c.args in
     let r = admission a.candidates a.grades a.urn.now a.juror a.ballot.now in
-    short_call 3 a.answer.now c.if1.true (one_numbers r.answer) (a.urn.now ∷ []) (r.urn ∷ [])
+    short_call 3 a.answer.now c.if-answer-lt-ONE_ANSWER.true (one_numbers r.answer) (a.urn.now ∷ []) (r.urn ∷ [])
 
-admit_requires : tie.Need-admit-requires
+admit_requires : tie.Need-admit-outcome-requires
 admit_requires c κs = search rules
 
-put_ballots_requires : tie.Need-put-ballots-requires
+put_ballots_requires : tie.Need-put_ballots-requires
 put_ballots_requires c κs = search rules
 
-same_length : tie.Need-same-length
+same_length : tie.Need-shape_of-urn
 same_length c = search rules
 
-same_length_2 : tie.Need-same-length-2
+same_length_2 : tie.Need-shape_of-answer
 same_length_2 c = search rules
 
-returns_2 : tie.Need-returns-2
+returns_2 : tie.Need-returns
 returns_2 c =
-    let called = c.before.before.before.before.before.before in
-    let long = called.before.before in
-    let a = long.before.before.before.before.args in
+    let a = c.args in
     let r = admission a.candidates a.grades a.urn.now a.juror a.ballot.now in
-    let left = called.admit.ensures in
-    put_call 3 a.answer.now long.if1.false (one_numbers r.answer) _ _ _ c.before.before.put-ballots.ensures
+    let left = c.admit-outcome.ensures in
+    put_call 3 a.answer.now c.if-answer-lt-ONE_ANSWER.false (one_numbers r.answer) _ _ _ c.put_ballots.ensures
     (ap (λ (z : UrnResult). one_numbers z.answer) left) (a.urn.now ∷ []) (r.urn ∷ []) _
     (ap (λ (z : UrnResult). z.urn ∷ []) left)
 

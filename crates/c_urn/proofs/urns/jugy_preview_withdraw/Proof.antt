@@ -12,29 +12,27 @@ use borrow.Author.Rules.{rules}
 use Rattle.c_urn.proofs.urns.jugy_preview_withdraw.Statement.{statement}
 use Rattle.c_urn.proofs.urns.jugy_preview_withdraw.Tie as tie
 
-returns : tie.Need-returns
+returns : tie.Need-returns-then-answer-lt-ONE_ANSWER
 returns c =
-    let a = c.before.before.before.args in
-    short_call 3 a.answer.now c.if1.true (one_numbers (withdraw_outcome a.candidates a.grades a.urn.now a.juror)) [] []
+    let a = c.args in
+    short_call 3 a.answer.now c.if-answer-lt-ONE_ANSWER.true (one_numbers (withdraw_outcome a.candidates a.grades a.urn.now a.juror)) [] []
 
-preview_requires : tie.Need-preview-requires
+preview_requires : tie.Need-preview-outcome-requires
 preview_requires c κs = search rules
 
-put_ballots_requires : tie.Need-put-ballots-requires
+put_ballots_requires : tie.Need-put_ballots-requires
 put_ballots_requires c κs = search rules
 
-same_length : tie.Need-same-length
+same_length : tie.Need-shape_of-answer
 same_length c = search rules
 
-returns_2 : tie.Need-returns-2
+returns_2 : tie.Need-returns
 returns_2 c =
-    let called = c.before.before.before.before in
-    let long = called.before in
-    let a = long.before.before.before.args in
-    put_call 3 a.answer.now long.if1.false
+    let a = c.args in
+    put_call 3 a.answer.now c.if-answer-lt-ONE_ANSWER.false
     (one_numbers (withdraw_outcome a.candidates a.grades a.urn.now a.juror)) _ _ _
-    c.before.before.put-ballots.ensures
-    (ap (λ (z : Outcome ℕ). one_numbers z) called.preview.ensures) [] [] [] refl
+    c.put_ballots.ensures
+    (ap (λ (z : Outcome ℕ). one_numbers z) c.preview-outcome.ensures) [] [] [] refl
 
 pub jugy_preview_withdraw_spec : {M : Type 1} → statement M
 jugy_preview_withdraw_spec =

@@ -11,32 +11,30 @@ use borrow.Author.Rules.{rules}
 use Rattle.c_urn.proofs.urns.jugy_withdraw.Statement.{statement}
 use Rattle.c_urn.proofs.urns.jugy_withdraw.Tie as tie
 
-returns : tie.Need-returns
+returns : tie.Need-returns-then-answer-lt-ONE_ANSWER
 returns c =
-    let a = c.before.before.before.args in
+    let a = c.args in
     let r = withdrawal a.candidates a.grades a.urn.now a.juror in
-    short_call 3 a.answer.now c.if1.true (one_numbers r.answer) (a.urn.now ∷ []) (r.urn ∷ [])
+    short_call 3 a.answer.now c.if-answer-lt-ONE_ANSWER.true (one_numbers r.answer) (a.urn.now ∷ []) (r.urn ∷ [])
 
-withdraw_requires : tie.Need-withdraw-requires
+withdraw_requires : tie.Need-withdraw-outcome-requires
 withdraw_requires c κs = search rules
 
-put_ballots_requires : tie.Need-put-ballots-requires
+put_ballots_requires : tie.Need-put_ballots-requires
 put_ballots_requires c κs = search rules
 
-same_length : tie.Need-same-length
+same_length : tie.Need-shape_of-urn
 same_length c = search rules
 
-same_length_2 : tie.Need-same-length-2
+same_length_2 : tie.Need-shape_of-answer
 same_length_2 c = search rules
 
-returns_2 : tie.Need-returns-2
+returns_2 : tie.Need-returns
 returns_2 c =
-    let called = c.before.before.before.before.before.before in
-    let long = called.before.before in
-    let a = long.before.before.before.args in
+    let a = c.args in
     let r = withdrawal a.candidates a.grades a.urn.now a.juror in
-    let left = called.withdraw.ensures in
-    put_call 3 a.answer.now long.if1.false (one_numbers r.answer) _ _ _ c.before.before.put-ballots.ensures
+    let left = c.withdraw-outcome.ensures in
+    put_call 3 a.answer.now c.if-answer-lt-ONE_ANSWER.false (one_numbers r.answer) _ _ _ c.put_ballots.ensures
     (ap (λ (z : UrnResult). one_numbers z.answer) left) (a.urn.now ∷ []) (r.urn ∷ []) _
     (ap (λ (z : UrnResult). z.urn ∷ []) left)
 
