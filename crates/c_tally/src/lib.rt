@@ -1,5 +1,7 @@
 // The five entry points for programs in C and Rust. A lent slice is a pointer and a length. The answer goes into the
 // lent array `answer`; its first number, the reason, is also returned.
+#![tactic(auto)]
+
 mod answer;
 pub mod count;
 pub mod measure;

@@ -14,60 +14,53 @@ use Rattle.c_answers.proofs.Answering.{short_call, put_call}
 use Rattle.c_tally.proofs.measure.jugy_measure.Statement.{statement}
 use Rattle.c_tally.proofs.measure.jugy_measure.Tie as tie
 
-returns : tie.Need-returns
+returns : tie.Need-returns-then-answer-lt-THREE_ANSWER
 unfolding shape_of
 returns c =
-    let a = c.before.before.args in
-    short_call 5 a.answer.now c.if1.true (measure_numbers (measure_outcome (shape_of a.candidates a.grades a.ballots))) [] []
+    let a = c.args in
+    short_call 5 a.answer.now c.if-answer-lt-THREE_ANSWER.true (measure_numbers (measure_outcome (shape_of a.candidates a.grades a.ballots))) [] []
 
 new_requires : tie.Need-new-requires
 new_requires c κs = search rules
 
-enum_known_shape : tie.Need-enum-known-shape
+enum_known_shape : tie.Need-enum_known-shape
 enum_known_shape c = search rules
 
-enum_told : tie.Need-enum-told
+enum_told : tie.Need-enum_told-1
 enum_told c = search rules
 
-put_measures_requires : tie.Need-put-measures-requires
+put_measures_requires : tie.Need-put_measures-requires
 put_measures_requires c κs = search rules
 
-same_length : tie.Need-same-length
+same_length : tie.Need-shape_of-answer-in_default
 same_length c = search rules
 
-returns_2 : tie.Need-returns-2
+returns_2 : tie.Need-returns-in_default
 unfolding shape_of measured_by reason_of
 returns_2 c =
-    let told = c.before.before.before.before in
-    let made = told.before.before in
-    let long = made.before in
-    let a = long.before.before.args in
+    let a = c.args in
     let s = shape_of a.candidates a.grades a.ballots in
-    let outside = outside_is (within_limits s) s (sym made.new.ensures.result ∙ told.enum_told.given.1) in
-    put_call 5 a.answer.now long.if1.false (measure_numbers (measure_outcome s)) _ _ _ c.before.before.put-measures.ensures
+    let outside = outside_is (within_limits s) s (sym c.new.ensures.result ∙ c.in_default.is) in
+    put_call 5 a.answer.now c.if-answer-lt-THREE_ANSWER.false (measure_numbers (measure_outcome s)) _ _ _ c.put_measures.ensures
     (ap measure_numbers (sym (outside_measure s outside))) [] [] [] refl
 
-measure_requires : tie.Need-measure-requires
+measure_requires : tie.Need-measure-outcome-requires
 measure_requires c κs = search rules
 
-put_measures_requires_2 : tie.Need-put-measures-requires-2
+put_measures_requires_2 : tie.Need-put_measures-requires-2
 put_measures_requires_2 c κs = search rules
 
-same_length_2 : tie.Need-same-length-2
+same_length_2 : tie.Need-shape_of-answer
 same_length_2 c = search rules
 
-returns_3 : tie.Need-returns-3
+returns_3 : tie.Need-returns
 unfolding shape_of
 returns_3 c =
-    let outcome = c.before.before.before.before in
-    let known = outcome.before.before in
-    let made = known.before.before in
-    let long = made.before in
-    let a = long.before.before.args in
+    let a = c.args in
     let s = shape_of a.candidates a.grades a.ballots in
-    let same = shape_is (within_limits s) s known.shape.given.0.0 (sym made.new.ensures.result ∙ known.shape.given.1) in
-    put_call 5 a.answer.now long.if1.false (measure_numbers (measure_outcome s)) _ _ _ c.before.before.put-measures2.ensures
-    (ap measure_numbers (outcome.measure.ensures ∙ ap measure_outcome same)) [] [] [] refl
+    let same = shape_is (within_limits s) s c.in-Within.shape (sym c.new.ensures.result ∙ c.in-Within.is) in
+    put_call 5 a.answer.now c.if-answer-lt-THREE_ANSWER.false (measure_numbers (measure_outcome s)) _ _ _ c.put_measures-2.ensures
+    (ap measure_numbers (c.measure-outcome.ensures ∙ ap measure_outcome same)) [] [] [] refl
 
 pub jugy_measure_spec : {M : Type 1} → statement M
 jugy_measure_spec =

@@ -16,84 +16,67 @@ use Rattle.c_answers.proofs.Answering.{short_call, put_call}
 use Rattle.c_tally.proofs.run.jugy_run.Statement.{statement}
 use Rattle.c_tally.proofs.run.jugy_run.Tie as tie
 
--- The stages of the function, seen from later ones.
-abbrev start_from_else1 : tie.Else1 → tie.Start
-start_from_else1 c = c.before.before.before.before.before.before.before
-
-abbrev start_from_then1 : tie.Then1 → tie.Start
-start_from_then1 c = c.before.before.before.before.before.before.before
-
-abbrev run_from_answer2 : tie.After-answer2 → tie.After-run
-run_from_answer2 c = c.before.before.before.before.before.before.before
-
-returns : tie.Need-returns
+returns : tie.Need-returns-then-answer-lt-SIZE_ANSWER
 unfolding shape_of
 returns c =
-    let a = (start_from_then1 c).args in
+    let a = c.args in
     let r = run_result (shape_of a.candidates a.grades a.ballots) a.table.now a.bytes.now
     a.tape.now a.wires.now a.board.now in
-    short_call 4 a.answer.now c.if1.true (size_numbers r.answer) (a.wires.now ∷ a.board.now ∷ []) (r.wires ∷ r.board ∷ [])
+    short_call 4 a.answer.now c.if-answer-lt-SIZE_ANSWER.true (size_numbers r.answer) (a.wires.now ∷ a.board.now ∷ []) (r.wires ∷ r.board ∷ [])
 
 new_requires : tie.Need-new-requires
 new_requires c κs = search rules
 
-enum_known_shape : tie.Need-enum-known-shape
+enum_known_shape : tie.Need-enum_known-shape
 enum_known_shape c = search rules
 
-enum_told : tie.Need-enum-told
+enum_told : tie.Need-enum_told-1
 enum_told c = search rules
 
-put_size_requires : tie.Need-put-size-requires
+put_size_requires : tie.Need-put_size-requires
 put_size_requires c κs = search rules
 
-same_length : tie.Need-same-length
+same_length : tie.Need-shape_of-answer-in_default
 same_length c = search rules
 
-returns_2 : tie.Need-returns-2
+returns_2 : tie.Need-returns-in_default
 unfolding shape_of outcome_of reason_of
 returns_2 c =
-    let told = c.before.before.before.before in
-    let made = told.before.before in
-    let long = made.before in
-    let a = (start_from_else1 long).args in
+    let a = c.args in
     let s = shape_of a.candidates a.grades a.ballots in
-    let outside = outside_is (within_limits s) s (sym made.new.ensures.result ∙ told.enum_told.given.1) in
+    let outside = outside_is (within_limits s) s (sym c.new.ensures.result ∙ c.in_default.is) in
     let r = run_result s a.table.now a.bytes.now a.tape.now a.wires.now a.board.now in
     let left = outside_run s outside a.table.now a.bytes.now a.tape.now a.wires.now a.board.now in
-    put_call 4 a.answer.now long.if1.false (size_numbers r.answer) _ _ _ c.before.before.put-size.ensures
+    put_call 4 a.answer.now c.if-answer-lt-SIZE_ANSWER.false (size_numbers r.answer) _ _ _ c.put_size.ensures
     (ap (λ (z : RunResult). size_numbers z.answer) (sym left)) (a.wires.now ∷ a.board.now ∷ []) (r.wires ∷ r.board ∷ []) _
     (ap (λ (z : RunResult). z.wires ∷ z.board ∷ []) (sym left))
 
-run_requires : tie.Need-run-requires
+run_requires : tie.Need-run-outcome-requires
 run_requires c κs = search rules
 
-put_size_requires_2 : tie.Need-put-size-requires-2
+put_size_requires_2 : tie.Need-put_size-requires-2
 put_size_requires_2 c κs = search rules
 
-same_length_2 : tie.Need-same-length-2
+same_length_2 : tie.Need-shape_of-wires
 same_length_2 c = search rules
 
-same_length_3 : tie.Need-same-length-3
+same_length_3 : tie.Need-shape_of-board
 same_length_3 c = search rules
 
-same_length_4 : tie.Need-same-length-4
+same_length_4 : tie.Need-shape_of-answer
 same_length_4 c = search rules
 
-returns_3 : tie.Need-returns-3
+returns_3 : tie.Need-returns
 unfolding shape_of
 returns_3 c =
-    let outcome = (run_from_answer2 c.before) in
-    let known = outcome.before.before.before.before in
-    let made = known.before.before in
-    let long = made.before in
-    let a = (start_from_else1 long).args in
+    let a = c.args in
     let s = shape_of a.candidates a.grades a.ballots in
-    let same = shape_is (within_limits s) s known.shape.given.0.0 (sym made.new.ensures.result ∙ known.shape.given.1) in
+    let same = shape_is (within_limits s) s c.in-Within.shape (sym c.new.ensures.result ∙ c.in-Within.is) in
     let r = run_result s a.table.now a.bytes.now a.tape.now a.wires.now a.board.now in
-    let left = outcome.run.ensures
+    let left = c.run-outcome.ensures
     ∙ ap (λ (z : Shape). run_result z a.table.now a.bytes.now a.tape.now a.wires.now
     a.board.now) same in
-    put_call 4 a.answer.now long.if1.left (size_numbers r.answer) _ _ _ c.before.before.put-size2.ensures
+    put_call 4 a.answer.now c.if-answer-lt-SIZE_ANSWER.false (size_numbers r.answer) _ _ _ c.put_size-2.ensures
     (ap (λ (z : RunResult). size_numbers z.answer) left) (a.wires.now ∷ a.board.now ∷ []) (r.wires ∷ r.board ∷ []) _
     (ap (λ (z : RunResult). z.wires ∷ z.board ∷ []) left)
 

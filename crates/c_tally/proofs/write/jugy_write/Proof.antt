@@ -19,13 +19,13 @@ use Rattle.c_answers.proofs.Answering.{short_call, put_call}
 use Rattle.c_tally.proofs.write.jugy_write.Statement.{statement}
 use Rattle.c_tally.proofs.write.jugy_write.Tie as tie
 
-returns : tie.Need-returns
+returns : tie.Need-returns-then-answer-lt-SIZE_ANSWER
 unfolding shape_of
 returns c =
-    let a = c.before.before.before.args in
+    let a = c.args in
     let s = shape_of a.candidates a.grades a.ballots in
     record {
-      leaves = short_call 4 a.answer.now c.if1.true (size_numbers (write_outcome s a.table.now))
+      leaves = short_call 4 a.answer.now c.if-answer-lt-SIZE_ANSWER.true (size_numbers (write_outcome s a.table.now))
           (a.table.now ∷ []) (write_result s a.table.now ∷ []);
       holds = λ t. own_list_holds s (T_true (within_limits s) t);
     }
@@ -33,66 +33,55 @@ returns c =
 new_requires : tie.Need-new-requires
 new_requires c κs = search rules
 
-enum_known_shape : tie.Need-enum-known-shape
+enum_known_shape : tie.Need-enum_known-shape
 enum_known_shape c = search rules
 
-enum_told : tie.Need-enum-told
+enum_told : tie.Need-enum_told-1
 enum_told c = search rules
 
-put_size_requires : tie.Need-put-size-requires
+put_size_requires : tie.Need-put_size-requires
 put_size_requires c κs = search rules
 
-same_length : tie.Need-same-length
+same_length : tie.Need-shape_of-answer-in_default
 same_length c = search rules
 
-returns_2 : tie.Need-returns-2
+returns_2 : tie.Need-returns-in_default
 unfolding shape_of outcome_of reason_of
 returns_2 c =
-    let told = c.before.before.before.before in
-    let made = told.before.before in
-    let long = made.before in
-    let a = long.before.before.before.args in
+    let a = c.args in
     let s = shape_of a.candidates a.grades a.ballots in
-    let outside = outside_is (within_limits s) s (sym made.new.ensures.result ∙ told.enum_told.given.1) in
+    let outside = outside_is (within_limits s) s (sym c.new.ensures.result ∙ c.in_default.is) in
     let refusal = write_refused s a.table.now (reason_at 1 0) (outside_write s a.table.now outside) in
     record {
-      leaves = put_call 4 a.answer.now long.if1.false (size_numbers (write_outcome s a.table.now)) _ _ _
-          c.before.before.put-size.ensures
+      leaves = put_call 4 a.answer.now c.if-answer-lt-SIZE_ANSWER.false (size_numbers (write_outcome s a.table.now)) _ _ _
+          c.put_size.ensures
           (ap size_numbers (sym refusal.0)) (a.table.now ∷ []) (write_result s a.table.now ∷ []) _
           (ap (λ (z : List ℕ). z ∷ []) (sym refusal.1));
       holds = λ t. own_list_holds s (T_true (within_limits s) t);
     }
 
-write_requires : tie.Need-write-requires
+write_requires : tie.Need-write-outcome-requires
 write_requires c κs = search rules
 
-put_size_requires_2 : tie.Need-put-size-requires-2
+put_size_requires_2 : tie.Need-put_size-requires-2
 put_size_requires_2 c κs = search rules
 
-same_length_2 : tie.Need-same-length-2
+same_length_2 : tie.Need-shape_of-table
 same_length_2 c = search rules
 
-same_length_3 : tie.Need-same-length-3
+same_length_3 : tie.Need-shape_of-answer
 same_length_3 c = search rules
 
--- The stages of the function, seen from later ones.
-abbrev write_from_answer2 : tie.After-answer2 → tie.After-write
-write_from_answer2 c = c.before.before.before.before.before
-
-returns_3 : tie.Need-returns-3
+returns_3 : tie.Need-returns
 unfolding shape_of
 returns_3 c =
-    let outcome = (write_from_answer2 c.before) in
-    let known = outcome.before.before.before in
-    let made = known.before.before in
-    let long = made.before in
-    let a = long.before.before.before.args in
+    let a = c.args in
     let s = shape_of a.candidates a.grades a.ballots in
-    let same = shape_is (within_limits s) s known.shape.given.0.0 (sym made.new.ensures.result ∙ known.shape.given.1) in
-    let wrote = outcome.write.ensures in
+    let same = shape_is (within_limits s) s c.in-Within.shape (sym c.new.ensures.result ∙ c.in-Within.is) in
+    let wrote = c.write-outcome.ensures in
     record {
-      leaves = put_call 4 a.answer.now long.if1.left (size_numbers (write_outcome s a.table.now)) _ _ _
-          c.before.before.put-size2.ensures
+      leaves = put_call 4 a.answer.now c.if-answer-lt-SIZE_ANSWER.false (size_numbers (write_outcome s a.table.now)) _ _ _
+          c.put_size-2.ensures
           (ap size_numbers (wrote.answers ∙ ap (λ (z : Shape). write_outcome z a.table.now) same))
           (a.table.now ∷ []) (write_result s a.table.now ∷ []) _
           (ap (λ (z : List ℕ). z ∷ []) (wrote.leaves ∙ ap (λ (z : Shape). write_result z a.table.now) same));
