@@ -5,7 +5,7 @@ ghost use Rattle.levels.specs.Answer.{level_reason_of};
 use jury::reason::Refusal;
 
 // Why such a call is refused. The numbers 200 to 202 are our own; those of the requests end at 24.
-#[derive(Drop)]
+#[derive(Clone, Copy)]
 pub enum LevelRefusal {
     OfCore(Refusal),
     Levels,

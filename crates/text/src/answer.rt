@@ -5,7 +5,7 @@ ghost use Rattle.text.specs.Answer.{text_reason_of};
 use jury::reason::Refusal;
 
 // Why a text, or a list to be written as text, is refused. The number in `Line` is the line, counted from 0.
-#[derive(Drop)]
+#[derive(Clone, Copy)]
 pub enum TextRefusal {
     OfList(Refusal),
     Line(usize),
