@@ -112,12 +112,13 @@ put_slot_requires c κs =
 
 cast_urn : tie.Need-overflow_cast-urn
 cast_urn c =
+    let s = c.before.before.before.before.before.before.before.before in
     let a = c.args in
     omega (
       arith,
-      slot_below a.k a.d a.urn.now (limits c.before.before.before.before.before.before.before.before) c.requires.is_sound (holder c.before.before.before.before.before.before.before.before) a.before
-          a.slot (told c.before.before.before.before.before.before.before.before),
-      (its_table a.k a.d a.urn.now (limits c.before.before.before.before.before.before.before.before) c.requires.is_sound).most,
+      slot_below a.k a.d a.urn.now (limits s) c.requires.is_sound (holder s) a.before
+          a.slot (told s),
+      (its_table a.k a.d a.urn.now (limits s) c.requires.is_sound).most,
     )
 
 slice_write_urn_2 : tie.Need-bounds-urn-1-2
@@ -144,11 +145,12 @@ same_length c =
 returns : tie.Need-returns
 unfolding holder
 returns c =
+    let s = c.before.before.before.before.before.before.before.before in
     let a = c.args in
-    withdraw_bytes a.k a.d a.urn.now (limits c.before.before.before.before.before.before.before.before) c.requires.is_sound (holder c.before.before.before.before.before.before.before.before) a.before a.slot
-    (told c.before.before.before.before.before.before.before.before) (take (a.k * a.d - 0) (replicate (most_candidates * most_grades) 0)) c.put_slot.new.urn
+    withdraw_bytes a.k a.d a.urn.now (limits s) c.requires.is_sound (holder s) a.before a.slot
+    (told s) (take (a.k * a.d - 0) (replicate (most_candidates * most_grades) 0)) c.put_slot.new.urn
     (ap (λ (m : ℕ). take {A = ℕ} m (replicate (most_candidates * most_grades) 0)) (sub-zero (a.k * a.d))
-    ∙ take_zeros (a.k * a.d) (most_candidates * most_grades) (small c.before.before.before.before.before.before.before.before))
+    ∙ take_zeros (a.k * a.d) (most_candidates * most_grades) (small s))
     c.put_slot.ensures
 
 pub take_ballot_spec : {M : Type 1} → statement M

@@ -94,10 +94,11 @@ unfolding outcome run_result_after
 returns c =
     let done = c.finish in
     let l = c.load in
+    let told = c.before.before.before.before.before.before.before.before.before.before.before.before.before.before.before.before in
     let a = c.args in
-    let p = passed c.before.before.before.before.before.before.before.before.before.before.before.before.before.before.before.before in
+    let p = passed told in
     let gs = gates_of a.table.now in
-    let e = ran_on_urn_by a.shape a.table.now a.urn.now a.tape.now a.wires.now a.board.now none (no_reason_lem c.before.before.before.before.before.before.before.before.before.before.before.before.before.before.before.before) in
+    let e = ran_on_urn_by a.shape a.table.now a.urn.now a.tape.now a.wires.now a.board.now none (no_reason_lem told) in
     let same = done.auto.wires
     ∙ loaded_length a.shape a.table.now a.urn.now a.tape.now a.wires.now a.board.now p
     l.new.wires l.ensures in
@@ -105,7 +106,7 @@ returns c =
     ∙ loaded_front a.shape a.table.now a.urn.now a.tape.now a.wires.now a.board.now p
     l.new.wires l.ensures in
     whole
-    (c.test_run-answer.ensures ∙ ap (λ (o : Option Reason). outcome o (size_of gs)) (no_reason_lem c.before.before.before.before.before.before.before.before.before.before.before.before.before.before.before.before)
+    (c.test_run-answer.ensures ∙ ap (λ (o : Option Reason). outcome o (size_of gs)) (no_reason_lem told)
     ∙ sym (ap (λ (r : RunResult). r.answer) e))
     (c.empty.ensures ∙ ap (λ (n : ℕ). replicate n 0) same ∙ sym (ap (λ (r : RunResult). r.wires) e))
     (done.ensures.board ∙ ap (λ (xs : List ℕ). board_of (wires_of xs gs) gs a.shape.candidates a.tape.now)
