@@ -1,5 +1,5 @@
 // The test of a gate list, the own one or a stranger's.
-ghost use Rattle.std.specs.Prelude.{◌≡◌, ◌&&◌, ℕ, ◌+◌, ◌≤◌, ◌<◌, ltb, eqb, length, take};
+ghost use Rattle.std.specs.Prelude.{◌≡◌, ◌&&◌, ℕ, ◌+◌, ◌<◌, ltb, eqb, length};
 ghost use Rattle.gates.specs.Gate.{gates_of};
 ghost use Rattle.gates.specs.Board.{conditional_count};
 ghost use Rattle.gates.specs.Limits.{operand_limit, table_gate_limit};
@@ -116,21 +116,6 @@ fn test_gates(inputs: usize, table: &[u32]) -> ListCheck
         g += 1;
     }
     ListCheck::Accepted { gates, conditional }
-}
-
-// How many of a table's first gates are conditional.
-pub fn conditional_before(table: &[u32], gates: usize) -> usize
-    requires { gates ≤ length (gates_of table.now) }
-    ensures { result ≡ conditional_count (take gates (gates_of table.now)) }
-{
-    let marks = kind::CONDITIONAL;
-    let mut conditional: usize = 0;
-    let mut g: usize = 0;
-    while g < gates {
-        conditional += kind::mark(&marks, table[4 * g]);
-        g += 1;
-    }
-    conditional
 }
 
 // Tests a list for a given number of inputs and of outputs.

@@ -1,7 +1,7 @@
 -- `jury::ballots::test_orders` meets its contract: of strict weak orders the searches find nothing, and otherwise they
 -- decide.
 -- Assumes nothing.
-use mathlib.Core.Path.{◌≡◌, ◌∙◌, sym, ap}
+use mathlib.Core.Path.{◌∙◌, sym, ap}
 use mathlib.Core.Option.{Option}
 use mathlib.Core.List.{[], ◌∷◌}
 use borrow.Author.Rules.{rules}
