@@ -40,80 +40,73 @@ call_for s start =
 abbrev call : tie.Start → Call
 call start = call_for (shape_of start.args.candidates start.args.grades start.args.ballots) start
 
--- The stages: the answer array is too short; it is long enough.
-abbrev started_short : tie.Then1 → tie.Start
-started_short c = c.before.before.before.before.before.before.before.before
-
-abbrev started : tie.Else1 → tie.Start
-started c = c.before.before.before.before.before.before.before.before
-
-returns : tie.Need-returns
+returns : tie.Need-returns-then-answer-lt-TALLY_ANSWER
 unfolding shape_of
 returns c =
-    let of = call (started_short c) in
+    let of = call c.before.before.before.before.before.before.before.before in
     let r = trustees_result of in
-    short_call tally_answer (started_short c).args.answer.now c.if1.true (tally_numbers r.answer r.closing)
+    short_call tally_answer c.args.answer.now c.if-answer-lt-TALLY_ANSWER.true (tally_numbers r.answer r.closing)
     (of.lent.wire_parts ∷ of.lent.published ∷ []) (r.wire_parts ∷ r.published ∷ [])
 
 new_requires : tie.Need-new-requires
 new_requires c κs = search rules
 
-enum_known_shape : tie.Need-enum-known-shape
+enum_known_shape : tie.Need-enum_known-shape
 enum_known_shape c = search rules
 
-enum_told : tie.Need-enum-told
+enum_told : tie.Need-enum_told-1
 enum_told c = search rules
 
-put_tally_requires : tie.Need-put-tally-requires
+put_tally_requires : tie.Need-put_tally-requires
 put_tally_requires c κs = search rules
 
-same_length : tie.Need-same-length
+same_length : tie.Need-shape_of-answer-in_default
 same_length c = search rules
 
-returns_2 : tie.Need-returns-2
+returns_2 : tie.Need-returns-in_default
 unfolding shape_of outcome_of reason_of eight_bytes trustees_result_after
 returns_2 c =
-    let told = c.before.before.before.before in
-    let made = told.before.before in
-    let long = made.before in
-    let of = call (started long) in
-    let outside = outside_is (within_limits of.shape) of.shape (sym made.new.ensures.result ∙ told.enum_told.given.1) in
+    let told = c in
+    let made = told in
+    let long = made in
+    let of = call long.before.before.before.before.before.before.before.before.before.before.before.before.before.before in
+    let outside = outside_is (within_limits of.shape) of.shape (sym made.new.ensures.result ∙ told.in_default.is) in
     let r = trustees_result of in
     let left = result_by of (some (reason_at 1 0)) (by_test of (reason_at 1 0) (outside_list of.shape of.table outside)) in
-    put_call tally_answer (started long).args.answer.now long.if1.false (tally_numbers r.answer r.closing) _ _ _
-    c.before.before.put-tally.ensures (ap (λ (z : TrusteesResult). tally_numbers z.answer z.closing) (sym left))
+    put_call tally_answer long.args.answer.now long.if-answer-lt-TALLY_ANSWER.false (tally_numbers r.answer r.closing) _ _ _
+    c.put_tally.ensures (ap (λ (z : TrusteesResult). tally_numbers z.answer z.closing) (sym left))
     (of.lent.wire_parts ∷ of.lent.published ∷ []) (r.wire_parts ∷ r.published ∷ []) _
     (ap (λ (z : TrusteesResult). z.wire_parts ∷ z.published ∷ []) (sym left))
 
-run_requires : tie.Need-run-requires
+run_requires : tie.Need-run-outcome-requires
 run_requires c κs = search rules
 
-put_tally_requires_2 : tie.Need-put-tally-requires-2
+put_tally_requires_2 : tie.Need-put_tally-requires-2
 put_tally_requires_2 c κs = search rules
 
-same_length_2 : tie.Need-same-length-2
+same_length_2 : tie.Need-shape_of-wires
 same_length_2 c = search rules
 
-same_length_3 : tie.Need-same-length-3
+same_length_3 : tie.Need-shape_of-published
 same_length_3 c = search rules
 
-same_length_4 : tie.Need-same-length-4
+same_length_4 : tie.Need-shape_of-answer
 same_length_4 c = search rules
 
-returns_3 : tie.Need-returns-3
+returns_3 : tie.Need-returns
 unfolding shape_of
 returns_3 c =
-    let outcome = c.before.before.before.before.before.before.before.before in
-    let known = outcome.before.before.before.before in
-    let made = known.before.before in
-    let long = made.before in
-    let of = call (started long) in
-    let same = shape_is (within_limits of.shape) of.shape known.shape.given.0.0
-    (sym made.new.ensures.result ∙ known.shape.given.1) in
+    let outcome = c in
+    let known = outcome in
+    let made = known in
+    let long = made in
+    let of = call long.before.before.before.before.before.before.before.before.before.before.before.before.before.before.before.before.before.before.before.before.before in
+    let same = shape_is (within_limits of.shape) of.shape known.in-Within.shape
+    (sym made.new.ensures.result ∙ known.in-Within.is) in
     let r = trustees_result of in
-    let left = outcome.run.ensures ∙ ap (λ (z : Shape). trustees_result (call_for z (started long))) same in
-    put_call tally_answer (started long).args.answer.now long.if1.false (tally_numbers r.answer r.closing) _ _ _
-    c.before.before.put-tally2.ensures (ap (λ (z : TrusteesResult). tally_numbers z.answer z.closing) left)
+    let left = outcome.run-outcome.ensures ∙ ap (λ (z : Shape). trustees_result (call_for z long.before.before.before.before.before.before.before.before.before.before.before.before.before.before.before.before.before.before.before.before.before)) same in
+    put_call tally_answer long.args.answer.now long.if-answer-lt-TALLY_ANSWER.false (tally_numbers r.answer r.closing) _ _ _
+    c.put_tally-2.ensures (ap (λ (z : TrusteesResult). tally_numbers z.answer z.closing) left)
     (of.lent.wire_parts ∷ of.lent.published ∷ []) (r.wire_parts ∷ r.published ∷ []) _
     (ap (λ (z : TrusteesResult). z.wire_parts ∷ z.published ∷ []) left)
 

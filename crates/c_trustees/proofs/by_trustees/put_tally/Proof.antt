@@ -15,22 +15,22 @@ use Rattle.c_trustees.specs.Numbers.{tally_numbers}
 use Rattle.c_trustees.proofs.by_trustees.put_tally.Statement.{statement}
 use Rattle.c_trustees.proofs.by_trustees.put_tally.Tie as tie
 
-enum_known_size : tie.Need-enum-known-size
+enum_known_size : tie.Need-enum_known-size
 enum_known_size c = search rules
 
-told_requires : tie.Need-told-requires
+told_requires : tie.Need-told-values-requires
 told_requires c κs = search rules
 
-slice_aggregate_put_answer : tie.Need-slice-aggregate-put-answer
+slice_aggregate_put_answer : tie.Need-slice_bounds-put_answer-end
 slice_aggregate_put_answer c = search rules
 
-put_answer_requires : tie.Need-put-answer-requires
+put_answer_requires : tie.Need-put_answer-requires
 put_answer_requires c κs = search rules
 
-enum_known_size_2 : tie.Need-enum-known-size-2
+enum_known_size_2 : tie.Need-enum_known-size-in-Refused-1
 enum_known_size_2 c = search rules
 
-told_requires_2 : tie.Need-told-requires-2
+told_requires_2 : tie.Need-told-values-requires-in-Refused
 told_requires_2 c κs = search rules
 
 number_requires : tie.Need-number-requires
@@ -39,46 +39,46 @@ number_requires c κs = search rules
 place_requires : tie.Need-place-requires
 place_requires c κs = search rules
 
-slice_aggregate_put_answer_2 : tie.Need-slice-aggregate-put-answer-2
+slice_aggregate_put_answer_2 : tie.Need-slice_bounds-put_answer-end-in-Refused
 slice_aggregate_put_answer_2 c = search rules
 
-put_answer_requires_2 : tie.Need-put-answer-requires-2
+put_answer_requires_2 : tie.Need-put_answer-requires-in-Refused
 put_answer_requires_2 c κs = search rules
 
-same_length : tie.Need-same-length
+same_length : tie.Need-shape_of-answer-in-Accepted
 same_length c = search rules
 
-returns : tie.Need-returns
+returns : tie.Need-returns-in-Accepted
 unfolding answer_numbers size_told outcome_of
 returns c =
-    let put = c.before.before in
-    let told = put.before.before.before in
-    let size = told.before.before in
-    let a = size.before.before.before.before.args in
-    let e = ap (λ (s : Answer). tally_numbers (outcome_of s) a.outcome.closing) size.size.given.1 in
-    let long : 2 + length told.told.result ≡ tally_answer = omega arith in
-    puts_same (ap (λ (l : List ℕ). 0 ∷ 0 ∷ l) told.told.ensures ∙ sym e) (puts_long long put.put-answer.ensures)
+    let put = c in
+    let told = put in
+    let size = told in
+    let a = size.args in
+    let e = ap (λ (s : Answer). tally_numbers (outcome_of s) a.outcome.closing) size.in-Accepted.is in
+    let long : 2 + length told.told-values.result ≡ tally_answer = omega arith in
+    puts_same (ap (λ (l : List ℕ). 0 ∷ 0 ∷ l) told.told-values.ensures ∙ sym e) (puts_long long put.put_answer.ensures)
 
-same_length_2 : tie.Need-same-length-2
+same_length_2 : tie.Need-shape_of-answer-in-Refused
 same_length_2 c = search rules
 
-returns_2 : tie.Need-returns-2
+returns_2 : tie.Need-returns-in-Refused
 unfolding answer_numbers size_told outcome_of
 returns_2 c =
-    let put = c.before.before in
-    let place = put.before.before.before in
-    let number = place.before in
-    let told = number.before in
-    let size = told.before.before in
-    let a = size.before.before.before.before.args in
-    let why = reason_of size.size2.given.0.0 in
-    let e = ap (λ (s : Answer). tally_numbers (outcome_of s) a.outcome.closing) size.size2.given.1 in
-    let long : 2 + length told.told2.result ≡ tally_answer = omega arith in
+    let put = c in
+    let place = put in
+    let number = place in
+    let told = number in
+    let size = told in
+    let a = size.args in
+    let why = reason_of size.in-Refused.reason in
+    let e = ap (λ (s : Answer). tally_numbers (outcome_of s) a.outcome.closing) size.in-Refused.is in
+    let long : 2 + length told.told-values-in-Refused.result ≡ tally_answer = omega arith in
     puts_same
-    (two number.number.result place.place.result why.number why.place told.told2.result
+    (two number.number.result place.place.result why.number why.place told.told-values-in-Refused.result
     number.number.ensures place.place.ensures
-    ∙ ap (λ (l : List ℕ). why.number ∷ why.place ∷ l) told.told2.ensures ∙ sym e)
-    (puts_long long put.put-answer2.ensures)
+    ∙ ap (λ (l : List ℕ). why.number ∷ why.place ∷ l) told.told-values-in-Refused.ensures ∙ sym e)
+    (puts_long long put.put_answer-in-Refused.ensures)
 
 pub put_tally_spec : {M : Type 1} → statement M
 put_tally_spec =

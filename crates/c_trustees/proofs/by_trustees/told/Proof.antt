@@ -9,37 +9,37 @@ use Rattle.c_answers.proofs.Copying.{eight}
 use Rattle.c_trustees.proofs.by_trustees.told.Statement.{statement}
 use Rattle.c_trustees.proofs.by_trustees.told.Tie as tie
 
-numbers_requires : tie.Need-numbers-requires
+numbers_requires : tie.Need-numbers-bytes-requires
 numbers_requires c κs = search rules
 
-array_read_t8 : tie.Need-array-read-t8
+array_read_t8 : tie.Need-bounds-bytes-0
 array_read_t8 c = search rules
 
-array_read_t11 : tie.Need-array-read-t11
+array_read_t11 : tie.Need-bounds-bytes-1
 array_read_t11 c = search rules
 
-array_read_t14 : tie.Need-array-read-t14
+array_read_t14 : tie.Need-bounds-bytes-2
 array_read_t14 c = search rules
 
-array_read_t17 : tie.Need-array-read-t17
+array_read_t17 : tie.Need-bounds-bytes-3
 array_read_t17 c = search rules
 
-array_read_t20 : tie.Need-array-read-t20
+array_read_t20 : tie.Need-bounds-bytes-4
 array_read_t20 c = search rules
 
-array_read_t23 : tie.Need-array-read-t23
+array_read_t23 : tie.Need-bounds-bytes-5
 array_read_t23 c = search rules
 
-array_read_t26 : tie.Need-array-read-t26
+array_read_t26 : tie.Need-bounds-bytes-6
 array_read_t26 c = search rules
 
-array_read_t29 : tie.Need-array-read-t29
+array_read_t29 : tie.Need-bounds-bytes-7
 array_read_t29 c = search rules
 
 returns : tie.Need-returns
 returns c =
-    let a = c.before.args in
-    ap (λ (l : List ℕ). a.gates ∷ a.conditional ∷ l) (eight c.numbers.result (omega arith) ∙ c.numbers.ensures)
+    let a = c.args in
+    ap (λ (l : List ℕ). a.gates ∷ a.conditional ∷ l) (eight c.numbers-bytes.result (omega arith) ∙ c.numbers-bytes.ensures)
 
 pub told_spec : {M : Type 1} → statement M
 told_spec =

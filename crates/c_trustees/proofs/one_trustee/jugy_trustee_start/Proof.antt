@@ -26,80 +26,73 @@ left_for s start =
 abbrev left_by : tie.Start → OwnResult Size
 left_by start = left_for (shape_of start.args.candidates start.args.grades start.args.ballots) start
 
--- The stages: the answer array is too short; it is long enough.
-abbrev started_short : tie.Then1 → tie.Start
-started_short c = c.before.before.before.before.before.before.before
-
-abbrev started : tie.Else1 → tie.Start
-started c = c.before.before.before.before.before.before.before
-
-returns : tie.Need-returns
+returns : tie.Need-returns-then-answer-lt-SIZE_ANSWER
 unfolding shape_of
 returns c =
-    let a = (started_short c).args in
-    let r = left_by (started_short c) in
-    short_call size_answer a.answer.now c.if1.true (size_numbers r.answer)
+    let a = c.args in
+    let r = left_by c.before.before.before.before.before.before.before in
+    short_call size_answer a.answer.now c.if-answer-lt-SIZE_ANSWER.true (size_numbers r.answer)
     (a.wires.now ∷ a.published.now ∷ []) (r.wires ∷ r.published ∷ [])
 
 new_requires : tie.Need-new-requires
 new_requires c κs = search rules
 
-enum_known_shape : tie.Need-enum-known-shape
+enum_known_shape : tie.Need-enum_known-shape
 enum_known_shape c = search rules
 
-enum_told : tie.Need-enum-told
+enum_told : tie.Need-enum_told-1
 enum_told c = search rules
 
-put_size_requires : tie.Need-put-size-requires
+put_size_requires : tie.Need-put_size-requires
 put_size_requires c κs = search rules
 
-same_length : tie.Need-same-length
+same_length : tie.Need-shape_of-answer-in_default
 same_length c = search rules
 
-returns_2 : tie.Need-returns-2
+returns_2 : tie.Need-returns-in_default
 unfolding shape_of outcome_of reason_of
 returns_2 c =
-    let told = c.before.before.before.before in
-    let made = told.before.before in
-    let long = made.before in
-    let a = (started long).args in
+    let told = c in
+    let made = told in
+    let long = made in
+    let a = long.args in
     let s = shape_of a.candidates a.grades a.ballots in
-    let outside = outside_is (within_limits s) s (sym made.new.ensures.result ∙ told.enum_told.given.1) in
-    let r = left_by (started long) in
+    let outside = outside_is (within_limits s) s (sym made.new.ensures.result ∙ told.in_default.is) in
+    let r = left_by long.before.before.before.before.before.before.before.before.before.before.before.before.before in
     let left = outside_start s outside a.table.now a.trustees a.trustee a.shares.now a.triples.now
     a.wires.now a.published.now in
-    put_call size_answer a.answer.now long.if1.false (size_numbers r.answer) _ _ _ c.before.before.put-size.ensures
+    put_call size_answer a.answer.now long.if-answer-lt-SIZE_ANSWER.false (size_numbers r.answer) _ _ _ c.put_size.ensures
     (ap (λ (z : OwnResult Size). size_numbers z.answer) (sym left)) (a.wires.now ∷ a.published.now ∷ [])
     (r.wires ∷ r.published ∷ []) _ (ap (λ (z : OwnResult Size). z.wires ∷ z.published ∷ []) (sym left))
 
-start_requires : tie.Need-start-requires
+start_requires : tie.Need-start-outcome-requires
 start_requires c κs = search rules
 
-put_size_requires_2 : tie.Need-put-size-requires-2
+put_size_requires_2 : tie.Need-put_size-requires-2
 put_size_requires_2 c κs = search rules
 
-same_length_2 : tie.Need-same-length-2
+same_length_2 : tie.Need-shape_of-wires
 same_length_2 c = search rules
 
-same_length_3 : tie.Need-same-length-3
+same_length_3 : tie.Need-shape_of-published
 same_length_3 c = search rules
 
-same_length_4 : tie.Need-same-length-4
+same_length_4 : tie.Need-shape_of-answer
 same_length_4 c = search rules
 
-returns_3 : tie.Need-returns-3
+returns_3 : tie.Need-returns
 unfolding shape_of
 returns_3 c =
-    let outcome = c.before.before.before.before.before.before.before.before in
-    let known = outcome.before.before.before.before in
-    let made = known.before.before in
-    let long = made.before in
-    let a = (started long).args in
+    let outcome = c in
+    let known = outcome in
+    let made = known in
+    let long = made in
+    let a = long.args in
     let s = shape_of a.candidates a.grades a.ballots in
-    let same = shape_is (within_limits s) s known.shape.given.0.0 (sym made.new.ensures.result ∙ known.shape.given.1) in
-    let r = left_by (started long) in
-    let left = outcome.start.ensures ∙ ap (λ (z : Shape). left_for z (started long)) same in
-    put_call size_answer a.answer.now long.if1.false (size_numbers r.answer) _ _ _ c.before.before.put-size2.ensures
+    let same = shape_is (within_limits s) s known.in-Within.shape (sym made.new.ensures.result ∙ known.in-Within.is) in
+    let r = left_by long.before.before.before.before.before.before.before.before.before.before.before.before.before.before.before.before.before.before.before.before in
+    let left = outcome.start-outcome.ensures ∙ ap (λ (z : Shape). left_for z long.before.before.before.before.before.before.before.before.before.before.before.before.before.before.before.before.before.before.before.before) same in
+    put_call size_answer a.answer.now long.if-answer-lt-SIZE_ANSWER.false (size_numbers r.answer) _ _ _ c.put_size-2.ensures
     (ap (λ (z : OwnResult Size). size_numbers z.answer) left) (a.wires.now ∷ a.published.now ∷ [])
     (r.wires ∷ r.published ∷ []) _ (ap (λ (z : OwnResult Size). z.wires ∷ z.published ∷ []) left)
 
