@@ -33,8 +33,6 @@ call s =
       tables = tables_of a.lists.now a.ballots.now a.tapes.now a.wires.now a.boards.now;
     }
 
--- The stages: the number of juries is good; so are the gates per round; the juries are tested; they pass; the rounds are done.
-
 count_good : (c : tie.Else-not-is_between) → let of = call c.before.before.before.before.before.before.before in (leb 1 of.count && leb of.count 8) ≡ true
 count_good c = sym c.is_between.ensures ∙ c.if-not-is_between.false
 
@@ -115,11 +113,11 @@ no_reason c = sym c.test_juries-tests.ensures.reason ∙ passes c
 run_rounds_requires : tie.Need-run_rounds-requires
 run_rounds_requires c κs =
     let t = c in
-    let two = t in
+    let two = t.before.before.before.before.before in
     record {
-      few = few two.before.before.before.before.before.before.before;
-      per_round_least = least two.before.before.before.before.before;
-      per_round_most = most two.before.before.before.before.before;
+      few = few two.before.before;
+      per_round_least = least two;
+      per_round_most = most two;
       accepted = no_reason t.before.before.before;
       conditional_are = t.test_juries-tests.ensures.conditional (passes t.before.before.before);
     }
@@ -128,14 +126,14 @@ run_rounds_requires c κs =
 room : (c : tie.After-run_rounds)
     → c.test_juries-tests.result.wires ≤ length c.run_rounds.new.wires
 room c =
-    let t = c in
-    let of = call t.before.before.before.before.before.before.before.before.before.before.before.before.before.before.before in
+    let t = c.before.before.before.before in
+    let of = call t.before.before.before.before.before.before.before.before.before.before.before in
     let fin = c.run_rounds.ensures in
     omega (
       arith,
-      t.test_juries-tests.ensures.wires (passes t.before.before.before.before),
+      t.test_juries-tests.ensures.wires (passes t),
       ap length fin.state.wires_are,
-      wires_room (fin.done * of.gates_per_round) 0 (juries_in of) of.tables (no_reason t.before.before.before.before),
+      wires_room (fin.done * of.gates_per_round) 0 (juries_in of) of.tables (no_reason t),
     )
 
 slice_relend_prefix_empty : tie.Need-slice_bounds-empty-end
@@ -151,11 +149,11 @@ rounds_of_requires : tie.Need-rounds_of-requires
 rounds_of_requires c κs =
     let t = c in
     let of = call t.before.before.before.before.before.before.before.before.before.before.before.before.before.before.before.before.before.before.before.before.before.before.before in
-    let two = t in
+    let two = t.before.before.before.before.before.before.before.before.before.before.before.before.before.before in
     record {
-      few = few two.before.before.before.before.before.before.before.before.before.before.before.before.before.before.before.before;
-      per_round_least = least two.before.before.before.before.before.before.before.before.before.before.before.before.before.before;
-      per_round_most = most two.before.before.before.before.before.before.before.before.before.before.before.before.before.before;
+      few = few two.before.before;
+      per_round_least = least two;
+      per_round_most = most two;
       gates_most = few_gates 0 (juries_in of) of.tables (no_reason t.before.before.before.before.before.before.before.before.before.before.before.before);
     }
 
@@ -170,17 +168,17 @@ unfolding dispatch_result_after
 returns_4 c =
     let zeroed = c in
     let run = zeroed in
-    let t = run in
-    let of = call t.before.before.before.before.before.before.before.before.before.before.before.before.before.before.before.before.before.before.before.before.before.before.before.before in
+    let t = run.before.before.before.before.before.before.before.before.before.before.before.before.before in
+    let of = call t.before.before.before.before.before.before.before.before.before.before.before in
     let fin = run.run_rounds.ensures in
     let given = fin.done * of.gates_per_round in
-    let e = by_tests t.before.before.before.before.before.before.before.before.before.before.before.before.before.before none (passes t.before.before.before.before.before.before.before.before.before.before.before.before.before) in
-    same_result _ _ (passes t.before.before.before.before.before.before.before.before.before.before.before.before.before ∙ sym (ap (λ (d : DispatchResult). d.reason) e))
+    let e = by_tests t.before none (passes t) in
+    same_result _ _ (passes t ∙ sym (ap (λ (d : DispatchResult). d.reason) e))
     (c.rounds_of.ensures of.tables ∙ sym (ap (λ (d : DispatchResult). d.rounds) e))
-    (emptied given (juries_in of) of.tables (no_reason t.before.before.before.before.before.before.before.before.before.before.before.before.before) t.test_juries-tests.result.wires
-    run.run_rounds.new.wires zeroed.empty.new.bytes (t.test_juries-tests.ensures.wires (passes t.before.before.before.before.before.before.before.before.before.before.before.before.before))
+    (emptied given (juries_in of) of.tables (no_reason t) t.test_juries-tests.result.wires
+    run.run_rounds.new.wires zeroed.empty.new.bytes (t.test_juries-tests.ensures.wires (passes t))
     fin.state.wires_are zeroed.empty.ensures ∙ sym (ap (λ (d : DispatchResult). d.wires) e))
-    (fin.state.boards_are ∙ boards_end given 0 (juries_in of) of.tables (no_reason t.before.before.before.before.before.before.before.before.before.before.before.before.before) fin.all
+    (fin.state.boards_are ∙ boards_end given 0 (juries_in of) of.tables (no_reason t) fin.all
     ∙ sym (ap (λ (d : DispatchResult). d.boards) e))
 
 pub dispatch_spec : {M : Type 1} → statement M

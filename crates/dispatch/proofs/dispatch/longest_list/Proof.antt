@@ -59,12 +59,12 @@ loop_again c =
 
 returns : tie.Need-returns invariant_loop decreases_loop
 returns c =
-    let s = c in
+    let s = c.before.before in
     let l = c.loop-j in
     let ss = take s.args.count s.args.headers in
     let none_left : drop l.j ss ≡ [] =
     drop_of_length-le ss {i = l.j}
-    (omega (arith, length-take-le s.args.count s.args.headers (enough s.before.before), c.loop-j-test.false)) in
+    (omega (arith, length-take-le s.args.count s.args.headers (enough s), c.loop-j-test.false)) in
     omega (arith, ap longest_list none_left, most_none, l.invariant.1)
 
 pub longest_list_spec : {M : Type 1} → statement M

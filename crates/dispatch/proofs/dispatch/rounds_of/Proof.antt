@@ -44,13 +44,13 @@ enough s = omega (arith, s.requires.few, s.well_formed.1.0.1.0.1)
 -- a bound for the gates of this turn's jury
 few : (c : tie.In-loop-j invariant_loop decreases_loop) → (get_or c.args.headers c.loop-j.j blank).gates ≤ 1048576
 few c =
-    let s = c in
+    let s = c.before.before in
     let j = c.loop-j.j in
     let ss = take s.args.count s.args.headers in
     let x = get_or s.args.headers j blank in
     omega (
       arith,
-      ap longest_list (left_cons s.args.count j s.args.headers blank c.loop-j-test.true (enough s.before.before)),
+      ap longest_list (left_cons s.args.count j s.args.headers blank c.loop-j-test.true (enough s)),
       most_first x (drop (suc j) ss),
       most_left j ss,
       s.requires.gates_most,
@@ -103,7 +103,7 @@ next : (c : tie.In-loop-j invariant_loop decreases_loop) (t : Tables) → let s 
     (eight_of (rate s.args.gates_per_round) ss t)
 unfolding rounds_for
 next c t =
-    let s = c in
+    let s = c.before.before in
     let l = c.loop-j in
     let ss = take s.args.count s.args.headers in
     let x = get_or s.args.headers l.j blank in
@@ -111,7 +111,7 @@ next c t =
     let u = l.invariant.1 t in
     let first = subst (λ (left : List JuryHeader). Upto (one_of unknown) (one_of (rate s.args.gates_per_round))
     (padding ss) left u.0 l.j l.rounds final)
-    (left_cons s.args.count l.j s.args.headers blank c.loop-j-test.true (enough s.before.before)) u.1 in (
+    (left_cons s.args.count l.j s.args.headers blank c.loop-j-test.true (enough s)) u.1 in (
       remaining x u.0,
       subst (λ (left : List JuryHeader). Upto (one_of unknown) (one_of (rate s.args.gates_per_round)) (padding ss) left
           (remaining x u.0) (l.j + 1)
@@ -123,18 +123,18 @@ next c t =
 
 loop_again : tie.Need-loop-j-preserved invariant_loop decreases_loop
 loop_again c =
-    let i = c in
+    let i = c.before.before in
     let test = i.loop-j-test.true in
-    (omega arith, λ (t : Tables). next i.before.before t)
+    (omega arith, λ (t : Tables). next i t)
 
 returns : tie.Need-returns invariant_loop decreases_loop
 returns c =
-    let s = c in
+    let s = c.before.before in
     let l = c.loop-j in
     let ss = take s.args.count s.args.headers in
     let none_left : drop l.j ss ≡ [] =
     drop_of_length-le ss {i = l.j}
-    (omega (arith, length-take-le s.args.count s.args.headers (enough s.before.before), c.loop-j-test.false)) in
+    (omega (arith, length-take-le s.args.count s.args.headers (enough s), c.loop-j-test.false)) in
     λ (t : Tables).
     let u = l.invariant.1 t in
     upto_end (one_of unknown) (one_of (rate s.args.gates_per_round)) (padding ss) u.0 l.j l.rounds

@@ -86,8 +86,8 @@ round_requires c κs =
 
 add_done : tie.Need-overflow_add-done invariant_loop decreases_loop
 add_done c =
-    let l = c in
-    omega (arith, l.loop-done.invariant.3, few l.before.before.before.before.before.before.before.before)
+    let l = c.before.before.before.before.before.before.before.before in
+    omega (arith, l.loop-done.invariant.3, few l)
 
 -- this round is needed: the longest jury is not finished
 needed : (c : tie.In-loop-done invariant_loop decreases_loop) → c.loop-done.done < c.longest_list-most.result

@@ -186,12 +186,12 @@ array_write_conditional c = omega arith
 
 after_requires : tie.Need-after-at-requires invariant_loop decreases_loop
 after_requires c κs =
-    let i = c in
-    let s = i.before.before.before.before.before.before.before.before.before.before.before.before.before.before.before in
+    let i = c.before.before.before.before.before.before.before.before in
+    let s = i.before.before.before.before.before.before.before in
     let l = i.loop-j in
     let w = well c in
-    let p = jury_passed (jury i.before.before.before.before.before.before.before.before) (here i.before.before.before.before.before.before.before.before) w.0 in
-    let n = inside_next l.at (jury i.before.before.before.before.before.before.before.before) (all s) l.invariant.1.inside p in
+    let p = jury_passed (jury i) (here i) w.0 in
+    let n = inside_next l.at (jury i) (all s) l.invariant.1.inside p in
     let mark = w.1 in
     record {
       within = p.is_within;
@@ -211,8 +211,8 @@ loop_less c = omega arith
 loop_again : tie.Need-loop-j-preserved invariant_loop decreases_loop
 loop_again c =
     let k = c in
-    let i = k in
-    let s = i.before.before.before.before.before.before.before.before.before.before.before.before.before.before.before.before in
+    let i = k.before.before.before.before.before.before.before.before.before in
+    let s = i.before.before.before.before.before.before.before in
     let l = i.loop-j in
     let w = well k.before in
     let ss = take s.args.count s.args.headers in
@@ -220,9 +220,9 @@ loop_again c =
       omega arith,
       tested_as ss (all s) (suc l.j) (l.j + 1) (drop (suc l.j) ss) (drop (l.j + 1) ss) _ c.after-at.result
           _ (add-one l.j) (ap (λ (x : ℕ). drop x ss) (add-one l.j))
-          (c.after-at.ensures ∙ ap (places_after l.at (jury i.before.before.before.before.before.before.before.before.before)) w.1)
-          (tested_next ss (all s) l.j (jury i.before.before.before.before.before.before.before.before.before) (drop (suc l.j) ss) l.at l.conditional
-          k.in-Accepted.marked (ahead i.before.before.before.before.before.before.before.before.before) w.0 w.1),
+          (c.after-at.ensures ∙ ap (places_after l.at (jury i)) w.1)
+          (tested_next ss (all s) l.j (jury i) (drop (suc l.j) ss) l.at l.conditional
+          k.in-Accepted.marked (ahead i) w.0 w.1),
     )
 
 returns_2 : tie.Need-returns invariant_loop decreases_loop

@@ -32,8 +32,6 @@ all s = tables_of s.args.lists.now s.args.ballots.now s.args.tapes.now s.args.wi
 abbrev pieces : tie.Start → Tables
 pieces s = pieces_of s.args.header (all s)
 
--- The stages of the function. Each leads back to the one before it.
-
 -- From after the list passed, the ballots passed, or the buffers were tested, back to the start.
 
 -- the first reason decides the answer
@@ -206,27 +204,27 @@ lent_outcome : (c : tie.After-test_buffers) → let s = c.before.before.before.b
 unfolding size
 lent_outcome c =
     let told = c.before.before.before.before.before.before.before.before in
-    let s = c in
+    let s = c.before.before.before.before.before.before.before.before.before.before.before.before.before.before.before.before in
     let st = s.args.header in
-    let p = pieces s.before.before.before.before.before.before.before.before.before.before.before.before.before.before.before.before in
+    let p = pieces s in
     let k = st.candidates in
     let z = size told in
     let i = c.ballot_bytes-inputs in
     let n = c.bytes_fitting-masks in
     let v = c.bytes_fitting-values in
     let o = c.bytes_fitting-shown in
-    let facts = stated_size st (all s.before.before.before.before.before.before.before.before.before.before.before.before.before.before.before.before) z (passed told) in
+    let facts = stated_size st (all s) z (passed told) in
     c.test_buffers.ensures
     ∙ ap (λ (x : ℕ). first_of (buffer_reasons x k z (take n.result s.args.tapes.now)
     (take v.result s.args.wires.now) (take o.result s.args.boards.now))) i.ensures
     ∙ ap (λ (x : List ℕ). first_of (buffer_reasons (ballot_bytes (header_shape st)) k z x
     (take v.result s.args.wires.now) (take o.result s.args.boards.now)))
-    (tape_piece st (all s.before.before.before.before.before.before.before.before.before.before.before.before.before.before.before.before) z.conditional n.result facts.1 n.ensures)
+    (tape_piece st (all s) z.conditional n.result facts.1 n.ensures)
     ∙ ap (λ (x : List ℕ). first_of (buffer_reasons (ballot_bytes (header_shape st)) k z p.tapes x
     (take o.result s.args.boards.now)))
-    (wires_piece st (all s.before.before.before.before.before.before.before.before.before.before.before.before.before.before.before.before) i.result z.gates v.result i.ensures facts.0 v.ensures)
+    (wires_piece st (all s) i.result z.gates v.result i.ensures facts.0 v.ensures)
     ∙ ap (λ (x : List ℕ). first_of (buffer_reasons (ballot_bytes (header_shape st)) k z p.tapes p.wires x))
-    (board_piece st (all s.before.before.before.before.before.before.before.before.before.before.before.before.before.before.before.before) z.conditional o.result facts.1 o.ensures)
+    (board_piece st (all s) z.conditional o.result facts.1 o.ensures)
 
 -- if the tests before have passed, the tests of the buffers decide
 whole_outcome : (c : tie.After-test_buffers) → let s = c.before.before.before.before.before.before.before.before.before.before.before.before.before.before.before.before in
@@ -234,8 +232,8 @@ whole_outcome : (c : tie.After-test_buffers) → let s = c.before.before.before.
 unfolding reasons_of
 whole_outcome c =
     let told = c.before.before.before.before.before.before.before.before in
-    let s = c in
-    let p = pieces s.before.before.before.before.before.before.before.before.before.before.before.before.before.before.before.before in
+    let s = c.before.before.before.before.before.before.before.before.before.before.before.before.before.before.before.before in
+    let p = pieces s in
     by_lent (header_shape s.args.header) p.lists p.ballots p.tapes p.wires p.boards
     (passed told).reasons (size told) (refused_for c.test_buffers.result) (passed told).size
     (no_reason c.before.before.before.before) (sym (lent_outcome c))
@@ -251,11 +249,11 @@ returns_4 : tie.Need-returns-in-Accepted-test_buffers
 unfolding test_outcome refused_for pieces_of
 returns_4 c =
     let t = c in
-    let told = t in
+    let told = t.before.before.before.before.before.before.before.before.before in
     let s = t.before.before.before.before.before.before.before.before.before.before.before.before.before.before.before.before.before in
     let none_applies = whole_outcome t.before ∙ ap refused_for c.in-Accepted-test_buffers.is in
-    sym (ap outcome_of told.in-Accepted.is) ∙ list_outcome told.before.before.before.before.before.before.before.before.before.before
-    ∙ ap (λ (o : Option Reason). outcome o (size_of (gates_of (list_of s.args.header (all s))))) ((passed told.before.before.before.before.before.before.before.before.before).reasons ∙ sym none_applies)
+    sym (ap outcome_of told.in-Accepted.is) ∙ list_outcome told.before
+    ∙ ap (λ (o : Option Reason). outcome o (size_of (gates_of (list_of s.args.header (all s))))) ((passed told).reasons ∙ sym none_applies)
 
 pub test_jury_spec : {M : Type 1} → statement M
 test_jury_spec =

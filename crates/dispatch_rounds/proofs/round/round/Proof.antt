@@ -32,8 +32,6 @@ invariant_loop count done gates_per_round lists ballots tapes wires₀ boards₀
 abbrev decreases_loop : tie.decreases-loop-j
 decreases_loop count done gates_per_round lists ballots tapes wires₀ boards₀ headers conditional given shown₀ at₀ j₀ wires boards shown at j = count - j
 
--- The stages of a turn: it begins; the places after the jury are known; the jury has had its turn.
-
 -- a header past the last
 abbrev blank : JuryHeader
 blank = record { candidates = 0; grades = 0; ballots = 0; gates = 0 }
@@ -350,17 +348,17 @@ next c ws bs st =
     let a = c in
     let s = c.before.before.before.before.before.before.before.before.before.before.before.before.before.before.before in
     let l = a.loop-j in
-    let i = a in
+    let i = a.before.before.before.before.before.before.before.before in
     let ss = take s.args.count s.args.headers in
     let t = lent_to s ws bs in
     let g = given s in
-    let j = jury i.before.before.before.before.before.before.before.before in
-    let k = in_turn i.before.before.before.before.before.before.before.before ws bs st in
+    let j = jury i in
+    let k = in_turn i ws bs st in
     let h = handed a.before.before.before.before.before.before ws bs k in
     let places = places_are a.before.before.before.before.before.before ws bs k in
-    let p = pieces_of j (here i.before.before.before.before.before.before.before.before ws bs) in
+    let p = pieces_of j (here i ws bs) in
     let n = ballot_bytes (header_shape j) + j.gates in
-    let m = conditional_in j (here i.before.before.before.before.before.before.before.before ws bs) + j.candidates in
+    let m = conditional_in j (here i ws bs) + j.candidates in
     let q = c.turn.new.wires in
     let r = c.turn.new.board in
     let after = jury_back (g + s.args.gates_per_round) j p _ _ _ q r c.turn.result h.list h.ballots h.tape
@@ -381,7 +379,7 @@ next c ws bs st =
     (ap (λ (x : ℕ). take l.at.boards l.boards ++ (r ++ drop x (drop l.at.boards l.boards)))
     {x = a.after-at.result.boards - l.at.boards} {y = m} (omega (arith, ap (λ (x : Places). x.boards) places)))
     (mid_next ss t g (g + s.args.gates_per_round) s.args.conditional l.j j (drop (suc l.j) ss) l.at l.wires
-    l.boards l.shown (mid i.before.before.before.before.before.before.before.before ws bs st) q r c.turn.result after long high)
+    l.boards l.shown (mid i ws bs st) q r c.turn.result after long high)
 
 -- no length changes
 same_wires : (c : tie.After-turn invariant_loop decreases_loop) → let a = c in
@@ -391,11 +389,11 @@ same_wires : (c : tie.After-turn invariant_loop decreases_loop) → let a = c in
     ++ drop (a.after-at.result.wires - l.at.wires) (drop l.at.wires l.wires)))
     ≡ length c.args.wires.now
 same_wires c =
-    let a = c in
+    let a = c.before.before.before.before.before.before in
     let l = a.loop-j in
-    let k = known a.before.before.before.before.before.before.before.before in
+    let k = known a.before.before in
     let n = a.after-at.result.wires - l.at.wires in
-    let room : l.at.wires + n ≤ length l.wires = omega (arith, ap (λ (x : Places). x.wires) (places a.before.before.before.before.before.before), k.wires_room) in
+    let room : l.at.wires + n ≤ length l.wires = omega (arith, ap (λ (x : Places). x.wires) (places a), k.wires_room) in
     spliced_long n l.at.wires l.wires c.turn.new.wires room
     (c.turn.auto.wires ∙ part_long n l.at.wires l.wires room) ∙ l.invariant.2
 
@@ -406,19 +404,19 @@ same_boards : (c : tie.After-turn invariant_loop decreases_loop) → let a = c i
     ++ drop (a.after-at.result.boards - l.at.boards) (drop l.at.boards l.boards)))
     ≡ length c.args.boards.now
 same_boards c =
-    let a = c in
+    let a = c.before.before.before.before.before.before in
     let l = a.loop-j in
-    let k = known a.before.before.before.before.before.before.before.before in
+    let k = known a.before.before in
     let n = a.after-at.result.boards - l.at.boards in
-    let room : l.at.boards + n ≤ length l.boards = omega (arith, ap (λ (x : Places). x.boards) (places a.before.before.before.before.before.before), k.boards_room) in
+    let room : l.at.boards + n ≤ length l.boards = omega (arith, ap (λ (x : Places). x.boards) (places a), k.boards_room) in
     spliced_long n l.at.boards l.boards c.turn.new.board room
     (c.turn.auto.board ∙ part_long n l.at.boards l.boards room) ∙ l.invariant.3
 
 loop_again : tie.Need-loop-j-preserved invariant_loop decreases_loop
 loop_again c =
-    let e = c in
+    let e = c.before.before.before.before in
     let test = e.loop-j-test.true in
-    (omega arith, λ (ws bs : List ℕ) st. next e.before.before.before.before ws bs st, same_wires e.before.before.before.before, same_boards e.before.before.before.before)
+    (omega arith, λ (ws bs : List ℕ) st. next e ws bs st, same_wires e, same_boards e)
 
 same_length : tie.Need-shape_of-wires invariant_loop decreases_loop
 same_length c = c.loop-j.invariant.2

@@ -15,8 +15,6 @@ use Rattle.dispatch_rounds.proofs.JuryStates.{turn_begins, turn_goes_on, turn_en
 use Rattle.dispatch_rounds.proofs.round.turn.Statement.{statement}
 use Rattle.dispatch_rounds.proofs.round.turn.Tie as tie
 
--- The stages: the ballots are in the wire table; the last gates are done.
-
 -- the jury at entry
 abbrev Entry : tie.Start → List ℕ → List ℕ → Type 0
 Entry c ws bs =
@@ -70,7 +68,7 @@ finished : (c : tie.After-step-last) (ws bs : List ℕ) → Entry c.before.befor
     Stands a.ballots.now a.list.now a.tape.now ws bs (length (gates_of a.list.now))
     c.step-last.new.wires c.step-last.new.board c.step-last.result
 finished c ws bs j =
-    let l = c in
+    let l = c.before.before.before.before.before.before in
     let a = c.args in
     let before : a.given < a.header.gates = l.if-gates-given.false in
     let r = c.step-last in
@@ -78,7 +76,7 @@ finished c ws bs j =
     r.new.board r.result) (sym j.gates)
     (step_stands a.ballots.now a.list.now a.header.candidates a.tape.now ws bs j.run a.given
     a.header.gates (omega arith) (omega (arith, j.gates))
-    _ a.board.now a.shown (begun l.before.before.before.before.before.before ws bs j) _ _ r.result r.ensures.next r.ensures.wires r.ensures.board)
+    _ a.board.now a.shown (begun l ws bs j) _ _ r.result r.ensures.next r.ensures.wires r.ensures.board)
 
 close_requires : tie.Need-close-requires
 close_requires c κs =
@@ -98,12 +96,12 @@ same_length_2 c = search rules
 returns_2 : tie.Need-returns-then-gates-given-2
 returns_2 c =
     let closed = c in
-    let e = closed in
+    let e = closed.before.before.before.before.before.before.before.before in
     let a = e.args in
     let past = e.if-gates-given-2.true in
     λ (ws bs : List ℕ) j.
     turn_ends a.header (tables_of a.list.now a.ballots.now a.tape.now ws bs) j.run j.some_gate
-    j.gates (a.given + a.gates_per_round) _ _ _ _ (omega arith) (finished e.before.before.before.before.before.before.before.before ws bs j) c.close.ensures
+    j.gates (a.given + a.gates_per_round) _ _ _ _ (omega arith) (finished e ws bs j) c.close.ensures
 
 add_step : tie.Need-overflow_add-given
 add_step c = search rules
