@@ -11,16 +11,16 @@ use Rattle.c_levels.specs.Numbers.{depth_told, depth_numbers}
 use Rattle.c_levels.proofs.calls.put_depths.Statement.{statement}
 use Rattle.c_levels.proofs.calls.put_depths.Tie as tie
 
-enum_known_outcome : tie.Need-enum-known-outcome
+enum_known_outcome : tie.Need-enum_known-outcome
 enum_known_outcome c = search rules
 
-slice_aggregate_put_answer : tie.Need-slice-aggregate-put-answer
+slice_aggregate_put_answer : tie.Need-slice_bounds-put_answer-end
 slice_aggregate_put_answer c = search rules
 
-put_answer_requires : tie.Need-put-answer-requires
+put_answer_requires : tie.Need-put_answer-requires
 put_answer_requires c κs = search rules
 
-enum_known_outcome_2 : tie.Need-enum-known-outcome-2
+enum_known_outcome_2 : tie.Need-enum_known-outcome-in-Refused-1
 enum_known_outcome_2 c = search rules
 
 number_requires : tie.Need-number-requires
@@ -29,38 +29,29 @@ number_requires c κs = search rules
 place_requires : tie.Need-place-requires
 place_requires c κs = search rules
 
-slice_aggregate_put_answer_2 : tie.Need-slice-aggregate-put-answer-2
-slice_aggregate_put_answer_2 c = search rules
-
-put_answer_requires_2 : tie.Need-put-answer-requires-2
+put_answer_requires_2 : tie.Need-put_answer-requires-in-Refused
 put_answer_requires_2 c κs = search rules
 
-same_length : tie.Need-same-length
+same_length : tie.Need-shape_of-answer-in-Accepted
 same_length c = search rules
 
-returns : tie.Need-returns
+returns : tie.Need-returns-in-Accepted
 unfolding answer_numbers depth_told depths_outcome
 returns c =
-    let put = c.before.before in
-    let told = put.before.before.before.before in
-    puts_same (sym (ap (λ (s : Answer). depth_numbers (depths_outcome s)) told.outcome.given.1)) put.put-answer.ensures
+    puts_same (sym (ap (λ (s : Answer). depth_numbers (depths_outcome s)) c.in-Accepted.is)) c.put_answer.ensures
 
-same_length_2 : tie.Need-same-length-2
+same_length_2 : tie.Need-shape_of-answer-in-Refused
 same_length_2 c = search rules
 
-returns_2 : tie.Need-returns-2
+returns_2 : tie.Need-returns-in-Refused
 unfolding answer_numbers depth_told depths_outcome
 returns_2 c =
-    let put = c.before.before in
-    let place = put.before.before.before in
-    let number = place.before in
-    let told = number.before.before in
-    let why = level_reason_of told.outcome2.given.0.0 in
+    let why = level_reason_of c.in-Refused.reason in
     puts_same
-    (two number.number.result place.place.result why.number why.place (0 ∷ 0 ∷ 0 ∷ []) number.number.ensures
-    place.place.ensures
-    ∙ sym (ap (λ (s : Answer). depth_numbers (depths_outcome s)) told.outcome2.given.1))
-    put.put-answer2.ensures
+    (two c.number.result c.place.result why.number why.place (0 ∷ 0 ∷ 0 ∷ []) c.number.ensures
+    c.place.ensures
+    ∙ sym (ap (λ (s : Answer). depth_numbers (depths_outcome s)) c.in-Refused.is))
+    c.put_answer-in-Refused.ensures
 
 pub put_depths_spec : {M : Type 1} → statement M
 put_depths_spec =
@@ -72,7 +63,6 @@ put_depths_spec =
     enum_known_outcome_2
     number_requires
     place_requires
-    slice_aggregate_put_answer_2
     put_answer_requires_2
     same_length
     returns
