@@ -42,8 +42,8 @@
  *     const, else for reading and writing; it is aligned for its type, and not NULL, even if the length is 0
  *   - a buffer that is not const overlaps no other buffer of the same call
  *   - during the call no other thread writes to the buffers, nor reads those that are not const
- * The functions hold no state: calls with different buffers may run at the same time. They call no other library and
- * allocate nothing. */
+ * The functions hold no state: calls with different buffers may run at the same time. They allocate nothing, and call
+ * nothing but C's memcpy and memset. */
 #ifndef JUGYVAROS_H
 #define JUGYVAROS_H
 
