@@ -10,7 +10,8 @@ use batch_lanes::word;
 // Reason 11: the juries in which some byte is 1 and its opposite is 1 too.
 pub fn not_asymmetric(words: &[u64], k: usize, n: usize) -> u64
     requires { length words.now ≡ n * k * k }
-    ensures { (u : ℕ) → u < lane_count → lane u result ≡ found_bit (spec.first_not_asymmetric k n
+    ensures { (u : ℕ) → u < lane_count
+        → lane u result ≡ found_bit (spec.first_not_asymmetric k n
         (lane_of u words.now)) }
 {
     let mut faults: u64 = 0;
@@ -25,7 +26,8 @@ pub fn not_asymmetric(words: &[u64], k: usize, n: usize) -> u64
 // The same for ballot b only.
 fn not_asymmetric_in_ballot(words: &[u64], k: usize, b: usize) -> u64
     requires { (b + 1) * k * k ≤ length words.now }
-    ensures { (u : ℕ) → u < lane_count → lane u result ≡ found_bit (spec.not_asymmetric_in_ballot k (lane_of u words.now)
+    ensures { (u : ℕ) → u < lane_count
+        → lane u result ≡ found_bit (spec.not_asymmetric_in_ballot k (lane_of u words.now)
         b) }
 {
     let mut faults: u64 = 0;
@@ -40,7 +42,8 @@ fn not_asymmetric_in_ballot(words: &[u64], k: usize, b: usize) -> u64
 // The same for row i of ballot b only.
 fn not_asymmetric_in_row(words: &[u64], k: usize, b: usize, i: usize) -> u64
     requires { ((b + 1) * k * k ≤ length words.now) × (i < k) }
-    ensures { (u : ℕ) → u < lane_count → lane u result ≡ found_bit (spec.not_asymmetric_in_row k (lane_of u words.now) b
+    ensures { (u : ℕ) → u < lane_count
+        → lane u result ≡ found_bit (spec.not_asymmetric_in_row k (lane_of u words.now) b
         i) }
 {
     let mut faults: u64 = 0;
@@ -57,7 +60,8 @@ fn not_asymmetric_in_row(words: &[u64], k: usize, b: usize, i: usize) -> u64
 // Reason 12: the juries with a ballot in which i is before j and a third candidate is not after i and not before j.
 pub fn not_weak_order(words: &[u64], k: usize, n: usize) -> u64
     requires { length words.now ≡ n * k * k }
-    ensures { (u : ℕ) → u < lane_count → lane u result ≡ found_bit (spec.first_not_weak_order k n
+    ensures { (u : ℕ) → u < lane_count
+        → lane u result ≡ found_bit (spec.first_not_weak_order k n
         (lane_of u words.now)) }
 {
     let mut faults: u64 = 0;
@@ -72,7 +76,8 @@ pub fn not_weak_order(words: &[u64], k: usize, n: usize) -> u64
 // The same for ballot b only.
 fn not_weak_order_in_ballot(words: &[u64], k: usize, b: usize) -> u64
     requires { (b + 1) * k * k ≤ length words.now }
-    ensures { (u : ℕ) → u < lane_count → lane u result ≡ cond (spec.not_weak_order k (lane_of u words.now) b) 1 0 }
+    ensures { (u : ℕ) → u < lane_count
+        → lane u result ≡ cond (spec.not_weak_order k (lane_of u words.now) b) 1 0 }
 {
     let mut faults: u64 = 0;
     let mut i = 0;
@@ -86,7 +91,8 @@ fn not_weak_order_in_ballot(words: &[u64], k: usize, b: usize) -> u64
 // The same for this ballot and this i only.
 fn not_weak_order_after(words: &[u64], k: usize, b: usize, i: usize) -> u64
     requires { ((b + 1) * k * k ≤ length words.now) × (i < k) }
-    ensures { (u : ℕ) → u < lane_count → lane u result ≡ cond (spec.not_weak_order_after k (lane_of u words.now) b i) 1
+    ensures { (u : ℕ) → u < lane_count
+        → lane u result ≡ cond (spec.not_weak_order_after k (lane_of u words.now) b i) 1
         0 }
 {
     let mut faults: u64 = 0;
@@ -103,7 +109,8 @@ fn not_weak_order_after(words: &[u64], k: usize, b: usize, i: usize) -> u64
 // The juries in which some candidate is not after i and not before j.
 fn neither_after_nor_before(words: &[u64], k: usize, b: usize, i: usize, j: usize) -> u64
     requires { ((b + 1) * k * k ≤ length words.now) × (i < k) × (j < k) }
-    ensures { (u : ℕ) → u < lane_count → lane u result ≡ cond (spec.neither_after_nor_before k (lane_of u words.now) b i
+    ensures { (u : ℕ) → u < lane_count
+        → lane u result ≡ cond (spec.neither_after_nor_before k (lane_of u words.now) b i
         j) 1 0 }
 {
     let mut found: u64 = 0;
@@ -120,7 +127,8 @@ fn neither_after_nor_before(words: &[u64], k: usize, b: usize, i: usize, j: usiz
 // The juries in which ballot b puts i strictly before j.
 fn puts_before(words: &[u64], k: usize, b: usize, i: usize, j: usize) -> u64
     requires { ((b + 1) * k * k ≤ length words.now) × (i < k) × (j < k) }
-    ensures { (u : ℕ) → u < lane_count → lane u result ≡ cond (spec.before k (lane_of u words.now) b i j) 1 0 }
+    ensures { (u : ℕ) → u < lane_count
+        → lane u result ≡ cond (spec.before k (lane_of u words.now) b i j) 1 0 }
 {
     let at = (b * k + i) * k + j;
     words[at]

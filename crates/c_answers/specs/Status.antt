@@ -34,4 +34,5 @@ MeasureStatus reason_numbers answer o = StatusReads reason_numbers three_answer 
 -- The same for a call that gives its reason and what it tells separately.
 abbrev pub ToldStatus : (reason_numbers : List ℕ) (needed : ℕ) (answer : List ℕ) → Option Reason → (told : List ℕ)
     → Type 0
-ToldStatus reason_numbers needed answer reason told = StatusReads reason_numbers needed (outcome reason told) told answer
+ToldStatus reason_numbers needed answer reason told =
+    StatusReads reason_numbers needed (outcome reason told) told answer

@@ -37,5 +37,5 @@ round_call s table t p r levels triples heard wires published answer =
 
 abbrev pub finish_call : (s : Shape) (table wires answer : List ℕ) → CallResult
 finish_call s table wires answer =
-    call_result size_answer (size_numbers (finish_outcome s table wires)) answer (wires ∷ []) (finished_wires s table wires
-    ∷ [])
+    call_result size_answer (size_numbers (finish_outcome s table wires))
+    answer (wires ∷ []) (finished_wires s table wires ∷ [])

@@ -9,7 +9,8 @@ use Rattle.dispatch_rounds.specs.Tables.{Tables, header_shape, pieces_of, remain
 -- The reasons of the jury whose pieces come first in the tables: those of a run on these pieces.
 unfoldable pub reasons_of : JuryHeader → Tables → List (Option Reason)
 reasons_of s t =
-    run_reasons (header_shape s) (pieces_of s t).lists (pieces_of s t).ballots (pieces_of s t).tapes (pieces_of s t).wires
+    run_reasons (header_shape s) (pieces_of s t).lists (pieces_of s t).ballots (pieces_of s t).tapes
+    (pieces_of s t).wires
     (pieces_of s t).boards
 
 -- A jury's reason keeps its number, and has the jury as its place.

@@ -24,19 +24,22 @@ board_under inputs tape = board_of (wires_of inputs (gates_of one_gate)) (gates_
 
 -- Inputs 1 0 under the mask 0.
 pub first_board : board_under (1 ∷ 0 ∷ []) (0 ∷ []) ≡ 1 ∷ 0 ∷ []
-unfolding board_under one_gate board_of shown_bits shown_bit conditionals outputs_of wires_of value wire gates_of value_of
+unfolding board_under one_gate board_of shown_bits shown_bit conditionals outputs_of wires_of value wire gates_of
+    value_of
     conditional_of zip_with
 first_board = refl
 
 -- Inputs 0 1 under the mask 1: the same board.
 pub second_board : board_under (0 ∷ 1 ∷ []) (1 ∷ []) ≡ 1 ∷ 0 ∷ []
-unfolding board_under one_gate board_of shown_bits shown_bit conditionals outputs_of wires_of value wire gates_of value_of
+unfolding board_under one_gate board_of shown_bits shown_bit conditionals outputs_of wires_of value wire gates_of
+    value_of
     conditional_of zip_with
 second_board = refl
 
 -- Inputs 0 1 under the mask 0: another board.
 pub other_tape : board_under (0 ∷ 1 ∷ []) (0 ∷ []) ≡ 0 ∷ 0 ∷ []
-unfolding board_under one_gate board_of shown_bits shown_bit conditionals outputs_of wires_of value wire gates_of value_of
+unfolding board_under one_gate board_of shown_bits shown_bit conditionals outputs_of wires_of value wire gates_of
+    value_of
     conditional_of zip_with
 other_tape = refl
 
@@ -54,12 +57,14 @@ unfoldable pub free_gate_first : List ℕ
 free_gate_first = 6 ∷ 0 ∷ 1 ∷ 0 ∷ 4 ∷ 0 ∷ 2 ∷ 0 ∷ []
 
 pub free_gate_tested : tested 2 1 free_gate_first ≡ Accepted 2 1
-unfolding free_gate_first tested judged first_bad good_gate good_operand conditional_count conditionals gates_of conditional_of
+unfolding free_gate_first tested judged first_bad good_gate good_operand conditional_count conditionals gates_of
+    conditional_of
     operands_of
 free_gate_tested = refl
 
 pub free_gate_board : board_of (wires_of (1 ∷ 0 ∷ []) (gates_of free_gate_first)) (gates_of free_gate_first) 1 (1 ∷ [])
     ≡ 0 ∷ 1 ∷ []
-unfolding free_gate_first board_of shown_bits shown_bit conditionals outputs_of wires_of value wire gates_of value_of differ
+unfolding free_gate_first board_of shown_bits shown_bit conditionals outputs_of wires_of value wire gates_of value_of
+    differ
     conditional_of zip_with
 free_gate_board = refl

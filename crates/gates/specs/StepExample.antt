@@ -16,7 +16,8 @@ unfoldable pub three_gates : List ℕ
 three_gates = 6 ∷ 0 ∷ 1 ∷ 0 ∷ 4 ∷ 0 ∷ 2 ∷ 0 ∷ 4 ∷ 1 ∷ 3 ∷ 0 ∷ []
 
 pub three_gates_tested : tested 2 1 three_gates ≡ Accepted 3 2
-unfolding three_gates tested judged first_bad good_gate good_operand conditional_count conditionals gates_of conditional_of
+unfolding three_gates tested judged first_bad good_gate good_operand conditional_count conditionals gates_of
+    conditional_of
     operands_of
 three_gates_tested = refl
 
@@ -31,7 +32,8 @@ two_of_three_wires = refl
 
 -- The second gate shows wire 0 under its mask.
 pub two_gates_board : step_board 2 free_gate_first 0 2 (0 ∷ []) 0 (1 ∷ 0 ∷ 9 ∷ 9 ∷ []) (9 ∷ 9 ∷ []) ≡ 1 ∷ 9 ∷ []
-unfolding free_gate_first step_board step_wires range_of wires_of value wire gates_of value_of differ shown_bits shown_bit
+unfolding free_gate_first step_board step_wires range_of wires_of value wire gates_of value_of differ shown_bits
+    shown_bit
     conditionals conditional_of zip_with
 two_gates_board = refl
 

@@ -25,7 +25,8 @@ fn nearest(
     high: u32,
     between: u32,
 ) -> Writer
-    requires { TieBreakReady w (between * side_span above + between * either_span above + between * either_span above) x y above
+    requires { TieBreakReady w
+        (between * side_span above + between * either_span above + between * either_span above) x y above
         high between }
     ensures { Wrote w table.old (nearest w.wire x y above high between) table.new result }
 {

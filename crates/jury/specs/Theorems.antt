@@ -36,7 +36,8 @@ pub record CountsHold : Type 0 where
   -- [sum]: the counts of each candidate add up to n
   pub add_up : (s : Shape) (xs : List ℕ) → GradedBallots s xs → AddUp s (counts_of s xs)
   -- the order of ballots does not matter
-  pub order_free : (s : Shape) (xs ys : List ℕ) → Perm (ballots_in s xs) (ballots_in s ys) → counts_of s xs ≡ counts_of s ys
+  pub order_free : (s : Shape) (xs ys : List ℕ) → Perm (ballots_in s xs) (ballots_in s ys)
+      → counts_of s xs ≡ counts_of s ys
   -- nothing after the last ballot is read
   pub reads_ballots : (s : Shape) (xs ys : List ℕ) → take (ballot_bytes s) xs ≡ take (ballot_bytes s) ys
       → counts_of s xs ≡ counts_of s ys

@@ -40,7 +40,8 @@ fn test_grades(shape: Shape, ballots: &[u8]) -> Verdict
     }
 }
 
-// Tests rankings. The searches for what is wrong end early and branch on the ballots, so only a refused call makes them.
+// Tests rankings. The searches for what is wrong end early and branch on the ballots, so only a refused call makes
+// them.
 fn test_orders(shape: Shape, ballots: &[u8]) -> Verdict
     requires { (shape.candidates ≤ most_candidates)
         × (length ballots.now ≡ shape.ballots * shape.candidates * shape.candidates) }

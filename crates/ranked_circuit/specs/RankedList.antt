@@ -29,7 +29,8 @@ loser_rows beats r n k = blocks n (loser_row beats r) k
 
 -- The gates after these rows, one for each candidate: whether it is not beaten.
 unfoldable pub output_gates : (ℕ → ℕ → ℕ) → ℕ → ℕ → ℕ → List Gate
-output_gates beats r n k = blocks (n + k * r) (λ wire i. not_of (joined_wire beats (suc r) (n + i * r) i (2 * r)) ∷ []) k
+output_gates beats r n k =
+    blocks (n + k * r) (λ wire i. not_of (joined_wire beats (suc r) (n + i * r) i (2 * r)) ∷ []) k
 
 -- The wire at which the rows start.
 unfoldable pub losers_from : ℕ → ℕ → ℕ → ℕ

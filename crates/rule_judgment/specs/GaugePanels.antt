@@ -38,6 +38,7 @@ gauge_closings =
 
 -- The gauge gives each panel its closing bytes.
 pub gauge_panels_hold : map closing_of panel_counts ≡ gauge_closings
-unfolding panel_counts gauge_closings closing_of closing_from beats_all beats better_median equal_medians stronger_median
+unfolding panel_counts gauge_closings closing_of closing_from beats_all beats better_median equal_medians
+    stronger_median
     larger_p smaller_q median_of median_from p_of q_of sum
 gauge_panels_hold = refl

@@ -25,7 +25,7 @@ pub record GaugeHolds : Type 0 where
   pub bytes : (rows : List (List ℕ)) → length (closing_of rows) ≡ length rows
   pub byte : (rows : List (List ℕ)) (i : ℕ) → i < length rows → GaugeByteSays rows i
   -- at most one candidate wins, and a single one does
-  pub one_winner : (rows : List (List ℕ)) (i j : ℕ) → get_or (closing_of rows) i 0 ≡ 1 → get_or (closing_of rows) j 0 ≡ 1
-      → i ≡ j
+  pub one_winner : (rows : List (List ℕ)) (i j : ℕ) → get_or (closing_of rows) i 0 ≡ 1
+      → get_or (closing_of rows) j 0 ≡ 1 → i ≡ j
   pub single_wins : (a : List ℕ) → closing_of (a ∷ []) ≡ 1 ∷ []
   pub exclusive : (a b : List ℕ) → Exclusive a b

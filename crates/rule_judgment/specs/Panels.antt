@@ -24,5 +24,6 @@ panel_closings =
 
 -- The rule gives each panel its closing bytes.
 pub panels_hold : map judgment_of panel_counts ≡ panel_closings
-unfolding panel_counts panel_closings judgment_of none_precedes precedes sequence_of strikes strike median_of median_from sum
+unfolding panel_counts panel_closings judgment_of none_precedes precedes sequence_of strikes strike median_of
+    median_from sum
 panels_hold = refl

@@ -11,4 +11,5 @@ pub record Before (xs ys : List ℕ) : Type 0 where
 
 -- Row i of a matrix of counts wins if no row's sequence comes before its own.
 abbrev pub JudgmentWinner : List (List ℕ) → ℕ → Type 0
-JudgmentWinner rows i = (j : ℕ) → j < length rows → ¬ Before (sequence_of (get_or rows j [])) (sequence_of (get_or rows i []))
+JudgmentWinner rows i = (j : ℕ) → j < length rows
+    → ¬ Before (sequence_of (get_or rows j [])) (sequence_of (get_or rows i []))

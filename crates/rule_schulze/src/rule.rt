@@ -111,7 +111,8 @@ fn detour(paths: PairTable, k: usize, l: usize) -> PairTable
 // Row i of the strengths if paths over l are allowed too. If i or j is l itself, the path over l is never stronger.
 fn detour_from(paths: PairTable, k: usize, l: usize, i: usize) -> PairRow
     requires { (k ≤ most_candidates) × (l < k) × (i < k) }
-    ensures { (j : ℕ) → j < k → get_or result j 0 ≡ max (entry paths i j) (min (entry paths i l) (entry paths l j)) }
+    ensures { (j : ℕ) → j < k
+        → get_or result j 0 ≡ max (entry paths i j) (min (entry paths i l) (entry paths l j)) }
 {
     let mut row = [0u16; Shape::MOST_CANDIDATES];
     let mut j = 0;

@@ -23,7 +23,8 @@ most_runs = 4096
 -- The 32-bit number that starts at a place, low byte first.
 unfoldable pub number_at : ℕ → List ℕ → ℕ
 number_at at bytes =
-    get_or bytes at 0 + 256 * (get_or bytes (at + 1) 0 + 256 * (get_or bytes (at + 2) 0 + 256 * get_or bytes (at + 3) 0))
+    get_or bytes at 0
+    + 256 * (get_or bytes (at + 1) 0 + 256 * (get_or bytes (at + 2) 0 + 256 * get_or bytes (at + 3) 0))
 
 -- A run: k, d, n, the mask of closing bytes, then G and C.
 unfoldable pub run_of : List ℕ → Run

@@ -38,7 +38,8 @@ list_in s size table = take (4 * size.gates) (write_result s table)
 -- Demand 2 for one kind of call, on the list that a write left in a table with any old contents. `size` is the
 -- answer of the write, `ballots_of` has the ballots in the call's inputs, and `Good` says which inputs have to be
 -- accepted.
-pub record Accuracy {Inputs : Type 0} (call : Shape → List ℕ → Inputs → BoardCall) (ballots_of : Shape → Inputs → List ℕ)
+pub record Accuracy {Inputs : Type 0} (call : Shape → List ℕ → Inputs → BoardCall)
+    (ballots_of : Shape → Inputs → List ℕ)
     (Good : Shape → Inputs → Type 0) (s : Shape) (table : List ℕ) (size : Size) : Type 0 where
   -- no call with that list is refused for reason 2 or 3
   pub never_2_or_3 : (x : Inputs) (tape wires board : List ℕ) (r : Reason)

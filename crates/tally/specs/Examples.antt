@@ -19,4 +19,5 @@ pub record PairOfRuns : Type 0 where
   pub second_run : run_result one_ballot one_gate (0 ∷ 1 ∷ []) (1 ∷ []) (7 ∷ 7 ∷ 7 ∷ []) (7 ∷ 7 ∷ [])
       ≡ record { answer = accepted (record { gates = 1; conditional = 1 }); wires = 0 ∷ 0 ∷ 0 ∷ []; board = 1 ∷ 0 ∷ [] }
   -- the worse grade under the mask 0: another board
-  pub other_tape : (run_result one_ballot one_gate (0 ∷ 1 ∷ []) (0 ∷ []) (7 ∷ 7 ∷ 7 ∷ []) (7 ∷ 7 ∷ [])).board ≡ 0 ∷ 0 ∷ []
+  pub other_tape : (run_result one_ballot one_gate (0 ∷ 1 ∷ []) (0 ∷ []) (7 ∷ 7 ∷ 7 ∷ []) (7 ∷ 7 ∷ [])).board
+      ≡ 0 ∷ 0 ∷ []

@@ -17,7 +17,8 @@ closing_bytes s board = drop (length board - s.candidates) board
 -- bytes. The wires are `wires_of`, which depends only on ballots and list: no mask changes a wire.
 pub record BoardsHide (s : Shape) (table xs ys : List ℕ) (one other : BoardCall) (vs ws bs ds : List ℕ) : Type 0 where
   -- under every mask tape, the first call answers the list's own G and C, and its board is finished
-  pub first_answer : (t : List ℕ) → MaskTape (gates_of table) t → (one t vs bs).answer ≡ accepted (size_of (gates_of table))
+  pub first_answer : (t : List ℕ) → MaskTape (gates_of table) t
+      → (one t vs bs).answer ≡ accepted (size_of (gates_of table))
   pub first_board : (t : List ℕ) → MaskTape (gates_of table) t
       → Finished (wires_of xs (gates_of table)) (gates_of table) s.candidates t (one t vs bs).board
   -- the same for the second call

@@ -17,7 +17,8 @@ pub record Measures : Type 0 where
   pub inputs : ℕ
 
 unfoldable pub measures_of : Shape → Measures
-measures_of s = record { gates = length (own_list s); conditional = conditional_count (own_list s); inputs = ballot_bytes s }
+measures_of s =
+    record { gates = length (own_list s); conditional = conditional_count (own_list s); inputs = ballot_bytes s }
 
 -- Measuring is refused only for reason 1.
 unfoldable pub measure_reasons : Shape → List (Option Reason)

@@ -72,4 +72,5 @@ run_result_after none s gs ballots tape wires board =
 -- What a run leaves, from all that it was given: the contract of `run` is an equation with this.
 unfoldable pub run_result : Shape → List ℕ → List ℕ → List ℕ → List ℕ → List ℕ → RunResult
 run_result s table ballots tape wires board =
-    run_result_after (first_of (run_reasons s table ballots tape wires board)) s (gates_of table) ballots tape wires board
+    run_result_after (first_of (run_reasons s table ballots tape wires board)) s (gates_of table) ballots tape wires
+    board

@@ -42,7 +42,8 @@ OldContentsIgnored =
     (s : Shape) (list ballots tape wires board other_wires other_board : List ℕ) (size : Size)
     → (run_result s list ballots tape wires board).answer ≡ accepted size
     → length other_wires ≡ length wires → length other_board ≡ length board
-    → (run_result s list ballots tape other_wires other_board).board ≡ (run_result s list ballots tape wires board).board
+    → (run_result s list ballots tape other_wires other_board).board
+    ≡ (run_result s list ballots tape wires board).board
 
 -- Shape, list and ballots decide the closing bytes of an accepted run, whatever the tape.
 abbrev pub TapeIgnored : Type 0

@@ -19,7 +19,8 @@ pub fn test_buffers(
     wires: &[u8],
     board: &[u8],
 ) -> Verdict
-    ensures { refused_for result ≡ first_of (buffer_reasons inputs outputs (record { gates = gates; conditional = conditional })
+    ensures { refused_for result
+        ≡ first_of (buffer_reasons inputs outputs (record { gates = gates; conditional = conditional })
         tape.now wires.now board.now) }
 {
     if !gates::lengths::has_length(tape, conditional, 0) {

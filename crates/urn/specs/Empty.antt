@@ -27,7 +27,8 @@ all_free n b = layout n b [] (tabulate (n - 1) suc)
 -- The table after the call; on a refusal it is unchanged.
 unfoldable pub emptied : ℕ → ℕ → List ℕ → List ℕ
 emptied k d table =
-    afterwards (first_of (empty_reasons k d table)) (bytes_of (all_free (slot_count (k * d) (length table)) (k * d))) table
+    afterwards (first_of (empty_reasons k d table)) (bytes_of (all_free (slot_count (k * d) (length table)) (k * d)))
+        table
 
 -- What the call leaves: the contract of `empty` is an equation with this.
 abbrev pub emptying : ℕ → ℕ → List ℕ → UrnResult

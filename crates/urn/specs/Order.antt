@@ -47,7 +47,8 @@ pub record WithdrawOrder (k d : ℕ) (urn : List ℕ) (juror : ℕ) : Type 0 whe
   pub unsound : graded_shape k d ≡ true → sound k d urn ≡ false
       → withdraw_outcome k d urn juror ≡ refused (reason_at 13 0)
   -- 14, for a bad number and for a juror whose ballot is not in the urn
-  pub bad_juror : SoundUrn k d urn → good_juror juror ≡ false → withdraw_outcome k d urn juror ≡ refused (reason_at 14 0)
+  pub bad_juror : SoundUrn k d urn → good_juror juror ≡ false
+      → withdraw_outcome k d urn juror ≡ refused (reason_at 14 0)
   pub no_ballot : SoundUrn k d urn → member juror (jurors_of (entries_of k d urn)) ≡ false
       → withdraw_outcome k d urn juror ≡ refused (reason_at 14 0)
   pub accepts : SoundUrn k d urn → good_juror juror ≡ true → member juror (jurors_of (entries_of k d urn)) ≡ true

@@ -14,12 +14,14 @@ unfoldable pub backwards : List ℕ
 backwards = 2 ∷ 0 ∷ 0 ∷ 0 ∷ 0 ∷ 7 ∷ 1 ∷ 0 ∷ 1 ∷ 9 ∷ 0 ∷ 1 ∷ []
 
 pub chain_order : chain_ballots 1 2 backwards ≡ 0 ∷ 1 ∷ 1 ∷ 0 ∷ []
-unfolding backwards joined_ballots chain_ballots slot_bytes slot_of slots_of slot_at chain entry_at ballot_slots ballot_chain
+unfolding backwards joined_ballots chain_ballots slot_bytes slot_of slots_of slot_at chain entry_at ballot_slots
+    ballot_chain
     slot_count urn_slots
 chain_order = refl
 
 pub both : ballots_in 1 2 backwards ≡ 2
-unfolding backwards ballots_in slot_bytes slot_of slots_of slot_at chain entry_at ballot_slots ballot_chain slot_count urn_slots
+unfolding backwards ballots_in slot_bytes slot_of slots_of slot_at chain entry_at ballot_slots ballot_chain slot_count
+    urn_slots
 both = refl
 
 -- Juror 9, in slot 1 of two slots, gave the better grade.

@@ -25,7 +25,8 @@ pub record StepReady (inputs : ℕ) (table : List ℕ) (from to : ℕ) (tape : L
 
 -- The wire table after the step: the earlier wires, those of the range, and the old contents after them.
 unfoldable pub step_wires : ℕ → List ℕ → ℕ → ℕ → List ℕ → List ℕ
-step_wires inputs table from to ws = wires_of (take (inputs + from) ws) (range_of table from to) ++ drop (inputs + to) ws
+step_wires inputs table from to ws = wires_of (take (inputs + from) ws) (range_of table from to)
+    ++ drop (inputs + to) ws
 
 -- The board after the step: the range's shown bits follow the earlier ones.
 unfoldable pub step_board : ℕ → List ℕ → ℕ → ℕ → List ℕ → ℕ → List ℕ → List ℕ → List ℕ

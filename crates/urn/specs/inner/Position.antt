@@ -8,4 +8,5 @@ use Rattle.urn_chains.specs.inner.Position.{position_of}
 -- The slot of the juror's ballot, and the slot before it in the ballot chain.
 unfoldable pub position_in : ℕ → ℕ → List ℕ → ℕ → ChainPosition
 position_in k d urn juror =
-    position_of (urn_slots k d urn) juror 0 (chain (slot_count (k * d) (length urn)) (get_or urn 0 0) (urn_slots k d urn))
+    position_of (urn_slots k d urn) juror 0
+        (chain (slot_count (k * d) (length urn)) (get_or urn 0 0) (urn_slots k d urn))
