@@ -110,8 +110,9 @@ fn lower_first(
 // Joins the results of both grades: e1 and s1 are those of the lower one, e2 and s2 those of the upper one.
 fn both_say(w: Writer, table: &mut [u32], q: u32, e1: u32, s1: u32, e2: u32, s2: u32) -> Writer
     requires { PartReady w 5 q }
-    ensures { Wrote w table.old (and_of e1 e2 ∷ xor_of e1 e2 ∷ xor_of (q + 5) (q + 4) ∷ mux_of e2 s2 s1 ∷ xor_of s1 s2
-        ∷ []) table.new result }
+    ensures { Wrote w table.old
+        (and_of e1 e2 ∷ xor_of e1 e2 ∷ xor_of (q + 5) (q + 4) ∷ mux_of e2 s2 s1 ∷ xor_of s1 s2 ∷ [])
+        table.new result }
 {
     let both = w.emit(table, kind::AND, e1, e2, 0);
     let one = both.emit(table, kind::XOR, e1, e2, 0);
@@ -123,8 +124,9 @@ fn both_say(w: Writer, table: &mut [u32], q: u32, e1: u32, s1: u32, e2: u32, s2:
 // Whether the lower grade overrules the upper one; wire e says whether the medians differ.
 fn lower_decides(w: Writer, table: &mut [u32], q: u32, e: u32) -> Writer
     requires { PartReady w 4 q }
-    ensures { Wrote w table.old (not_of e ∷ and_of (q + 8) (q + 9) ∷ and_of (q + 4) (q + 10) ∷ and_of (q + 11) (q + 3)
-        ∷ []) table.new result }
+    ensures { Wrote w table.old
+        (not_of e ∷ and_of (q + 8) (q + 9) ∷ and_of (q + 4) (q + 10) ∷ and_of (q + 11) (q + 3) ∷ [])
+        table.new result }
 {
     let equal = w.emit(table, kind::NOT, e, 0, 0);
     let against = equal.emit(table, kind::AND, q + 8, q + 9, 0);

@@ -14,6 +14,13 @@ use Rattle.graded_circuit.proofs.ContestLaws.{grade_fits, flags_end, key_some}
 use Rattle.graded_contest.proofs.contest.contest.Statement.{statement}
 use Rattle.graded_contest.proofs.contest.contest.Tie as tie
 
+-- The stages of the function, seen from later ones.
+abbrev after_struct_known_1_from_after_slice_known_3_1 : tie.After-slice_known-3-1 → tie.After-struct_known-1
+after_struct_known_1_from_after_slice_known_3_1 c = c.before.before.before.before.before.before.before.before
+
+abbrev after_compare_medians_compared_from_after_slice_known_3_1 : tie.After-slice_known-3-1 → tie.After-compare_medians-compared
+after_compare_medians_compared_from_after_slice_known_3_1 c = (after_struct_known_1_from_after_slice_known_3_1 c).before.before.before
+
 compare_medians_requires : tie.Need-compare_medians-compared-requires
 compare_medians_requires c κs =
     let s = c in
@@ -102,7 +109,7 @@ returns c =
     let s = l.ones_larger-s in
     let at = tie_break_below_at p n in
     wrote_then a.w a.table.now _ d.new.table d.result _ _ v.new.table v.result d.ensures v.ensures
-    (ap (λ (i : ℕ). tie_break_below p i a.x a.y e.result s.result p.digits a.high (p.grades - 2)) (compared h.before.before.before.before.before.before.before.before.before.before.before).place
+    (ap (λ (i : ℕ). tie_break_below p i a.x a.y e.result s.result p.digits a.high (p.grades - 2)) (compared (after_compare_medians_compared_from_after_slice_known_3_1 h)).place
     ∙ ap (λ (i : ℕ). tie_break_below p at a.x a.y i s.result p.digits a.high (p.grades - 2)) e.ensures
     ∙ ap (λ (i : ℕ). tie_break_below p at a.x a.y (ones_differ n (p.grades - 1) p.places) i p.digits
     a.high (p.grades - 2)) s.ensures)

@@ -14,6 +14,16 @@ use Rattle.graded_circuit.specs.TieBreak.{compare_and_reach}
 use Rattle.graded_contest.proofs.tie_break.compare_and_reach.Statement.{statement}
 use Rattle.graded_contest.proofs.tie_break.compare_and_reach.Tie as tie
 
+-- The stages of the function, seen from later ones.
+abbrev after_slice_known_3_1_from_after_slice_known_5_1 : tie.After-slice_known-5-1 → tie.After-slice_known-3-1
+after_slice_known_3_1_from_after_slice_known_5_1 c = c.before.before.before.before.before.before.before.before
+
+abbrev after_compare_halves_up_from_after_slice_known_5_1 : tie.After-slice_known-5-1 → tie.After-compare_halves-up
+after_compare_halves_up_from_after_slice_known_5_1 c = (after_slice_known_3_1_from_after_slice_known_5_1 c).before.before
+
+abbrev after_compare_halves_down_from_after_slice_known_5_1 : tie.After-slice_known-5-1 → tie.After-compare_halves-down
+after_compare_halves_down_from_after_slice_known_5_1 c = (after_slice_known_3_1_from_after_slice_known_5_1 c).before.before.before.before.before.before
+
 sub_low : tie.Need-overflow_sub-low
 sub_low c =
     omega (arith, c.requires)
@@ -107,14 +117,14 @@ returns c =
     let t₂ = c.compare_halves-up.new.table in
     let w₃ = c.reach-left.result in
     let t₃ = c.reach-left.new.table in
-    let e₂ : w₂.wire ≡ n + 2 * compare_span r = omega (arith, (up c.before.before.before.before.before.before.before.before.before.before).place) in
+    let e₂ : w₂.wire ≡ n + 2 * compare_span r = omega (arith, (up (after_compare_halves_up_from_after_slice_known_5_1 c)).place) in
     let e₃ : w₃.wire ≡ n + 2 * compare_span r + reach_span r = omega (arith, (left c.before.before.before.before.before.before).place) in
     wrote_then a.w a.table.now _ t₃ w₃ _ _ _ _
     (wrote_then a.w a.table.now _ t₂ w₂ _ _ _ _
     (wrote_then a.w a.table.now _ t₁ w₁ _ _ _ _ c.compare_halves-down.ensures
     c.compare_halves-up.ensures
     (ap (λ (k : ℕ). compare_cut k a.u a.v r a.high)
-    (down c.before.before.before.before.before.before.before.before.before.before.before.before.before.before).place))
+    (down (after_compare_halves_down_from_after_slice_known_5_1 c)).place))
     c.reach-left.ensures (ap (λ (k : ℕ). reach k a.a a.u a.bit r) e₂))
     c.reach.ensures (ap (λ (k : ℕ). reach k a.c a.v a.bit r) e₃)
 

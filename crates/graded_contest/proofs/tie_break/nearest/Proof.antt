@@ -16,6 +16,22 @@ use Rattle.gate_words.proofs.Standing.{Stands, stands, stands_after, room_of, wr
 use Rattle.graded_contest.proofs.tie_break.nearest.Statement.{statement}
 use Rattle.graded_contest.proofs.tie_break.nearest.Tie as tie
 
+-- The stages of the function, seen from later ones.
+abbrev after_sides_arg_1_from_after_first_of_arg_1 : tie.After-first_of-arg-1 → tie.After-sides-arg-1
+after_sides_arg_1_from_after_first_of_arg_1 c = c.before.before.before.before.before.before.before.before
+
+abbrev after_slice_known_1_from_after_first_of_arg_1 : tie.After-first_of-arg-1 → tie.After-slice_known-1
+after_slice_known_1_from_after_first_of_arg_1 c = (after_sides_arg_1_from_after_first_of_arg_1 c).before.before
+
+abbrev after_slice_known_2_1_from_after_slice_known_4_1 : tie.After-slice_known-4-1 → tie.After-slice_known-2-1
+after_slice_known_2_1_from_after_slice_known_4_1 c = c.before.before.before.before.before.before.before.before
+
+abbrev after_slice_known_1_from_after_slice_known_4_1 : tie.After-slice_known-4-1 → tie.After-slice_known-1
+after_slice_known_1_from_after_slice_known_4_1 c = (after_slice_known_2_1_from_after_slice_known_4_1 c).before.before.before.before.before
+
+abbrev after_sides_sided_from_after_slice_known_4_1 : tie.After-slice_known-4-1 → tie.After-sides-sided
+after_sides_sided_from_after_slice_known_4_1 c = (after_slice_known_2_1_from_after_slice_known_4_1 c).before.before
+
 -- the words of a key after the first, and its last word, are below wire n
 words : (x t r n : ℕ) → x + suc (suc t) * stride r ≤ n → (x + (r + 2) + t * stride r ≤ n)
     × (x + (t + 1) * (r + 2) + stride r ≤ n) × ((t + 1) * (r + 2) ≡ suc t * stride r)
@@ -153,8 +169,8 @@ add_first_of_2 : tie.Need-overflow_add-x
 add_first_of_2 c =
     omega (
       arith,
-      xs c.before.before.before.before.before.before.before.before.before.before,
-      small c.before.before.before.before.before.before.before.before.before.before,
+      xs (after_slice_known_1_from_after_first_of_arg_1 c),
+      small (after_slice_known_1_from_after_first_of_arg_1 c),
       c.requires.room.small,
     )
 
@@ -162,15 +178,15 @@ add_first_of_3 : tie.Need-overflow_add-y
 add_first_of_3 c =
     omega (
       arith,
-      ys c.before.before.before.before.before.before.before.before.before.before,
-      small c.before.before.before.before.before.before.before.before.before.before,
+      ys (after_slice_known_1_from_after_first_of_arg_1 c),
+      small (after_slice_known_1_from_after_first_of_arg_1 c),
       c.requires.room.small,
     )
 
 first_of_requires : tie.Need-first_of-requires
 first_of_requires c κs =
-    let x = xs c.before.before.before.before.before.before.before.before.before.before in
-    let y = ys c.before.before.before.before.before.before.before.before.before.before in
+    let x = xs (after_slice_known_1_from_after_first_of_arg_1 c) in
+    let y = ys (after_slice_known_1_from_after_first_of_arg_1 c) in
     let p = (down c.before.before.before).place in
     record {
       room = (down c.before.before.before).left;
@@ -196,15 +212,15 @@ returns c =
     let e₁ : below ≡ below_at n r = omega arith in
     let e₂ : below + 1 ≡ from_at n r = omega arith in
     let ex : a.x + (t + 1) * (r + 2) ≡ far_at a.x r t =
-    ap (λ (k : ℕ). a.x + k) (xs c.before.before.before.before.before.before.before.before.before.before.before.before.before).2 in
+    ap (λ (k : ℕ). a.x + k) (xs (after_slice_known_1_from_after_slice_known_4_1 c)).2 in
     let ey : a.y + (t + 1) * (r + 2) ≡ far_at a.y r t =
-    ap (λ (k : ℕ). a.y + k) (ys c.before.before.before.before.before.before.before.before.before.before.before.before.before).2 in
+    ap (λ (k : ℕ). a.y + k) (ys (after_slice_known_1_from_after_slice_known_4_1 c)).2 in
     wrote_then a.w a.table.now _ c.last_of-down.new.table
     c.last_of-down.result _ _ _ _
     (wrote_then a.w a.table.now _ c.sides-sided.new.table
     c.sides-sided.result _ _ _ _
     c.sides-sided.ensures c.last_of-down.ensures
-    (ap (λ (k : ℕ). last_words k below x y a.x a.y r t) (sided c.before.before.before.before.before.before.before.before.before.before).place
+    (ap (λ (k : ℕ). last_words k below x y a.x a.y r t) (sided (after_sides_sided_from_after_slice_known_4_1 c)).place
     ∙ ap (λ (k : ℕ). last_words (down_at n r t) k x y a.x a.y r t) e₁))
     c.first_of.ensures
     (ap (λ (k : ℕ). first_words k (below + 1) x y (a.x + (t + 1) * (r + 2)) (a.y + (t + 1) * (r + 2)) r t)

@@ -19,6 +19,34 @@ use Rattle.graded_keys.proofs.Steps.{product_most}
 use Rattle.graded_contest.proofs.tie_break.tie_break.Statement.{statement}
 use Rattle.graded_contest.proofs.tie_break.tie_break.Tie as tie
 
+-- The stages of the function, seen from later ones.
+abbrev after_nearest_arg_1_from_after_resolve_at_arg_1 : tie.After-resolve_at-arg-1 → tie.After-nearest-arg-1
+after_nearest_arg_1_from_after_resolve_at_arg_1 c = c.before.before.before.before.before.before.before.before
+
+abbrev after_slice_known_1_from_after_resolve_at_arg_1 : tie.After-resolve_at-arg-1 → tie.After-slice_known-1
+after_slice_known_1_from_after_resolve_at_arg_1 c = (after_nearest_arg_1_from_after_resolve_at_arg_1 c).before.before.before.before.before.before.before
+
+abbrev after_slice_known_2_1_from_after_slice_known_4_1 : tie.After-slice_known-4-1 → tie.After-slice_known-2-1
+after_slice_known_2_1_from_after_slice_known_4_1 c = c.before.before.before.before.before.before.before.before
+
+abbrev after_nearest_chosen_from_after_slice_known_4_1 : tie.After-slice_known-4-1 → tie.After-nearest-chosen
+after_nearest_chosen_from_after_slice_known_4_1 c = (after_slice_known_2_1_from_after_slice_known_4_1 c).before.before
+
+abbrev after_slice_known_1_from_after_slice_known_4_1 : tie.After-slice_known-4-1 → tie.After-slice_known-1
+after_slice_known_1_from_after_slice_known_4_1 c = (after_nearest_chosen_from_after_slice_known_4_1 c).before.before.before.before.before.before.before.before
+
+abbrev after_left_end_a_from_after_slice_known_4_1 : tie.After-slice_known-4-1 → tie.After-left_end-a
+after_left_end_a_from_after_slice_known_4_1 c = (after_slice_known_2_1_from_after_slice_known_4_1 c).before.before.before.before.before.before.before.before
+
+abbrev after_right_end_c_from_after_slice_known_4_1 : tie.After-slice_known-4-1 → tie.After-right_end-c
+after_right_end_c_from_after_slice_known_4_1 c = (after_slice_known_2_1_from_after_slice_known_4_1 c).before.before.before.before.before.before.before
+
+abbrev after_left_end_u_from_after_slice_known_4_1 : tie.After-slice_known-4-1 → tie.After-left_end-u
+after_left_end_u_from_after_slice_known_4_1 c = (after_slice_known_2_1_from_after_slice_known_4_1 c).before.before.before.before.before.before
+
+abbrev after_right_end_v_from_after_slice_known_4_1 : tie.After-slice_known-4-1 → tie.After-right_end-v
+after_right_end_v_from_after_slice_known_4_1 c = (after_slice_known_2_1_from_after_slice_known_4_1 c).before.before.before.before.before
+
 -- The products that the code forms are small, and are those of the definition.
 record Products (r t : ℕ) : Type 0 where
   side_small : t * (2 * r + 3) ≤ 102
@@ -295,7 +323,7 @@ add_resolve_at c =
           c.args.above
           c.args.between
           c.args.w.wire
-          (prods c.before.before.before.before.before.before.before.before.before.before.before.before.before.before.before)
+          (prods (after_slice_known_1_from_after_resolve_at_arg_1 c))
           c.requires.first_below,
       c.requires.room.small,
       c.requires.narrow,
@@ -309,7 +337,7 @@ add_resolve_at_2 c =
           c.args.above
           c.args.between
           c.args.w.wire
-          (prods c.before.before.before.before.before.before.before.before.before.before.before.before.before.before.before)
+          (prods (after_slice_known_1_from_after_resolve_at_arg_1 c))
           c.requires.first_below,
       c.requires.room.small,
       c.requires.narrow,
@@ -323,7 +351,7 @@ add_resolve_at_3 c =
           c.args.above
           c.args.between
           c.args.w.wire
-          (prods c.before.before.before.before.before.before.before.before.before.before.before.before.before.before.before)
+          (prods (after_slice_known_1_from_after_resolve_at_arg_1 c))
           c.requires.first_below,
       c.requires.room.small,
       c.requires.narrow,
@@ -337,7 +365,7 @@ add_resolve_at_4 c =
           c.args.above
           c.args.between
           c.args.w.wire
-          (prods c.before.before.before.before.before.before.before.before.before.before.before.before.before.before.before)
+          (prods (after_slice_known_1_from_after_resolve_at_arg_1 c))
           c.requires.first_below,
       c.requires.room.small,
       c.requires.narrow,
@@ -351,7 +379,7 @@ add_resolve_at_5 c =
           c.args.above
           c.args.between
           c.args.w.wire
-          (prods c.before.before.before.before.before.before.before.before.before.before.before.before.before.before.before)
+          (prods (after_slice_known_1_from_after_resolve_at_arg_1 c))
           c.requires.first_below,
       c.requires.room.small,
       c.requires.narrow,
@@ -365,25 +393,25 @@ returns c =
     let t = a.between in
     let n = a.w.wire in
     let em : c.nearest-chosen.result.wire ≡ nearest_end n r t =
-    omega (arith, (chosen c.before.before.before.before.before.before.before.before.before.before).place) in
+    omega (arith, (chosen (after_nearest_chosen_from_after_slice_known_4_1 c)).place) in
     let eq : c.compare_and_reach-compared.result.wire ≡ resolve_at n r t =
     omega (arith, (summed c.before.before.before.before.before.before).place) in
     let ef : a.x + r + 1 ≡ a.x + suc r = omega arith in
     let eg : a.x + (t + 1) * (r + 2) + r + 1 ≡ far_at a.x r t + suc r =
-    omega (arith, (prods c.before.before.before.before.before.before.before.before.before.before.before.before.before.before.before.before.before.before).far_is) in
+    omega (arith, (prods (after_slice_known_1_from_after_slice_known_4_1 c)).far_is) in
     wrote_then a.w a.table.now _ c.compare_and_reach-compared.new.table
     c.compare_and_reach-compared.result _ _ _ _
     (wrote_then a.w a.table.now _ c.nearest-chosen.new.table
     c.nearest-chosen.result _ _ _ _
     c.nearest-chosen.ensures
     c.compare_and_reach-compared.ensures
-    (same_compared a.bit r em (a_is c.before.before.before.before.before.before.before.before.before.before.before.before.before.before.before.before)
-    (c_is c.before.before.before.before.before.before.before.before.before.before.before.before.before.before.before) (u_is c.before.before.before.before.before.before.before.before.before.before.before.before.before.before)
-    (v_is c.before.before.before.before.before.before.before.before.before.before.before.before.before)
+    (same_compared a.bit r em (a_is (after_left_end_a_from_after_slice_known_4_1 c))
+    (c_is (after_right_end_c_from_after_slice_known_4_1 c)) (u_is (after_left_end_u_from_after_slice_known_4_1 c))
+    (v_is (after_right_end_v_from_after_slice_known_4_1 c))
     c.chosen_high-cut.ensures))
     c.resolve_at.ensures
-    (same_resolved a.e a.s r eq em (a_is c.before.before.before.before.before.before.before.before.before.before.before.before.before.before.before.before)
-    (u_is c.before.before.before.before.before.before.before.before.before.before.before.before.before.before) ef eg)
+    (same_resolved a.e a.s r eq em (a_is (after_left_end_a_from_after_slice_known_4_1 c))
+    (u_is (after_left_end_u_from_after_slice_known_4_1 c)) ef eg)
 
 mul_down : tie.Need-overflow_mul-down
 mul_down c =
