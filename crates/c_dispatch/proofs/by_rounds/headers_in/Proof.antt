@@ -11,39 +11,39 @@ use Rattle.c_dispatch.proofs.by_rounds.headers_in.Tie as tie
 cons : (a b : JuryHeader) (xs ys : List JuryHeader) → a ≡ b → xs ≡ ys → a ∷ xs ≡ b ∷ ys
 cons a b xs ys e f = ap (λ (s : JuryHeader). s ∷ xs) e ∙ ap (λ (l : List JuryHeader). b ∷ l) f
 
-header_at_requires : tie.Need-header-at-requires
+header_at_requires : tie.Need-header_at-requires
 header_at_requires c κs = search rules
 
-header_at_requires_2 : tie.Need-header-at-requires-2
+header_at_requires_2 : tie.Need-header_at-requires-2
 header_at_requires_2 c κs = search rules
 
-header_at_requires_3 : tie.Need-header-at-requires-3
+header_at_requires_3 : tie.Need-header_at-requires-3
 header_at_requires_3 c κs = search rules
 
-header_at_requires_4 : tie.Need-header-at-requires-4
+header_at_requires_4 : tie.Need-header_at-requires-4
 header_at_requires_4 c κs = search rules
 
-header_at_requires_5 : tie.Need-header-at-requires-5
+header_at_requires_5 : tie.Need-header_at-requires-5
 header_at_requires_5 c κs = search rules
 
-header_at_requires_6 : tie.Need-header-at-requires-6
+header_at_requires_6 : tie.Need-header_at-requires-6
 header_at_requires_6 c κs = search rules
 
-header_at_requires_7 : tie.Need-header-at-requires-7
+header_at_requires_7 : tie.Need-header_at-requires-7
 header_at_requires_7 c κs = search rules
 
-header_at_requires_8 : tie.Need-header-at-requires-8
+header_at_requires_8 : tie.Need-header_at-requires-8
 header_at_requires_8 c κs = search rules
 
 returns : tie.Need-returns
 unfolding headers_in
-returns c = cons _ _ _ _ c.before.before.before.before.before.before.before.header_at.ensures
-    (cons _ _ _ _ c.before.before.before.before.before.before.header-at2.ensures
-    (cons _ _ _ _ c.before.before.before.before.before.header-at3.ensures
-    (cons _ _ _ _ c.before.before.before.before.header-at4.ensures
-    (cons _ _ _ _ c.before.before.before.header-at5.ensures
-    (cons _ _ _ _ c.before.before.header-at6.ensures
-    (cons _ _ _ _ c.before.header-at7.ensures (cons _ _ _ _ c.header-at8.ensures (refl))))))))
+returns c = cons _ _ _ _ c.header_at.ensures
+    (cons _ _ _ _ c.header_at-2.ensures
+    (cons _ _ _ _ c.header_at-3.ensures
+    (cons _ _ _ _ c.header_at-4.ensures
+    (cons _ _ _ _ c.header_at-5.ensures
+    (cons _ _ _ _ c.header_at-6.ensures
+    (cons _ _ _ _ c.header_at-7.ensures (cons _ _ _ _ c.header_at-8.ensures (refl))))))))
 
 pub headers_in_spec : {M : Type 1} → statement M
 headers_in_spec =

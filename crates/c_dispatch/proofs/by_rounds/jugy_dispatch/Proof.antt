@@ -20,58 +20,47 @@ with_headers s headers =
     record {
       count = a.count;
       headers = headers;
-      gates_per_round = a.gates-per-round;
+      gates_per_round = a.gates_per_round;
       tables = tables_of a.lists.now a.ballots.now a.tapes.now a.wires.now a.boards.now;
     }
 
 abbrev call : tie.Start → Call
 call s = with_headers s (headers_in s.args.headers.now)
 
--- The stages: the answer array is too short; it is long enough; the headers are read; the dispatcher has run.
-abbrev started_short : tie.Then1 → tie.Start
-started_short c = c.before.before.before.before.before.before.before.before
-
-abbrev started : tie.Else1 → tie.Start
-started c = c.before.before.before.before.before.before.before.before
-
-returns : tie.Need-returns
+returns : tie.Need-returns-then-answer-lt-DISPATCH_ANSWER
 returns c =
-    let of = call (started_short c) in
+    let of = call c.before.before.before.before.before.before.before.before in
     let r = dispatch_result of in
-    short_call dispatch_answer (started_short c).args.answer.now c.if1.true (dispatch_numbers r)
+    short_call dispatch_answer c.args.answer.now c.if-answer-lt-DISPATCH_ANSWER.true (dispatch_numbers r)
     (of.tables.wires ∷ of.tables.boards ∷ []) (r.wires ∷ r.boards ∷ [])
 
-headers_in_requires : tie.Need-headers-in-requires
+headers_in_requires : tie.Need-headers_in-stated-requires
 headers_in_requires c κs = search rules
 
-dispatch_requires : tie.Need-dispatch-requires
+dispatch_requires : tie.Need-dispatch-outcome-requires
 dispatch_requires c κs = search rules
 
-put_rounds_requires : tie.Need-put-rounds-requires
+put_rounds_requires : tie.Need-put_rounds-requires
 put_rounds_requires c κs = search rules
 
-same_length : tie.Need-same-length
+same_length : tie.Need-shape_of-wires
 same_length c = search rules
 
-same_length_2 : tie.Need-same-length-2
+same_length_2 : tie.Need-shape_of-boards
 same_length_2 c = search rules
 
-same_length_3 : tie.Need-same-length-3
+same_length_3 : tie.Need-shape_of-answer
 same_length_3 c = search rules
 
-returns_2 : tie.Need-returns-2
+returns_2 : tie.Need-returns
 returns_2 c =
-    let told = c.before.before.before.before in
-    let ran = told.before.before.before.before.before in
-    let read = ran.before.before.before in
-    let long = read.before in
-    let start = started long in
+    let start = c.before.before.before.before.before.before.before.before.before.before.before.before.before.before.before.before.before.before.before.before.before in
     let of = call start in
     let r = dispatch_result of in
-    let left = ran.dispatch.ensures
-    ∙ ap (λ (z : List JuryHeader). dispatch_result (with_headers start z)) read.headers-in.ensures in
-    put_call dispatch_answer start.args.answer.now long.if1.false (dispatch_numbers r) _ _ _
-    c.before.before.put-rounds.ensures (ap dispatch_numbers left)
+    let left = c.dispatch-outcome.ensures
+    ∙ ap (λ (z : List JuryHeader). dispatch_result (with_headers start z)) c.headers_in-stated.ensures in
+    put_call dispatch_answer start.args.answer.now c.if-answer-lt-DISPATCH_ANSWER.false (dispatch_numbers r) _ _ _
+    c.put_rounds.ensures (ap dispatch_numbers left)
     (of.tables.wires ∷ of.tables.boards ∷ []) (r.wires ∷ r.boards ∷ []) _
     (ap (λ (z : DispatchResult). z.wires ∷ z.boards ∷ []) left)
 
