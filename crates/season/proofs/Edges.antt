@@ -29,12 +29,14 @@ short = refl
 
 -- a winner that is no candidate: the second run is the first bad one
 stranger : first_of (sheet_reasons (run 3 ++ run 4 ++ run 4)) ≡ some (reason_at 22 1)
-unfolding first_of sheet_reasons unless found_at first_bad_run runs_in first_runs good_run is_ranking graded_limits ranked_limits within_limits run_of number_at run
+unfolding first_of sheet_reasons unless found_at first_bad_run runs_in first_runs good_run is_ranking graded_limits ranked_limits within_limits run_of
+    number_at run
 stranger = refl
 
 -- a run of rankings is good, one with a single grade is not
 ranked : first_of (sheet_reasons (kind_run 0 ++ kind_run 1)) ≡ some (reason_at 22 1)
-unfolding first_of sheet_reasons unless found_at first_bad_run runs_in first_runs good_run is_ranking graded_limits ranked_limits within_limits run_of number_at kind_run
+unfolding first_of sheet_reasons unless found_at first_bad_run runs_in first_runs good_run is_ranking graded_limits ranked_limits within_limits run_of
+    number_at kind_run
 ranked = refl
 
 -- two runs, one of them shared, one without a winner

@@ -137,7 +137,8 @@ ballots_from ns among s xs a =
 
 pub ballots_all : (s : Shape) (xs : List ℕ) → All ballot_reason_numbers (ballot_reasons s xs)
 unfolding all member reason_at
-ballots_all s xs = ballots_from ballot_reason_numbers tt s xs (wider ballot_kind_reason_numbers ballot_reason_numbers tt (ballot_kind_reasons s xs) (kind_all s xs))
+ballots_all s xs =
+    ballots_from ballot_reason_numbers tt s xs (wider ballot_kind_reason_numbers ballot_reason_numbers tt (ballot_kind_reasons s xs) (kind_all s xs))
 
 pub test_all : (s : Shape) (table : List ℕ) → All test_reason_numbers (test_reasons s table)
 unfolding All test_reasons member reason_at

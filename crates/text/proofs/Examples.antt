@@ -9,7 +9,8 @@ use Rattle.text.specs.Text.{in_front, lines_of, malformed_at, first_malformed}
 use Rattle.text.specs.Examples.{TextExamples}
 
 pub text_examples : TextExamples
-unfolding bind decimal_within decimal is_digit digits_in number_in known_kind operand_in end_in gate_in only gate_of in_front lines_of malformed_at first_malformed
+unfolding bind decimal_within decimal is_digit digits_in number_in known_kind operand_in end_in gate_in only gate_of in_front lines_of malformed_at
+    first_malformed
 text_examples =
     record {
       zero_is = refl;

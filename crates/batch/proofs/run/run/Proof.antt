@@ -19,6 +19,13 @@ use Rattle.batch.proofs.Reasons.{batch_passed, batch_ready, result_by, same_resu
 use Rattle.batch.proofs.run.run.Statement.{statement}
 use Rattle.batch.proofs.run.run.Tie as tie
 
+-- The stages of the function, seen from later ones.
+abbrev after_run_from_after_slice_known_in_accepted_3_1 : tie.After-slice_known-in-Accepted-3-1 → tie.After-run
+after_run_from_after_slice_known_in_accepted_3_1 c = c.before.before.before.before.before.before.before.before
+
+abbrev in_accepted_from_after_slice_known_in_accepted_3_1 : tie.After-slice_known-in-Accepted-3-1 → tie.In-Accepted
+in_accepted_from_after_slice_known_in_accepted_3_1 c = (after_run_from_after_slice_known_in_accepted_3_1 c).before.before.before
+
 -- This call, from its arguments at the start.
 abbrev call : tie.Start → Call
 call s =
@@ -49,7 +56,8 @@ no_reason c =
 run_requires : tie.Need-run-requires
 run_requires c κs =
     let told = c.before.before in
-    batch_ready (call told.before.before.before.before.before.before.before) (batch_passed (call told.before.before.before.before.before.before.before) (no_reason told))
+    batch_ready (call told.before.before.before.before.before.before.before)
+        (batch_passed (call told.before.before.before.before.before.before.before) (no_reason told))
 
 empty_words_requires : tie.Need-empty_words-requires
 empty_words_requires c κs = search rules
@@ -68,7 +76,7 @@ unfolding outcome batch_result_after
 returns c =
     let emptied = c in
     let done = emptied in
-    let told = done.before.before.before.before.before.before.before.before.before.before.before in
+    let told = (in_accepted_from_after_slice_known_in_accepted_3_1 done) in
     let of = call told.before.before.before.before.before.before.before in
     let p = batch_passed of (no_reason told) in
     let e = result_by of none (no_reason told) in

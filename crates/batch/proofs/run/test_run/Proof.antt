@@ -18,6 +18,25 @@ use Rattle.batch.proofs.Reasons.{by_test, by_ballots, by_lent}
 use Rattle.batch.proofs.run.test_run.Statement.{statement}
 use Rattle.batch.proofs.run.test_run.Tie as tie
 
+-- The stages of the function, seen from later ones.
+abbrev after_shared_slice_known_1_from_in_default_test : tie.In_default-test → tie.After-shared_slice_known-1
+after_shared_slice_known_1_from_in_default_test c = c.before.before.before.before.before.before.before.before
+
+abbrev start_from_in_default_test : tie.In_default-test → tie.Start
+start_from_in_default_test c = (after_shared_slice_known_1_from_in_default_test c).before
+
+abbrev after_shared_slice_known_3_1_from_after_test_buffers : tie.After-test_buffers → tie.After-shared_slice_known-3-1
+after_shared_slice_known_3_1_from_after_test_buffers c = c.before.before.before.before.before.before.before.before
+
+abbrev start_from_after_test_buffers : tie.After-test_buffers → tie.Start
+start_from_after_test_buffers c = (after_shared_slice_known_3_1_from_after_test_buffers c).before.before.before
+
+abbrev after_shared_slice_known_4_1_from_in_refused_test_buffers : tie.In-Refused-test_buffers → tie.After-shared_slice_known-4-1
+after_shared_slice_known_4_1_from_in_refused_test_buffers c = c.before.before.before.before.before.before.before.before
+
+abbrev start_from_in_refused_test_buffers : tie.In-Refused-test_buffers → tie.Start
+start_from_in_refused_test_buffers c = (after_shared_slice_known_4_1_from_in_refused_test_buffers c).before.before.before.before
+
 -- This call, from its arguments at the start.
 abbrev call : tie.Start → Call
 call s =
@@ -41,7 +60,8 @@ refuses s r e = sym (ap (λ (o : Option Reason). outcome o (size_of (gates_of (c
 size : tie.In-Accepted → Size
 size c = record { gates = c.in-Accepted.gates; conditional = c.in-Accepted.conditional }
 
-passed : (c : tie.In-Accepted) → TestPassed (call c.before.before.before.before.before.before.before).shape (call c.before.before.before.before.before.before.before).table (size c)
+passed : (c : tie.In-Accepted) → TestPassed (call c.before.before.before.before.before.before.before).shape
+    (call c.before.before.before.before.before.before.before).table (size c)
 unfolding outcome_of size
 passed c =
     let of = call c.before.before.before.before.before.before.before in
@@ -50,7 +70,7 @@ passed c =
 
 -- no reason of the ballots applies
 no_reason : (c : tie.In_default-test)
-    → let of = call c.before.before.before.before.before.before.before.before.before in first_of (word_ballot_reasons of.shape of.ballots) ≡ none
+    → let of = call (start_from_in_default_test c) in first_of (word_ballot_reasons of.shape of.ballots) ≡ none
 unfolding refused_for
 no_reason c = sym c.test.ensures ∙ ap refused_for c.in_default-test.is
 
@@ -105,7 +125,7 @@ enum_told_3 c = search rules
 
 -- if the tests before have passed, the tests 7, 9 and 10 decide
 lent_answer : (c : tie.After-test_buffers)
-    → first_of (batch_reasons (call c.before.before.before.before.before.before.before.before.before.before.before)) ≡ refused_for c.test_buffers.result
+    → first_of (batch_reasons (call (start_from_after_test_buffers c))) ≡ refused_for c.test_buffers.result
 unfolding size
 lent_answer c =
     let passes = c in
@@ -121,7 +141,7 @@ unfolding outcome_of refused_for
 returns_3 c =
     let lent = c in
     let r = reason_of c.in-Refused-test_buffers.reason in
-    refuses lent.before.before.before.before.before.before.before.before.before.before.before.before r (lent_answer lent.before ∙ ap refused_for c.in-Refused-test_buffers.is)
+    refuses (start_from_in_refused_test_buffers lent) r (lent_answer lent.before ∙ ap refused_for c.in-Refused-test_buffers.is)
 
 returns_4 : tie.Need-returns-in-Accepted-test_buffers
 unfolding test_outcome refused_for
@@ -130,7 +150,8 @@ returns_4 c =
     let told = lent.before.before.before.before.before in
     let none_applies = lent_answer lent.before ∙ ap refused_for c.in-Accepted-test_buffers.is in
     sym (ap outcome_of told.in-Accepted.is) ∙ told.test-answer.ensures
-    ∙ ap (λ (o : Option Reason). outcome o (size_of (gates_of (call told.before.before.before.before.before.before.before).table))) ((passed told).reasons ∙ sym none_applies)
+    ∙ ap (λ (o : Option Reason). outcome o (size_of (gates_of (call told.before.before.before.before.before.before.before).table))) ((passed told).reasons
+        ∙ sym none_applies)
 
 pub test_run_spec : {M : Type 1} → statement M
 test_run_spec =

@@ -21,6 +21,22 @@ use Rattle.c_answers.proofs.Answering.{short_call, put_call}
 use Rattle.c_trustees.proofs.by_trustees.jugy_trustees.Statement.{statement}
 use Rattle.c_trustees.proofs.by_trustees.jugy_trustees.Tie as tie
 
+-- The stages of the function, seen from later ones.
+abbrev after_slice_known_2_1_from_after_slice_known_in_default_1 : tie.After-slice_known-in_default-1 → tie.After-slice_known-2-1
+after_slice_known_2_1_from_after_slice_known_in_default_1 c = c.before.before.before.before.before.before.before.before
+
+abbrev start_from_after_slice_known_in_default_1 : tie.After-slice_known-in_default-1 → tie.Start
+start_from_after_slice_known_in_default_1 c = (after_slice_known_2_1_from_after_slice_known_in_default_1 c).before.before.before.before.before.before
+
+abbrev after_run_outcome_from_after_slice_known_6_1 : tie.After-slice_known-6-1 → tie.After-run-outcome
+after_run_outcome_from_after_slice_known_6_1 c = c.before.before.before.before.before.before.before.before
+
+abbrev else_answer_lt_tally_answer_from_after_slice_known_6_1 : tie.After-slice_known-6-1 → tie.Else-answer-lt-TALLY_ANSWER
+else_answer_lt_tally_answer_from_after_slice_known_6_1 c = (after_run_outcome_from_after_slice_known_6_1 c).before.before.before.before.before
+
+abbrev start_from_after_slice_known_6_1 : tie.After-slice_known-6-1 → tie.Start
+start_from_after_slice_known_6_1 c = (else_answer_lt_tally_answer_from_after_slice_known_6_1 c).before.before.before.before.before.before.before.before
+
 -- The call for a shape, by its other arguments at the start; and this call.
 abbrev call_for : Shape → tie.Start → Call
 call_for s start =
@@ -69,7 +85,7 @@ returns_2 c =
     let told = c in
     let made = told in
     let long = made in
-    let of = call long.before.before.before.before.before.before.before.before.before.before.before.before.before.before in
+    let of = call (start_from_after_slice_known_in_default_1 long) in
     let outside = outside_is (within_limits of.shape) of.shape (sym made.new.ensures.result ∙ told.in_default.is) in
     let r = trustees_result of in
     let left = result_by of (some (reason_at 1 0)) (by_test of (reason_at 1 0) (outside_list of.shape of.table outside)) in
@@ -100,11 +116,17 @@ returns_3 c =
     let known = outcome in
     let made = known in
     let long = made in
-    let of = call long.before.before.before.before.before.before.before.before.before.before.before.before.before.before.before.before.before.before.before.before.before in
+    let of = call
+        (start_from_after_slice_known_6_1 long)
+        in
     let same = shape_is (within_limits of.shape) of.shape known.in-Within.shape
     (sym made.new.ensures.result ∙ known.in-Within.is) in
     let r = trustees_result of in
-    let left = outcome.run-outcome.ensures ∙ ap (λ (z : Shape). trustees_result (call_for z long.before.before.before.before.before.before.before.before.before.before.before.before.before.before.before.before.before.before.before.before.before)) same in
+    let left = outcome.run-outcome.ensures
+        ∙ ap (λ (z : Shape).
+        trustees_result
+        (call_for z
+        (start_from_after_slice_known_6_1 long))) same in
     put_call tally_answer long.args.answer.now long.if-answer-lt-TALLY_ANSWER.false (tally_numbers r.answer r.closing) _ _ _
     c.put_tally-2.ensures (ap (λ (z : TrusteesResult). tally_numbers z.answer z.closing) left)
     (of.lent.wire_parts ∷ of.lent.published ∷ []) (r.wire_parts ∷ r.published ∷ []) _

@@ -16,6 +16,19 @@ use Rattle.c_answers.proofs.Answering.{short_call, put_call}
 use Rattle.c_trustees.proofs.one_trustee.jugy_trustee_finish.Statement.{statement}
 use Rattle.c_trustees.proofs.one_trustee.jugy_trustee_finish.Tie as tie
 
+-- The stages of the function, seen from later ones.
+abbrev after_slice_known_1_from_after_slice_known_in_default_1 : tie.After-slice_known-in_default-1 → tie.After-slice_known-1
+after_slice_known_1_from_after_slice_known_in_default_1 c = c.before.before.before.before.before.before.before.before
+
+abbrev start_from_after_slice_known_in_default_1 : tie.After-slice_known-in_default-1 → tie.Start
+start_from_after_slice_known_in_default_1 c = (after_slice_known_1_from_after_slice_known_in_default_1 c).before.before
+
+abbrev in_within_from_after_slice_known_4_1 : tie.After-slice_known-4-1 → tie.In-Within
+in_within_from_after_slice_known_4_1 c = c.before.before.before.before.before.before.before.before
+
+abbrev start_from_after_slice_known_4_1 : tie.After-slice_known-4-1 → tie.Start
+start_from_after_slice_known_4_1 c = (in_within_from_after_slice_known_4_1 c).before.before.before.before.before.before
+
 -- What the entry point leaves for a shape, by its other arguments at the start; and what this call leaves.
 abbrev left_for : Shape → tie.Start → FinishResult
 left_for s start =
@@ -56,7 +69,7 @@ returns_2 c =
     let a = long.args in
     let s = shape_of a.candidates a.grades a.ballots in
     let outside = outside_is (within_limits s) s (sym made.new.ensures.result ∙ told.in_default.is) in
-    let r = left_by long.before.before.before.before.before.before.before.before.before.before in
+    let r = left_by (start_from_after_slice_known_in_default_1 long) in
     let left = outside_finish s outside a.table.now a.wires.now in
     put_call size_answer a.answer.now long.if-answer-lt-SIZE_ANSWER.false (size_numbers r.answer) _ _ _ c.put_size.ensures
     (ap (λ (z : FinishResult). size_numbers z.answer) (sym left)) (a.wires.now ∷ []) (r.wires ∷ []) _
@@ -84,8 +97,9 @@ returns_3 c =
     let a = long.args in
     let s = shape_of a.candidates a.grades a.ballots in
     let same = shape_is (within_limits s) s known.in-Within.shape (sym made.new.ensures.result ∙ known.in-Within.is) in
-    let r = left_by long.before.before.before.before.before.before.before.before.before.before.before.before.before.before in
-    let left = outcome.finish-outcome.ensures ∙ ap (λ (z : Shape). left_for z long.before.before.before.before.before.before.before.before.before.before.before.before.before.before) same in
+    let r = left_by (start_from_after_slice_known_4_1 long) in
+    let left = outcome.finish-outcome.ensures
+        ∙ ap (λ (z : Shape). left_for z (start_from_after_slice_known_4_1 long)) same in
     put_call size_answer a.answer.now long.if-answer-lt-SIZE_ANSWER.false (size_numbers r.answer) _ _ _ c.put_size-2.ensures
     (ap (λ (z : FinishResult). size_numbers z.answer) left) (a.wires.now ∷ []) (r.wires ∷ []) _
     (ap (λ (z : FinishResult). z.wires ∷ []) left)

@@ -18,6 +18,22 @@ use Rattle.c_answers.proofs.Answering.{short_call, put_call}
 use Rattle.c_trustees.proofs.one_trustee.jugy_trustee_round.Statement.{statement}
 use Rattle.c_trustees.proofs.one_trustee.jugy_trustee_round.Tie as tie
 
+-- The stages of the function, seen from later ones.
+abbrev after_slice_known_2_1_from_after_slice_known_in_default_1 : tie.After-slice_known-in_default-1 → tie.After-slice_known-2-1
+after_slice_known_2_1_from_after_slice_known_in_default_1 c = c.before.before.before.before.before.before.before.before
+
+abbrev start_from_after_slice_known_in_default_1 : tie.After-slice_known-in_default-1 → tie.Start
+start_from_after_slice_known_in_default_1 c = (after_slice_known_2_1_from_after_slice_known_in_default_1 c).before.before.before.before.before.before
+
+abbrev after_round_outcome_from_after_slice_known_6_1 : tie.After-slice_known-6-1 → tie.After-round-outcome
+after_round_outcome_from_after_slice_known_6_1 c = c.before.before.before.before.before.before.before.before
+
+abbrev else_answer_lt_three_answer_from_after_slice_known_6_1 : tie.After-slice_known-6-1 → tie.Else-answer-lt-THREE_ANSWER
+else_answer_lt_three_answer_from_after_slice_known_6_1 c = (after_round_outcome_from_after_slice_known_6_1 c).before.before.before.before.before
+
+abbrev start_from_after_slice_known_6_1 : tie.After-slice_known-6-1 → tie.Start
+start_from_after_slice_known_6_1 c = (else_answer_lt_three_answer_from_after_slice_known_6_1 c).before.before.before.before.before.before.before.before
+
 -- What the entry point leaves for a shape, by its other arguments at the start; and what this call leaves.
 abbrev left_for : Shape → tie.Start → OwnResult Depths
 left_for s start =
@@ -60,7 +76,7 @@ returns_2 c =
     let a = long.args in
     let s = shape_of a.candidates a.grades a.ballots in
     let outside = outside_is (within_limits s) s (sym made.new.ensures.result ∙ told.in_default.is) in
-    let r = left_by long.before.before.before.before.before.before.before.before.before.before.before.before.before.before in
+    let r = left_by (start_from_after_slice_known_in_default_1 long) in
     let left = outside_round s outside a.table.now a.trustees a.trustee a.round a.levels.now
     a.triples.now a.heard.now a.wires.now a.published.now in
     put_call three_answer a.answer.now long.if-answer-lt-THREE_ANSWER.false (depth_numbers r.answer) _ _ _ c.put_depths.ensures
@@ -92,8 +108,13 @@ returns_3 c =
     let a = long.args in
     let s = shape_of a.candidates a.grades a.ballots in
     let same = shape_is (within_limits s) s known.in-Within.shape (sym made.new.ensures.result ∙ known.in-Within.is) in
-    let r = left_by long.before.before.before.before.before.before.before.before.before.before.before.before.before.before.before.before.before.before.before.before.before in
-    let left = outcome.round-outcome.ensures ∙ ap (λ (z : Shape). left_for z long.before.before.before.before.before.before.before.before.before.before.before.before.before.before.before.before.before.before.before.before.before) same in
+    let r = left_by
+        (start_from_after_slice_known_6_1 long)
+        in
+    let left = outcome.round-outcome.ensures
+        ∙ ap (λ (z : Shape).
+        left_for z
+        (start_from_after_slice_known_6_1 long)) same in
     put_call three_answer a.answer.now long.if-answer-lt-THREE_ANSWER.false (depth_numbers r.answer) _ _ _ c.put_depths-2.ensures
     (ap (λ (z : OwnResult Depths). depth_numbers z.answer) left) (a.wires.now ∷ a.published.now ∷ [])
     (r.wires ∷ r.published ∷ []) _ (ap (λ (z : OwnResult Depths). z.wires ∷ z.published ∷ []) left)

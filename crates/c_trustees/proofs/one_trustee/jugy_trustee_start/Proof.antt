@@ -17,6 +17,22 @@ use Rattle.c_answers.proofs.Answering.{short_call, put_call}
 use Rattle.c_trustees.proofs.one_trustee.jugy_trustee_start.Statement.{statement}
 use Rattle.c_trustees.proofs.one_trustee.jugy_trustee_start.Tie as tie
 
+-- The stages of the function, seen from later ones.
+abbrev after_slice_known_2_1_from_after_slice_known_in_default_1 : tie.After-slice_known-in_default-1 → tie.After-slice_known-2-1
+after_slice_known_2_1_from_after_slice_known_in_default_1 c = c.before.before.before.before.before.before.before.before
+
+abbrev start_from_after_slice_known_in_default_1 : tie.After-slice_known-in_default-1 → tie.Start
+start_from_after_slice_known_in_default_1 c = (after_slice_known_2_1_from_after_slice_known_in_default_1 c).before.before.before.before.before
+
+abbrev after_start_outcome_from_after_slice_known_6_1 : tie.After-slice_known-6-1 → tie.After-start-outcome
+after_start_outcome_from_after_slice_known_6_1 c = c.before.before.before.before.before.before.before.before
+
+abbrev after_new_from_after_slice_known_6_1 : tie.After-slice_known-6-1 → tie.After-new
+after_new_from_after_slice_known_6_1 c = (after_start_outcome_from_after_slice_known_6_1 c).before.before.before.before
+
+abbrev start_from_after_slice_known_6_1 : tie.After-slice_known-6-1 → tie.Start
+start_from_after_slice_known_6_1 c = (after_new_from_after_slice_known_6_1 c).before.before.before.before.before.before.before.before
+
 -- What the entry point leaves for a shape, by its other arguments at the start; and what this call leaves.
 abbrev left_for : Shape → tie.Start → OwnResult Size
 left_for s start =
@@ -58,7 +74,7 @@ returns_2 c =
     let a = long.args in
     let s = shape_of a.candidates a.grades a.ballots in
     let outside = outside_is (within_limits s) s (sym made.new.ensures.result ∙ told.in_default.is) in
-    let r = left_by long.before.before.before.before.before.before.before.before.before.before.before.before.before in
+    let r = left_by (start_from_after_slice_known_in_default_1 long) in
     let left = outside_start s outside a.table.now a.trustees a.trustee a.shares.now a.triples.now
     a.wires.now a.published.now in
     put_call size_answer a.answer.now long.if-answer-lt-SIZE_ANSWER.false (size_numbers r.answer) _ _ _ c.put_size.ensures
@@ -90,8 +106,13 @@ returns_3 c =
     let a = long.args in
     let s = shape_of a.candidates a.grades a.ballots in
     let same = shape_is (within_limits s) s known.in-Within.shape (sym made.new.ensures.result ∙ known.in-Within.is) in
-    let r = left_by long.before.before.before.before.before.before.before.before.before.before.before.before.before.before.before.before.before.before.before.before in
-    let left = outcome.start-outcome.ensures ∙ ap (λ (z : Shape). left_for z long.before.before.before.before.before.before.before.before.before.before.before.before.before.before.before.before.before.before.before.before) same in
+    let r = left_by
+        (start_from_after_slice_known_6_1 long) in
+    let left = outcome.start-outcome.ensures
+        ∙ ap (λ (z : Shape).
+        left_for z
+        (start_from_after_slice_known_6_1 long)) same
+        in
     put_call size_answer a.answer.now long.if-answer-lt-SIZE_ANSWER.false (size_numbers r.answer) _ _ _ c.put_size-2.ensures
     (ap (λ (z : OwnResult Size). size_numbers z.answer) left) (a.wires.now ∷ a.published.now ∷ [])
     (r.wires ∷ r.published ∷ []) _ (ap (λ (z : OwnResult Size). z.wires ∷ z.published ∷ []) left)

@@ -22,6 +22,52 @@ use Rattle.dispatch.proofs.Whole.{bad_count, bad_per_round, by_juries, result_by
 use Rattle.dispatch.proofs.dispatch.dispatch.Statement.{statement}
 use Rattle.dispatch.proofs.dispatch.dispatch.Tie as tie
 
+-- The stages of the function, seen from later ones.
+abbrev after_shared_slice_known_1_from_else_not_is_between_2 : tie.Else-not-is_between-2 → tie.After-shared_slice_known-1
+after_shared_slice_known_1_from_else_not_is_between_2 c = c.before.before.before.before.before.before.before.before
+
+abbrev start_from_else_not_is_between_2 : tie.Else-not-is_between-2 → tie.Start
+start_from_else_not_is_between_2 c = (after_shared_slice_known_1_from_else_not_is_between_2 c).before
+
+abbrev after_shared_slice_known_2_1_from_after_test_juries_tests : tie.After-test_juries-tests → tie.After-shared_slice_known-2-1
+after_shared_slice_known_2_1_from_after_test_juries_tests c = c.before.before.before.before.before.before.before.before
+
+abbrev start_from_after_test_juries_tests : tie.After-test_juries-tests → tie.Start
+start_from_after_test_juries_tests c = (after_shared_slice_known_2_1_from_after_test_juries_tests c).before.before
+
+abbrev after_shared_slice_known_1_from_then_not_is_between_2 : tie.Then-not-is_between-2 → tie.After-shared_slice_known-1
+after_shared_slice_known_1_from_then_not_is_between_2 c = c.before.before.before.before.before.before.before.before
+
+abbrev start_from_then_not_is_between_2 : tie.Then-not-is_between-2 → tie.Start
+start_from_then_not_is_between_2 c = (after_shared_slice_known_1_from_then_not_is_between_2 c).before
+
+abbrev after_shared_slice_known_3_1_from_in_accepted : tie.In-Accepted → tie.After-shared_slice_known-3-1
+after_shared_slice_known_3_1_from_in_accepted c = c.before.before.before.before.before.before.before.before
+
+abbrev start_from_in_accepted : tie.In-Accepted → tie.Start
+start_from_in_accepted c = (after_shared_slice_known_3_1_from_in_accepted c).before.before.before
+
+abbrev after_run_rounds_from_after_slice_known_5_1 : tie.After-slice_known-5-1 → tie.After-run_rounds
+after_run_rounds_from_after_slice_known_5_1 c = c.before.before.before.before.before.before.before.before
+
+abbrev after_is_between_2_from_after_slice_known_5_1 : tie.After-slice_known-5-1 → tie.After-is_between-2
+after_is_between_2_from_after_slice_known_5_1 c = (after_run_rounds_from_after_slice_known_5_1 c).before.before.before.before.before.before.before
+
+abbrev start_from_after_slice_known_5_1 : tie.After-slice_known-5-1 → tie.Start
+start_from_after_slice_known_5_1 c = (after_is_between_2_from_after_slice_known_5_1 c).before.before.before.before.before.before.before.before
+
+abbrev else_not_is_between_2_from_after_slice_known_5_1 : tie.After-slice_known-5-1 → tie.Else-not-is_between-2
+else_not_is_between_2_from_after_slice_known_5_1 c = (after_run_rounds_from_after_slice_known_5_1 c).before.before.before.before.before.before
+
+abbrev in_accepted_from_after_slice_known_5_1 : tie.After-slice_known-5-1 → tie.In-Accepted
+in_accepted_from_after_slice_known_5_1 c = (after_run_rounds_from_after_slice_known_5_1 c).before.before.before.before
+
+abbrev after_wires_1_from_after_rounds_of : tie.After-rounds_of → tie.After-wires-1
+after_wires_1_from_after_rounds_of c = c.before.before.before.before.before.before.before.before
+
+abbrev in_accepted_from_after_rounds_of : tie.After-rounds_of → tie.In-Accepted
+in_accepted_from_after_rounds_of c = (after_wires_1_from_after_rounds_of c).before.before.before.before.before
+
 -- This call, from its arguments at the start.
 abbrev call : tie.Start → Call
 call s =
@@ -36,25 +82,30 @@ call s =
 count_good : (c : tie.Else-not-is_between) → let of = call c.before.before.before.before.before.before.before in (leb 1 of.count && leb of.count 8) ≡ true
 count_good c = sym c.is_between.ensures ∙ c.if-not-is_between.false
 
-per_round_good : (c : tie.Else-not-is_between-2) → let of = call c.before.before.before.before.before.before.before.before.before in (leb 1 of.gates_per_round && leb of.gates_per_round 65536) ≡ true
+per_round_good : (c : tie.Else-not-is_between-2) → let of = call (start_from_else_not_is_between_2 c) in
+    (leb 1 of.gates_per_round && leb of.gates_per_round 65536) ≡ true
 per_round_good c = sym c.is_between-2.ensures ∙ c.if-not-is_between-2.false
 
 few : (c : tie.Else-not-is_between) → (call c.before.before.before.before.before.before.before).count ≤ 8
 few c = let n = (call c.before.before.before.before.before.before.before).count in leb-true n 8 (and_second (leb 1 n) (leb n 8) (count_good c))
 
-least : (c : tie.Else-not-is_between-2) → 1 ≤ (call c.before.before.before.before.before.before.before.before.before).gates_per_round
-least c = let q = (call c.before.before.before.before.before.before.before.before.before).gates_per_round in leb-true 1 q (and_first (leb 1 q) (leb q 65536) (per_round_good c))
+least : (c : tie.Else-not-is_between-2) → 1 ≤ (call (start_from_else_not_is_between_2 c)).gates_per_round
+least c = let q = (call (start_from_else_not_is_between_2 c)).gates_per_round in
+    leb-true 1 q (and_first (leb 1 q) (leb q 65536) (per_round_good c))
 
-most : (c : tie.Else-not-is_between-2) → (call c.before.before.before.before.before.before.before.before.before).gates_per_round ≤ 65536
-most c = let q = (call c.before.before.before.before.before.before.before.before.before).gates_per_round in leb-true q 65536 (and_second (leb 1 q) (leb q 65536) (per_round_good c))
+most : (c : tie.Else-not-is_between-2) → (call (start_from_else_not_is_between_2 c)).gates_per_round ≤ 65536
+most c = let q = (call (start_from_else_not_is_between_2 c)).gates_per_round in
+    leb-true q 65536 (and_second (leb 1 q) (leb q 65536) (per_round_good c))
 
 -- the reason that the tests found is the call's
 by_tests : (c : tie.After-test_juries-tests) (o : Option Reason) → verdict_reason c.test_juries-tests.result.verdict ≡ o
-    → dispatch_result (call c.before.before.before.before.before.before.before.before.before.before) ≡ dispatch_result_after o (call c.before.before.before.before.before.before.before.before.before.before)
+    → dispatch_result (call (start_from_after_test_juries_tests c))
+        ≡ dispatch_result_after o (call (start_from_after_test_juries_tests c))
 by_tests c o e =
     let two = c in
-    result_by (call c.before.before.before.before.before.before.before.before.before.before) o
-    (by_juries (call c.before.before.before.before.before.before.before.before.before.before) (count_good two.before.before.before) (per_round_good two.before) ∙ sym c.test_juries-tests.ensures.reason ∙ e)
+    result_by (call (start_from_after_test_juries_tests c)) o
+    (by_juries (call (start_from_after_test_juries_tests c)) (count_good two.before.before.before) (per_round_good two.before)
+        ∙ sym c.test_juries-tests.ensures.reason ∙ e)
 
 is_between_requires : tie.Need-is_between-requires
 is_between_requires c κs = search rules
@@ -72,7 +123,7 @@ is_between_requires_2 c κs = search rules
 returns_2 : tie.Need-returns-then-not-is_between-2
 unfolding verdict_reason reason_of reason_at dispatch_result_after
 returns_2 c =
-    let of = call c.before.before.before.before.before.before.before.before.before in
+    let of = call (start_from_then_not_is_between_2 c) in
     let b = c.is_between-2 in
     sym (result_by of (some (reason_at 20 0))
     (bad_per_round of (count_good c.before.before) (sym b.ensures ∙ c.if-not-is_between-2.true)))
@@ -107,7 +158,7 @@ unfolding verdict_reason
 passes c = ap verdict_reason c.in-Accepted.is
 
 no_reason : (c : tie.In-Accepted)
-    → let of = call c.before.before.before.before.before.before.before.before.before.before.before in first_of (jury_reasons 0 (juries_in of) of.tables) ≡ none
+    → let of = call (start_from_in_accepted c) in first_of (jury_reasons 0 (juries_in of) of.tables) ≡ none
 no_reason c = sym c.test_juries-tests.ensures.reason ∙ passes c
 
 run_rounds_requires : tie.Need-run_rounds-requires
@@ -127,7 +178,7 @@ room : (c : tie.After-run_rounds)
     → c.test_juries-tests.result.wires ≤ length c.run_rounds.new.wires
 room c =
     let t = c.before.before.before.before in
-    let of = call t.before.before.before.before.before.before.before.before.before.before.before in
+    let of = call (start_from_in_accepted t) in
     let fin = c.run_rounds.ensures in
     omega (
       arith,
@@ -148,13 +199,14 @@ empty_requires c κs = search rules
 rounds_of_requires : tie.Need-rounds_of-requires
 rounds_of_requires c κs =
     let t = c in
-    let of = call t.before.before.before.before.before.before.before.before.before.before.before.before.before.before.before.before.before.before.before.before.before.before.before in
-    let two = t.before.before.before.before.before.before.before.before.before.before.before.before.before.before in
+    let of = call
+        (start_from_after_slice_known_5_1 t) in
+    let two = (else_not_is_between_2_from_after_slice_known_5_1 t) in
     record {
       few = few two.before.before;
       per_round_least = least two;
       per_round_most = most two;
-      gates_most = few_gates 0 (juries_in of) of.tables (no_reason t.before.before.before.before.before.before.before.before.before.before.before.before);
+      gates_most = few_gates 0 (juries_in of) of.tables (no_reason (in_accepted_from_after_slice_known_5_1 t));
     }
 
 same_length_3 : tie.Need-shape_of-wires
@@ -168,8 +220,8 @@ unfolding dispatch_result_after
 returns_4 c =
     let zeroed = c in
     let run = zeroed in
-    let t = run.before.before.before.before.before.before.before.before.before.before.before.before.before in
-    let of = call t.before.before.before.before.before.before.before.before.before.before.before in
+    let t = (in_accepted_from_after_rounds_of run) in
+    let of = call (start_from_in_accepted t) in
     let fin = run.run_rounds.ensures in
     let given = fin.done * of.gates_per_round in
     let e = by_tests t.before none (passes t) in

@@ -26,6 +26,13 @@ invariant_loop count headers conditional gates_per_round lists ballots tapes wir
 abbrev decreases_loop : tie.decreases-loop-done
 decreases_loop count headers conditional gates_per_round lists ballots tapes wires₀ boards₀ most shown₀ done₀ wires boards shown done = most - done
 
+-- The stages of the function, seen from later ones.
+abbrev at_loop_done_from_after_slice_known_in_loop_done_2_1 : tie.After-slice_known-in-loop-done-2-1 invariant_loop decreases_loop → tie.At-loop-done invariant_loop decreases_loop
+at_loop_done_from_after_slice_known_in_loop_done_2_1 c = c.before.before.before.before.before.before.before.before
+
+abbrev start_from_after_slice_known_in_loop_done_2_1 : tie.After-slice_known-in-loop-done-2-1 invariant_loop decreases_loop → tie.Start invariant_loop decreases_loop
+start_from_after_slice_known_in_loop_done_2_1 c = (at_loop_done_from_after_slice_known_in_loop_done_2_1 c).before.before.before.before.before.before.before
+
 -- From a round back to where the function starts.
 
 -- the tables as they are lent
@@ -100,7 +107,7 @@ loop_less c = omega (arith, needed c.before.before.before.before.before.before.b
 
 loop_again : tie.Need-loop-done-preserved invariant_loop decreases_loop
 loop_again c =
-    let s = c.before.before.before.before.before.before.before.before.before.before.before.before.before.before.before in
+    let s = (start_from_after_slice_known_in_loop_done_2_1 c) in
     let a = s.args in
     let l = c.loop-done in
     let r = c.round-after in (

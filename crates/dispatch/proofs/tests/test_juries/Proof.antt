@@ -32,6 +32,19 @@ invariant_loop count lists ballots tapes wires boards headers conditional₀ at�
 abbrev decreases_loop : tie.decreases-loop-j
 decreases_loop count lists ballots tapes wires boards headers conditional₀ at₀ j₀ conditional at j = count - j
 
+-- The stages of the function, seen from later ones.
+abbrev after_header_1_from_after_verdict_of : tie.After-verdict_of invariant_loop decreases_loop → tie.After-header-1 invariant_loop decreases_loop
+after_header_1_from_after_verdict_of c = c.before.before.before.before.before.before.before.before
+
+abbrev in_loop_j_from_after_verdict_of : tie.After-verdict_of invariant_loop decreases_loop → tie.In-loop-j invariant_loop decreases_loop
+in_loop_j_from_after_verdict_of c = (after_header_1_from_after_verdict_of c).before
+
+abbrev after_header_1_from_after_after_at : tie.After-after-at invariant_loop decreases_loop → tie.After-header-1 invariant_loop decreases_loop
+after_header_1_from_after_after_at c = c.before.before.before.before.before.before.before.before
+
+abbrev in_loop_j_from_after_after_at : tie.After-after-at invariant_loop decreases_loop → tie.In-loop-j invariant_loop decreases_loop
+in_loop_j_from_after_after_at c = (after_header_1_from_after_after_at c).before
+
 abbrev blank : JuryHeader
 blank = record { candidates = 0; grades = 0; ballots = 0; gates = 0 }
 
@@ -65,7 +78,8 @@ found c =
     let s = i in
     let at = i.loop-j.at in
     c.test_jury-answer.ensures
-    ∙ ap (λ (x : Tables). outcome (first_of (reasons_of (jury i.before.before.before.before.before.before.before) x)) (size_of (gates_of (list_of (jury i.before.before.before.before.before.before.before) x))))
+    ∙ ap (λ (x : Tables). outcome (first_of (reasons_of (jury i.before.before.before.before.before.before.before) x))
+        (size_of (gates_of (list_of (jury i.before.before.before.before.before.before.before) x))))
     (lent_same _ _ _ _ _ _ _ _ _ _ (rest_is at.lists s.args.lists.now)
     (rest_is at.ballots s.args.ballots.now) (rest_is at.tapes s.args.tapes.now)
     (rest_is at.wires s.args.wires.now) (rest_is at.boards s.args.boards.now))
@@ -165,15 +179,22 @@ returns c =
     let i = t in
     let s = i in
     let l = i.loop-j in
-    let o = first_of (reasons_of (jury i.before.before.before.before.before.before.before.before.before) (here i.before.before.before.before.before.before.before.before.before)) in
+    let o = first_of
+        (reasons_of (jury (in_loop_j_from_after_verdict_of i))
+        (here (in_loop_j_from_after_verdict_of i))) in
     let r = reason_of told.in_default.field-0 in
     let is : refusal_in t.test_jury-answer.result ≡ o =
-    refusal_is t.test_jury-answer.result o (size_of (gates_of (list_of (jury i.before.before.before.before.before.before.before.before.before) (here i.before.before.before.before.before.before.before.before.before)))) (found t.before.before) in
+    refusal_is t.test_jury-answer.result o
+        (size_of (gates_of
+        (list_of (jury (in_loop_j_from_after_verdict_of i))
+        (here (in_loop_j_from_after_verdict_of i))))) (found t.before.before) in
     let bad : o ≡ some r = sym is ∙ ap refusal_in told.in_default.is in
     let named_so = c.verdict_of.ensures ∙ ap (at_jury l.j) is ∙ ap (at_jury l.j) bad in
     record {
-      reason = named_so ∙ sym (bad_jury (jury i.before.before.before.before.before.before.before.before.before) (here i.before.before.before.before.before.before.before.before.before) l.j
-          (drop (suc l.j) (take s.args.count s.args.headers)) r bad) ∙ (ahead i.before.before.before.before.before.before.before.before.before).reasons;
+      reason = named_so
+          ∙ sym (bad_jury (jury (in_loop_j_from_after_verdict_of i))
+          (here (in_loop_j_from_after_verdict_of i)) l.j
+          (drop (suc l.j) (take s.args.count s.args.headers)) r bad) ∙ (ahead (in_loop_j_from_after_verdict_of i)).reasons;
       conditional = λ e. at_jury_some l.j r (sym named_so ∙ e);
       wires = λ e. at_jury_some l.j r (sym named_so ∙ e);
     }
@@ -211,7 +232,7 @@ loop_less c = omega arith
 loop_again : tie.Need-loop-j-preserved invariant_loop decreases_loop
 loop_again c =
     let k = c in
-    let i = k.before.before.before.before.before.before.before.before.before in
+    let i = (in_loop_j_from_after_after_at k) in
     let s = i.before.before.before.before.before.before.before in
     let l = i.loop-j in
     let w = well k.before in

@@ -25,6 +25,49 @@ use Rattle.dispatch.proofs.JuryTests.{fitting_most, list_piece, ballots_piece, t
 use Rattle.dispatch.proofs.tests.test_jury.Statement.{statement}
 use Rattle.dispatch.proofs.tests.test_jury.Tie as tie
 
+-- The stages of the function, seen from later ones.
+abbrev after_shared_slice_known_3_1_from_after_test : tie.After-test → tie.After-shared_slice_known-3-1
+after_shared_slice_known_3_1_from_after_test c = c.before.before.before.before.before.before.before.before
+
+abbrev start_from_after_test : tie.After-test → tie.Start
+start_from_after_test c = (after_shared_slice_known_3_1_from_after_test c).before.before.before
+
+abbrev after_shared_slice_known_4_1_from_in_default_test : tie.In_default-test → tie.After-shared_slice_known-4-1
+after_shared_slice_known_4_1_from_in_default_test c = c.before.before.before.before.before.before.before.before
+
+abbrev start_from_in_default_test : tie.In_default-test → tie.Start
+start_from_in_default_test c = (after_shared_slice_known_4_1_from_in_default_test c).before.before.before.before
+
+abbrev after_shared_slice_known_4_1_from_in_refused : tie.In-Refused → tie.After-shared_slice_known-4-1
+after_shared_slice_known_4_1_from_in_refused c = c.before.before.before.before.before.before.before.before
+
+abbrev start_from_in_refused : tie.In-Refused → tie.Start
+start_from_in_refused c = (after_shared_slice_known_4_1_from_in_refused c).before.before.before.before
+
+abbrev in_accepted_from_after_test_buffers : tie.After-test_buffers → tie.In-Accepted
+in_accepted_from_after_test_buffers c = c.before.before.before.before.before.before.before.before
+
+abbrev start_from_after_test_buffers : tie.After-test_buffers → tie.Start
+start_from_after_test_buffers c = (in_accepted_from_after_test_buffers c).before.before.before.before.before.before.before.before
+
+abbrev after_ballot_bytes_inputs_from_in_refused_test_buffers : tie.In-Refused-test_buffers → tie.After-ballot_bytes-inputs
+after_ballot_bytes_inputs_from_in_refused_test_buffers c = c.before.before.before.before.before.before.before.before
+
+abbrev in_accepted_from_in_refused_test_buffers : tie.In-Refused-test_buffers → tie.In-Accepted
+in_accepted_from_in_refused_test_buffers c = (after_ballot_bytes_inputs_from_in_refused_test_buffers c).before
+
+abbrev start_from_in_refused_test_buffers : tie.In-Refused-test_buffers → tie.Start
+start_from_in_refused_test_buffers c = (in_accepted_from_in_refused_test_buffers c).before.before.before.before.before.before.before.before
+
+abbrev after_ballot_bytes_inputs_from_in_accepted_test_buffers : tie.In-Accepted-test_buffers → tie.After-ballot_bytes-inputs
+after_ballot_bytes_inputs_from_in_accepted_test_buffers c = c.before.before.before.before.before.before.before.before
+
+abbrev in_accepted_from_in_accepted_test_buffers : tie.In-Accepted-test_buffers → tie.In-Accepted
+in_accepted_from_in_accepted_test_buffers c = (after_ballot_bytes_inputs_from_in_accepted_test_buffers c).before
+
+abbrev start_from_in_accepted_test_buffers : tie.In-Accepted-test_buffers → tie.Start
+start_from_in_accepted_test_buffers c = (in_accepted_from_in_accepted_test_buffers c).before.before.before.before.before.before.before.before
+
 -- the tables that are left
 abbrev all : tie.Start → Tables
 all s = tables_of s.args.lists.now s.args.ballots.now s.args.tapes.now s.args.wires.now s.args.boards.now
@@ -51,7 +94,8 @@ list_outcome c =
 size : tie.In-Accepted → Size
 size c = record { gates = c.in-Accepted.gates; conditional = c.in-Accepted.conditional }
 
-passed : (c : tie.In-Accepted) → let s = c.before.before.before.before.before.before.before.before in TestPassed (header_shape s.args.header) (pieces s).lists (size c)
+passed : (c : tie.In-Accepted) → let s = c.before.before.before.before.before.before.before.before in
+    TestPassed (header_shape s.args.header) (pieces s).lists (size c)
 unfolding outcome_of size
 passed c =
     let s = c.before.before.before.before.before.before.before.before in
@@ -59,17 +103,17 @@ passed c =
     (sym (list_outcome c.before) ∙ ap outcome_of c.in-Accepted.is)
 
 -- the test of the ballots, on their piece
-ballots_outcome : (c : tie.After-test) → let s = c.before.before.before.before.before.before.before.before.before.before.before in refused_for c.test.result
+ballots_outcome : (c : tie.After-test) → let s = (start_from_after_test c) in refused_for c.test.result
     ≡ first_of (ballot_reasons (header_shape s.args.header) (pieces s).ballots)
 ballots_outcome c =
-    let s = c.before.before.before.before.before.before.before.before.before.before.before in
+    let s = (start_from_after_test c) in
     let n = c.bytes_fitting-ballot_bytes in
     let i = c.ballot_bytes-inputs in
     c.test.ensures
     ∙ ap (λ (x : List ℕ). first_of (ballot_reasons (header_shape s.args.header) x))
     (ballots_piece s.args.header (all s) i.result n.result i.ensures n.ensures)
 
-no_reason : (c : tie.In_default-test) → let s = c.before.before.before.before.before.before.before.before.before.before.before.before in
+no_reason : (c : tie.In_default-test) → let s = (start_from_in_default_test c) in
     first_of (ballot_reasons (header_shape s.args.header) (pieces s).ballots) ≡ none
 unfolding refused_for
 no_reason c = sym (ballots_outcome c.before) ∙ ap refused_for c.in_default-test.is
@@ -128,7 +172,7 @@ returns_2 : tie.Need-returns-in-Refused
 unfolding outcome_of refused_for reasons_of
 returns_2 c =
     let t = c in
-    let s = t.before.before.before.before.before.before.before.before.before.before.before.before in
+    let s = (start_from_in_refused t) in
     let p = pieces s in
     let r = reason_of c.in-Refused.reason in
     refuses s r (by_ballots (header_shape s.args.header) p.lists p.ballots p.tapes p.wires p.boards
@@ -197,14 +241,15 @@ enum_told_3 : tie.Need-enum_told-in-Accepted-test_buffers
 enum_told_3 c = search rules
 
 -- the tests of the buffers, on their pieces
-lent_outcome : (c : tie.After-test_buffers) → let s = c.before.before.before.before.before.before.before.before.before.before.before.before.before.before.before.before in let p = pieces s in
+lent_outcome : (c : tie.After-test_buffers) → let s =
+    (start_from_after_test_buffers c) in let p = pieces s in
     refused_for c.test_buffers.result
     ≡ first_of (buffer_reasons (ballot_bytes (header_shape s.args.header)) s.args.header.candidates
     (size c.before.before.before.before.before.before.before.before) p.tapes p.wires p.boards)
 unfolding size
 lent_outcome c =
     let told = c.before.before.before.before.before.before.before.before in
-    let s = c.before.before.before.before.before.before.before.before.before.before.before.before.before.before.before.before in
+    let s = (start_from_after_test_buffers c) in
     let st = s.args.header in
     let p = pieces s in
     let k = st.candidates in
@@ -227,12 +272,13 @@ lent_outcome c =
     (board_piece st (all s) z.conditional o.result facts.1 o.ensures)
 
 -- if the tests before have passed, the tests of the buffers decide
-whole_outcome : (c : tie.After-test_buffers) → let s = c.before.before.before.before.before.before.before.before.before.before.before.before.before.before.before.before in
+whole_outcome : (c : tie.After-test_buffers) → let s =
+    (start_from_after_test_buffers c) in
     first_of (reasons_of s.args.header (all s)) ≡ refused_for c.test_buffers.result
 unfolding reasons_of
 whole_outcome c =
     let told = c.before.before.before.before.before.before.before.before in
-    let s = c.before.before.before.before.before.before.before.before.before.before.before.before.before.before.before.before in
+    let s = (start_from_after_test_buffers c) in
     let p = pieces s in
     by_lent (header_shape s.args.header) p.lists p.ballots p.tapes p.wires p.boards
     (passed told).reasons (size told) (refused_for c.test_buffers.result) (passed told).size
@@ -243,14 +289,15 @@ unfolding outcome_of refused_for
 returns_3 c =
     let t = c in
     let r = reason_of c.in-Refused-test_buffers.reason in
-    refuses t.before.before.before.before.before.before.before.before.before.before.before.before.before.before.before.before.before r (whole_outcome t.before ∙ ap refused_for c.in-Refused-test_buffers.is)
+    refuses (start_from_in_refused_test_buffers t) r (whole_outcome t.before
+        ∙ ap refused_for c.in-Refused-test_buffers.is)
 
 returns_4 : tie.Need-returns-in-Accepted-test_buffers
 unfolding test_outcome refused_for pieces_of
 returns_4 c =
     let t = c in
-    let told = t.before.before.before.before.before.before.before.before.before in
-    let s = t.before.before.before.before.before.before.before.before.before.before.before.before.before.before.before.before.before in
+    let told = (in_accepted_from_in_accepted_test_buffers t) in
+    let s = (start_from_in_accepted_test_buffers t) in
     let none_applies = whole_outcome t.before ∙ ap refused_for c.in-Accepted-test_buffers.is in
     sym (ap outcome_of told.in-Accepted.is) ∙ list_outcome told.before
     ∙ ap (λ (o : Option Reason). outcome o (size_of (gates_of (list_of s.args.header (all s))))) ((passed told).reasons ∙ sym none_applies)

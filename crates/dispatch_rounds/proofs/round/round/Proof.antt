@@ -32,6 +32,19 @@ invariant_loop count done gates_per_round lists ballots tapes wires₀ boards₀
 abbrev decreases_loop : tie.decreases-loop-j
 decreases_loop count done gates_per_round lists ballots tapes wires₀ boards₀ headers conditional given shown₀ at₀ j₀ wires boards shown at j = count - j
 
+-- The stages of the function, seen from later ones.
+abbrev after_shared_slice_known_1_from_after_after_at : tie.After-after-at invariant_loop decreases_loop → tie.After-shared_slice_known-1 invariant_loop decreases_loop
+after_shared_slice_known_1_from_after_after_at c = c.before.before.before.before.before.before.before.before
+
+abbrev start_from_after_after_at : tie.After-after-at invariant_loop decreases_loop → tie.Start invariant_loop decreases_loop
+start_from_after_after_at c = (after_shared_slice_known_1_from_after_after_at c).before
+
+abbrev in_loop_j_from_after_turn : tie.After-turn invariant_loop decreases_loop → tie.In-loop-j invariant_loop decreases_loop
+in_loop_j_from_after_turn c = c.before.before.before.before.before.before.before.before
+
+abbrev start_from_after_turn : tie.After-turn invariant_loop decreases_loop → tie.Start invariant_loop decreases_loop
+start_from_after_turn c = (in_loop_j_from_after_turn c).before.before.before.before.before.before.before
+
 -- a header past the last
 abbrev blank : JuryHeader
 blank = record { candidates = 0; grades = 0; ballots = 0; gates = 0 }
@@ -291,7 +304,7 @@ handed c ws bs k =
 
 -- the jury has what its turn requires
 ready : (c : tie.After-after-at invariant_loop decreases_loop) (ws bs : List ℕ) → Turn c.before.before ws bs → let s =
-    c.before.before.before.before.before.before.before.before.before in let l = c.loop-j in let j = jury c.before.before in let p =
+    (start_from_after_after_at c) in let l = c.loop-j in let j = jury c.before.before in let p =
     pieces_of j (here c.before.before ws bs) in
     JuryState (given s) j
     (tables_of (take (c.after-at.result.lists - l.at.lists) (drop l.at.lists s.args.lists.now))
@@ -300,7 +313,7 @@ ready : (c : tie.After-after-at invariant_loop decreases_loop) (ws bs : List ℕ
     (take (c.after-at.result.wires - l.at.wires) (drop l.at.wires l.wires))
     (take (c.after-at.result.boards - l.at.boards) (drop l.at.boards l.boards)) (get_or l.shown l.j 0)
 ready c ws bs k =
-    let s = c.before.before.before.before.before.before.before.before.before in
+    let s = (start_from_after_after_at c) in
     let j = jury c.before.before in
     let h = handed c ws bs k in
     jury_as (given s) j (pieces_of j (here c.before.before ws bs)) _ _ _ _ _ _ _ _ _ h.list h.ballots
@@ -310,13 +323,15 @@ turn_requires : tie.Need-turn-requires invariant_loop decreases_loop
 turn_requires c κs =
     let a = c in
     let s = a in
-    let p = pieces_of (jury a.before.before.before.before.before.before.before) (here a.before.before.before.before.before.before.before s.requires.wires_lent s.requires.boards_lent) in
+    let p = pieces_of (jury a.before.before.before.before.before.before.before)
+        (here a.before.before.before.before.before.before.before s.requires.wires_lent s.requires.boards_lent) in
     record {
       per_round_least = s.requires.per_round_least;
       per_round_most = s.requires.per_round_most;
       wires_lent = p.wires;
       board_lent = p.boards;
-      state = ready a.before.before.before.before.before s.requires.wires_lent s.requires.boards_lent (known a.before.before.before.before.before.before.before);
+      state = ready a.before.before.before.before.before s.requires.wires_lent s.requires.boards_lent
+          (known a.before.before.before.before.before.before.before);
     }
 
 mul_shown : tie.Need-offset_bounds-shown-j-in-loop-j invariant_loop decreases_loop
@@ -332,8 +347,9 @@ loop_less : tie.Need-loop-j-smaller invariant_loop decreases_loop
 loop_less c = omega arith
 
 -- the juries after the turn
-next : (c : tie.After-turn invariant_loop decreases_loop) (ws bs : List ℕ) → Entry c.before.before.before.before.before.before.before.before.before.before.before.before.before.before.before ws bs → let a =
-    c in let s = c.before.before.before.before.before.before.before.before.before.before.before.before.before.before.before in let l =
+next : (c : tie.After-turn invariant_loop decreases_loop) (ws bs : List ℕ)
+    → Entry (start_from_after_turn c) ws bs → let a =
+    c in let s = (start_from_after_turn c) in let l =
     a.loop-j in
     Mid (take s.args.count s.args.headers) (lent_to s ws bs) (given s) (given s + s.args.gates_per_round) s.args.conditional
     (l.j + 1) (drop (l.j + 1) (take s.args.count s.args.headers)) a.after-at.result
@@ -346,7 +362,7 @@ next : (c : tie.After-turn invariant_loop decreases_loop) (ws bs : List ℕ) →
     (set l.shown l.j c.turn.result)
 next c ws bs st =
     let a = c in
-    let s = c.before.before.before.before.before.before.before.before.before.before.before.before.before.before.before in
+    let s = (start_from_after_turn c) in
     let l = a.loop-j in
     let i = a.before.before.before.before.before.before.before.before in
     let ss = take s.args.count s.args.headers in

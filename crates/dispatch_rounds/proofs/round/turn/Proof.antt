@@ -15,6 +15,19 @@ use Rattle.dispatch_rounds.proofs.JuryStates.{turn_begins, turn_goes_on, turn_en
 use Rattle.dispatch_rounds.proofs.round.turn.Statement.{statement}
 use Rattle.dispatch_rounds.proofs.round.turn.Tie as tie
 
+-- The stages of the function, seen from later ones.
+abbrev else_gates_given_from_after_step_last : tie.After-step-last → tie.Else-gates-given
+else_gates_given_from_after_step_last c = c.before.before.before.before.before.before.before.before
+
+abbrev start_from_after_step_last : tie.After-step-last → tie.Start
+start_from_after_step_last c = (else_gates_given_from_after_step_last c).before.before.before.before.before.before
+
+abbrev after_slice_known_3_1_from_after_slice_known_5_1 : tie.After-slice_known-5-1 → tie.After-slice_known-3-1
+after_slice_known_3_1_from_after_slice_known_5_1 c = c.before.before.before.before.before.before.before.before
+
+abbrev after_load_from_after_slice_known_5_1 : tie.After-slice_known-5-1 → tie.After-load
+after_load_from_after_slice_known_5_1 c = (after_slice_known_3_1_from_after_slice_known_5_1 c).before.before
+
 -- the jury at entry
 abbrev Entry : tie.Start → List ℕ → List ℕ → Type 0
 Entry c ws bs =
@@ -64,7 +77,8 @@ step_requires c κs =
     _ a.board.now a.shown (begun l.before.before.before.before.before s.requires.wires_lent s.requires.board_lent j)
 
 -- the jury after its last gate
-finished : (c : tie.After-step-last) (ws bs : List ℕ) → Entry c.before.before.before.before.before.before.before.before.before.before.before.before.before.before ws bs → let a = c.args in
+finished : (c : tie.After-step-last) (ws bs : List ℕ)
+    → Entry (start_from_after_step_last c) ws bs → let a = c.args in
     Stands a.ballots.now a.list.now a.tape.now ws bs (length (gates_of a.list.now))
     c.step-last.new.wires c.step-last.new.board c.step-last.result
 finished c ws bs j =
@@ -137,7 +151,8 @@ returns_3 c =
     j.gates (a.given + a.gates_per_round) _ _ _ (omega arith) (omega arith)
     (step_stands a.ballots.now a.list.now a.header.candidates a.tape.now ws bs j.run a.given
     (a.given + a.gates_per_round) (omega arith) (omega (arith, j.gates))
-    _ a.board.now a.shown (begun l.before.before.before.before.before.before.before.before.before.before ws bs j) _ _ r.result r.ensures.next r.ensures.wires r.ensures.board)
+    _ a.board.now a.shown (begun (after_load_from_after_slice_known_5_1 l) ws bs j) _ _ r.result r.ensures.next r.ensures.wires
+        r.ensures.board)
 
 pub turn_spec : {M : Type 1} → statement M
 turn_spec =

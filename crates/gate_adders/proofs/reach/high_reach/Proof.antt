@@ -18,6 +18,22 @@ use Rattle.gate_words.proofs.Standing.{Stands, stands, stands_after, room_of, wr
 use Rattle.gate_adders.proofs.reach.high_reach.Statement.{statement}
 use Rattle.gate_adders.proofs.reach.high_reach.Tie as tie
 
+-- The stages of the function, seen from later ones.
+abbrev after_carries_by_arg_1_from_after_chain_end_all : tie.After-chain_end-all → tie.After-carries_by-arg-1
+after_carries_by_arg_1_from_after_chain_end_all c = c.before.before.before.before.before.before.before.before
+
+abbrev after_differences_differ_from_after_chain_end_all : tie.After-chain_end-all → tie.After-differences-differ
+after_differences_differ_from_after_chain_end_all c = (after_carries_by_arg_1_from_after_chain_end_all c).before.before.before
+
+abbrev after_all_of_every_from_after_slice_known_5_1 : tie.After-slice_known-5-1 → tie.After-all_of-every
+after_all_of_every_from_after_slice_known_5_1 c = c.before.before.before.before.before.before.before.before
+
+abbrev after_differences_differ_from_after_slice_known_5_1 : tie.After-slice_known-5-1 → tie.After-differences-differ
+after_differences_differ_from_after_slice_known_5_1 c = (after_all_of_every_from_after_slice_known_5_1 c).before.before.before.before.before.before.before.before
+
+abbrev after_carries_by_free_from_after_slice_known_5_1 : tie.After-slice_known-5-1 → tie.After-carries_by-free
+after_carries_by_free_from_after_slice_known_5_1 c = (after_all_of_every_from_after_slice_known_5_1 c).before.before.before.before
+
 add_differences : tie.Need-overflow_add-high
 add_differences c =
     omega (arith, c.requires.room.small)
@@ -107,7 +123,7 @@ chain_end_requires c κs =
 
 chain_end_requires_2 : tie.Need-chain_end-own-requires
 chain_end_requires_2 c κs =
-    omega (arith, c.requires.room.small, (differ c.before.before.before.before.before.before.before.before.before.before.before).place)
+    omega (arith, c.requires.room.small, (differ (after_differences_differ_from_after_chain_end_all c)).place)
 
 emit_requires : tie.Need-emit-requires
 emit_requires c κs =
@@ -127,8 +143,10 @@ returns c =
     let t₂ = c.carries_by-free.new.table in
     let w₃ = c.all_of-every.result in
     let t₃ = c.all_of-every.new.table in
-    let p₁ : w₁.wire ≡ a.w.wire + suc a.high = omega (arith, (differ c.before.before.before.before.before.before.before.before.before.before.before.before.before.before.before.before).place) in
-    let p₂ : w₂.wire ≡ a.w.wire + suc a.high + a.high = omega (arith, (free c.before.before.before.before.before.before.before.before.before.before.before.before).place) in
+    let p₁ : w₁.wire ≡ a.w.wire + suc a.high =
+        omega (arith, (differ (after_differences_differ_from_after_slice_known_5_1 c)).place) in
+    let p₂ : w₂.wire ≡ a.w.wire + suc a.high + a.high =
+        omega (arith, (free (after_carries_by_free_from_after_slice_known_5_1 c)).place) in
     wrote_then a.w a.table.now _ t₃ w₃ _ _ _ _
     (wrote_then a.w a.table.now _ t₂ w₂ _ _ t₃ w₃
     (wrote_then a.w a.table.now _ t₁ w₁ _ _ t₂ w₂

@@ -11,6 +11,13 @@ use Rattle.gate_words.proofs.Standing.{Stands, stands, stands_after, room_of, wr
 use Rattle.gate_adders.proofs.reach.reach_halves.Statement.{statement}
 use Rattle.gate_adders.proofs.reach.reach_halves.Tie as tie
 
+-- The stages of the function, seen from later ones.
+abbrev after_slice_known_2_1_from_after_slice_known_4_1 : tie.After-slice_known-4-1 → tie.After-slice_known-2-1
+after_slice_known_2_1_from_after_slice_known_4_1 c = c.before.before.before.before.before.before.before.before
+
+abbrev after_carry_bit_first_from_after_slice_known_4_1 : tie.After-slice_known-4-1 → tie.After-carry_bit-first
+after_carry_bit_first_from_after_slice_known_4_1 c = (after_slice_known_2_1_from_after_slice_known_4_1 c).before.before
+
 carry_bit_requires : tie.Need-carry_bit-first-requires
 carry_bit_requires c κs =
     room_less c.args.w _ _ (omega arith) c.requires.room
@@ -105,7 +112,7 @@ returns c =
     (wrote_then a.w a.table.now _ t₁ w₁ _ _ t₂ w₂ c.carry_bit-first.ensures
     c.carries-lower.ensures
     (ap (λ (k : ℕ). carries k (a.x + 1) (a.y + 1) a.w.wire a.low)
-    (first c.before.before.before.before.before.before.before.before.before.before).place))
+    (first (after_carry_bit_first_from_after_slice_known_4_1 c)).place))
     c.high_reach.ensures
     (ap (λ (k : ℕ). high_reach k (a.x + 1 + a.low) (a.y + 1 + a.low) (a.w.wire + 2 * a.low) a.high)
     (lower c.before.before.before.before.before.before).place)

@@ -17,6 +17,25 @@ use Rattle.gates.proofs.Goodness.{GoodGate, good_gate_lem}
 use Rattle.gates.proofs.step.run_gate.Statement.{statement}
 use Rattle.gates.proofs.step.run_gate.Tie as tie
 
+-- The stages of the function, seen from later ones.
+abbrev after_shared_slice_known_1_from_after_slice_known_3_1_unread : tie.After-slice_known-3-1-unread → tie.After-shared_slice_known-1
+after_shared_slice_known_1_from_after_slice_known_3_1_unread c = c.before.before.before.before.before.before.before.before
+
+abbrev start_from_after_slice_known_3_1_unread : tie.After-slice_known-3-1-unread → tie.Start
+start_from_after_slice_known_3_1_unread c = (after_shared_slice_known_1_from_after_slice_known_3_1_unread c).before
+
+abbrev after_shared_slice_known_2_1_from_after_slice_known_4_1_unread : tie.After-slice_known-4-1-unread → tie.After-shared_slice_known-2-1
+after_shared_slice_known_2_1_from_after_slice_known_4_1_unread c = c.before.before.before.before.before.before.before.before
+
+abbrev start_from_after_slice_known_4_1_unread : tie.After-slice_known-4-1-unread → tie.Start
+start_from_after_slice_known_4_1_unread c = (after_shared_slice_known_2_1_from_after_slice_known_4_1_unread c).before.before
+
+abbrev after_slice_known_1_from_after_slice_known_5_1_unread : tie.After-slice_known-5-1-unread → tie.After-slice_known-1
+after_slice_known_1_from_after_slice_known_5_1_unread c = c.before.before.before.before.before.before.before.before
+
+abbrev start_from_after_slice_known_5_1_unread : tie.After-slice_known-5-1-unread → tie.Start
+start_from_after_slice_known_5_1_unread c = (after_slice_known_1_from_after_slice_known_5_1_unread c).before.before.before
+
 good : (c : tie.Start) → GoodGate c.args.own (gate_at c.args.table.now c.args.g)
 good c = good_gate_lem c.args.own (gate_at c.args.table.now c.args.g) c.requires.gate.good
 
@@ -78,15 +97,16 @@ cast_c_wire c = omega (arith, c.shared_slice_known-6-1.given (4 * c.args.g + 3))
 
 slice_read_a : tie.Need-bounds-wires-a_wire
 unfolding gate_at
-slice_read_a c = let s = c in omega (arith, (good s.before.before.before.before.before.before.before.before.before).a_most, s.requires.gate.in_wires)
+slice_read_a c = let s = c in omega (arith, (good (start_from_after_slice_known_3_1_unread s)).a_most, s.requires.gate.in_wires)
 
 slice_read_b : tie.Need-bounds-wires-b_wire
 unfolding gate_at
-slice_read_b c = let s = c in omega (arith, (good s.before.before.before.before.before.before.before.before.before.before).b_most, s.requires.gate.in_wires)
+slice_read_b c = let s = c in omega (arith, (good (start_from_after_slice_known_4_1_unread s)).b_most, s.requires.gate.in_wires)
 
 slice_read_c : tie.Need-bounds-wires-c_wire
 unfolding gate_at
-slice_read_c c = let s = c in omega (arith, (good s.before.before.before.before.before.before.before.before.before.before.before).c_most, s.requires.gate.in_wires)
+slice_read_c c = let s = c in omega (arith, (good (start_from_after_slice_known_5_1_unread s)).c_most,
+    s.requires.gate.in_wires)
 
 value_requires : tie.Need-value-requires
 value_requires c κs = search rules

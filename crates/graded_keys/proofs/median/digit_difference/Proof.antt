@@ -16,6 +16,13 @@ use Rattle.graded_keys.proofs.Steps.{stride_most}
 use Rattle.graded_keys.proofs.median.digit_difference.Statement.{statement}
 use Rattle.graded_keys.proofs.median.digit_difference.Tie as tie
 
+-- The stages of the function, seen from later ones.
+abbrev after_chain_end_right_from_after_slice_known_4_1 : tie.After-slice_known-4-1 → tie.After-chain_end-right
+after_chain_end_right_from_after_slice_known_4_1 c = c.before.before.before.before.before.before.before.before
+
+abbrev after_parity_first_from_after_slice_known_4_1 : tie.After-slice_known-4-1 → tie.After-parity-first
+after_parity_first_from_after_slice_known_4_1 c = (after_chain_end_right_from_after_slice_known_4_1 c).before.before.before
+
 -- for each number: its first wire and the others are written, and its stride is small
 x_there : (s : tie.Start) → (s.args.x < s.args.w.wire)
     × (s.args.x + s.args.step + (s.args.many - 1) * s.args.step < s.args.w.wire + s.args.step)
@@ -60,7 +67,9 @@ chain_end_requires_2 : tie.Need-chain_end-right-requires
 chain_end_requires_2 c κs = let h = c in omega (arith, (first h.before.before).left.small)
 
 add_parity_2 : tie.Need-overflow_add-y
-add_parity_2 c = let s = c in omega (arith, (y_there s.before.before.before.before.before.before.before.before).0, near s.before.before.before.before.before.before.before.before, s.requires.ones.room.small)
+add_parity_2 c = let s = c in
+    omega (arith, (y_there s.before.before.before.before.before.before.before.before).0, near s.before.before.before.before.before.before.before.before,
+    s.requires.ones.room.small)
 
 parity_requires_2 : tie.Need-parity-second-requires
 parity_requires_2 c κs =
@@ -69,7 +78,8 @@ parity_requires_2 c κs =
     let a = s.args in
     record {
       room = room_of h.parity-first.result _ _ _ (first h.before.before.before.before) (omega arith);
-      below = below_stride h.parity-first.result.wire (a.y + a.step) a.step (a.many - 1) (omega (arith, (y_there s.before.before.before.before.before.before.before.before).1, (first h.before.before.before.before).place));
+      below = below_stride h.parity-first.result.wire (a.y + a.step) a.step (a.many - 1)
+          (omega (arith, (y_there s.before.before.before.before.before.before.before.before).1, (first h.before.before.before.before).place));
       near = omega (arith, near s.before.before.before.before.before.before.before.before);
     }
 
@@ -100,7 +110,7 @@ returns c =
     let m = a.many in
     let left = h.chain_end-left in
     let right = k.chain_end-right in
-    let place : h.parity-first.result.wire ≡ n + (m - 1) = (first h.before.before.before.before.before.before.before.before.before.before.before).place in
+    let place : h.parity-first.result.wire ≡ n + (m - 1) = (first (after_parity_first_from_after_slice_known_4_1 h)).place in
     wrote_then a.w a.table.now _ k.parity-second.new.table k.parity-second.result _ _ e.new.table e.result
     (wrote_then a.w a.table.now _ h.parity-first.new.table h.parity-first.result _ _ k.parity-second.new.table k.parity-second.result
     h.parity-first.ensures k.parity-second.ensures (ap (λ (i : ℕ). parity i a.y (a.y + a.step) a.step (m - 1)) place))

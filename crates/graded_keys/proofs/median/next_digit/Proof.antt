@@ -14,6 +14,13 @@ use Rattle.graded_circuit.proofs.MedianLaws.{length_difference}
 use Rattle.graded_keys.proofs.median.next_digit.Statement.{statement}
 use Rattle.graded_keys.proofs.median.next_digit.Tie as tie
 
+-- The stages of the function, seen from later ones.
+abbrev after_struct_known_1_from_after_slice_known_4_1 : tie.After-slice_known-4-1 → tie.After-struct_known-1
+after_struct_known_1_from_after_slice_known_4_1 c = c.before.before.before.before.before.before.before.before
+
+abbrev after_digit_difference_differ_from_after_slice_known_4_1 : tie.After-slice_known-4-1 → tie.After-digit_difference-differ
+after_digit_difference_differ_from_after_slice_known_4_1 c = (after_struct_known_1_from_after_slice_known_4_1 c).before.before.before
+
 sub_chain_end : tie.Need-overflow_sub-many
 sub_chain_end c = omega (arith, c.requires.some)
 
@@ -74,7 +81,7 @@ returns c =
     let d = h.digit_difference-differ in
     let left = h.chain_end-left in
     let q = d.result.wire - 1 in
-    let at : q ≡ differ_at n m = omega (arith, (difference h.before.before.before.before.before.before.before.before.before.before.before).place) in
+    let at : q ≡ differ_at n m = omega (arith, (difference (after_digit_difference_differ_from_after_slice_known_4_1 h)).place) in
     wrote_then a.w a.table.now _ d.new.table d.result _ _ v.new.table v.result
     d.ensures
     (wrote_both d.result d.new.table (or_of a.e q ∷ []) u.new.table u.result

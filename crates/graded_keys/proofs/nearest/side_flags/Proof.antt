@@ -13,6 +13,13 @@ use Rattle.graded_circuit.specs.Nearest.{side_flags}
 use Rattle.graded_keys.proofs.nearest.side_flags.Statement.{statement}
 use Rattle.graded_keys.proofs.nearest.side_flags.Tie as tie
 
+-- The stages of the function, seen from later ones.
+abbrev after_slice_known_2_1_from_after_slice_known_4_1 : tie.After-slice_known-4-1 → tie.After-slice_known-2-1
+after_slice_known_2_1_from_after_slice_known_4_1 c = c.before.before.before.before.before.before.before.before
+
+abbrev after_unequal_halves_compared_from_after_slice_known_4_1 : tie.After-slice_known-4-1 → tie.After-unequal_halves-compared
+after_unequal_halves_compared_from_after_slice_known_4_1 c = (after_slice_known_2_1_from_after_slice_known_4_1 c).before.before
+
 unequal_at_requires : tie.Need-unequal_at-differ-requires
 unequal_at_requires c κs =
     omega (arith, c.requires.room.small)
@@ -84,7 +91,7 @@ returns c =
     (xor_wrote w₂ t₂ c.emit.new.table c.emit.result
     c.unequal_at-differ.result w₁.wire 0
     c.emit.ensures)
-    (one_gate 6 e (differ c.before.before.before.before.before.before.before.before.before.before).place refl)) refl
+    (one_gate 6 e (differ (after_unequal_halves_compared_from_after_slice_known_4_1 c)).place refl)) refl
 
 pub side_flags_spec : {M : Type 1} → statement M
 side_flags_spec = tie.close (tie.spec unequal_at_requires sub_unequal_halves unequal_halves_requires add_emit

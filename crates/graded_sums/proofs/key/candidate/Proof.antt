@@ -19,6 +19,37 @@ use Rattle.graded_sums.proofs.Writers.{rows_there}
 use Rattle.graded_sums.proofs.key.candidate.Statement.{statement}
 use Rattle.graded_sums.proofs.key.candidate.Tie as tie
 
+-- The stages of the function, seen from later ones.
+abbrev after_all_levels_arg_1_from_after_key_words_arg_1 : tie.After-key_words-arg-1 → tie.After-all_levels-arg-1
+after_all_levels_arg_1_from_after_key_words_arg_1 c = c.before.before.before.before.before.before.before.before
+
+abbrev after_rows_rowed_from_after_key_words_arg_1 : tie.After-key_words-arg-1 → tie.After-rows-rowed
+after_rows_rowed_from_after_key_words_arg_1 c = (after_all_levels_arg_1_from_after_key_words_arg_1 c).before.before.before
+
+abbrev after_all_levels_counted_from_after_key_words_words : tie.After-key_words-words → tie.After-all_levels-counted
+after_all_levels_counted_from_after_key_words_words c = c.before.before.before.before.before.before.before.before
+
+abbrev after_rows_rowed_from_after_key_words_words : tie.After-key_words-words → tie.After-rows-rowed
+after_rows_rowed_from_after_key_words_words c = (after_all_levels_counted_from_after_key_words_words c).before.before.before.before
+
+abbrev after_worst_levels_arg_1_from_after_worst_word_arg_1 : tie.After-worst_word-arg-1 → tie.After-worst_levels-arg-1
+after_worst_levels_arg_1_from_after_worst_word_arg_1 c = c.before.before.before.before.before.before.before.before
+
+abbrev after_all_levels_counted_from_after_worst_word_arg_1 : tie.After-worst_word-arg-1 → tie.After-all_levels-counted
+after_all_levels_counted_from_after_worst_word_arg_1 c = (after_worst_levels_arg_1_from_after_worst_word_arg_1 c).before.before.before
+
+abbrev after_slice_known_4_1_from_after_slice_known_6_1 : tie.After-slice_known-6-1 → tie.After-slice_known-4-1
+after_slice_known_4_1_from_after_slice_known_6_1 c = c.before.before.before.before.before.before.before.before
+
+abbrev after_worst_levels_worst_from_after_slice_known_6_1 : tie.After-slice_known-6-1 → tie.After-worst_levels-worst
+after_worst_levels_worst_from_after_slice_known_6_1 c = (after_slice_known_4_1_from_after_slice_known_6_1 c).before.before
+
+abbrev after_rows_rowed_from_after_slice_known_6_1 : tie.After-slice_known-6-1 → tie.After-rows-rowed
+after_rows_rowed_from_after_slice_known_6_1 c = (after_worst_levels_worst_from_after_slice_known_6_1 c).before.before.before.before.before.before.before.before
+
+abbrev after_all_levels_counted_from_after_slice_known_6_1 : tie.After-slice_known-6-1 → tie.After-all_levels-counted
+after_all_levels_counted_from_after_slice_known_6_1 c = (after_slice_known_4_1_from_after_slice_known_6_1 c).before.before.before.before.before.before
+
 -- the gates that are left after all levels, after the levels of the sums, and after the rows
 abbrev key_gates : Plan → ℕ
 key_gates p = (p.grades - 2) * word_span p + word_span p
@@ -152,10 +183,12 @@ key_words_requires c κs =
           room =
               room_of k.worst_levels-worst.result _ _ _ (counted k.before.before.before) (omega arith);
         };
-        rows = omega (arith, (rowed r.before.before.before.before.before.before.before.before.before.before.before).place);
-        there = omega (arith, (rowed r.before.before.before.before.before.before.before.before.before.before.before).place, (counted k.before.before.before).place);
+        rows = omega (arith, (rowed (after_rows_rowed_from_after_key_words_arg_1 r)).place);
+        there = omega (arith, (rowed (after_rows_rowed_from_after_key_words_arg_1 r)).place,
+            (counted k.before.before.before).place);
       };
-      levels = omega (arith, (rowed r.before.before.before.before.before.before.before.before.before.before.before).place, (counted k.before.before.before).place);
+      levels = omega (arith, (rowed (after_rows_rowed_from_after_key_words_arg_1 r)).place,
+          (counted k.before.before.before).place);
     }
 
 worded : (c : tie.After-key_words-words) → let s = c in
@@ -170,7 +203,9 @@ worded c =
     stands_after k.worst_levels-worst.result k.worst_levels-worst.new.table _ c.key_words-words.new.table
     c.key_words-words.result _ _ _ c.key_words-words.ensures
     (key_words_block a.p q.planned k.worst_levels-worst.result.wire a.w.wire r.rows-rowed.result.wire a.c
-    0 (a.p.grades - 2) q.inputs q.candidate (before r.before.before.before.before.before.before.before.before.before.before.before.before) (omega (arith, (rowed r.before.before.before.before.before.before.before.before.before.before.before.before).place, (counted k.before.before.before.before).place))).long
+    0 (a.p.grades - 2) q.inputs q.candidate (before (after_rows_rowed_from_after_key_words_words r))
+        (omega (arith, (rowed (after_rows_rowed_from_after_key_words_words r)).place,
+        (counted k.before.before.before.before).place))).long
     (counted k.before.before.before.before)
 
 worst_word_requires : tie.Need-worst_word-requires
@@ -183,10 +218,11 @@ worst_word_requires c κs =
         planned = q.planned;
         candidate = q.candidate;
         inputs =
-            omega (arith, q.inputs, (levelled l.before.before.before.before.before.before.before.before.before.before.before).place);
+            omega (arith, q.inputs, (levelled (after_all_levels_counted_from_after_worst_word_arg_1 l)).place);
         room = (worded h.before.before.before).left;
       };
-      levels = omega (arith, (levelled l.before.before.before.before.before.before.before.before.before.before.before).place, (worded h.before.before.before).place);
+      levels = omega (arith, (levelled (after_all_levels_counted_from_after_worst_word_arg_1 l)).place,
+          (worded h.before.before.before).place);
     }
 
 same_length : tie.Need-shape_of-table
@@ -203,7 +239,10 @@ returns c =
     candidate_wrote a.p a.w a.table.now a.c r.rows-rowed.new.table r.rows-rowed.result
     l.all_levels-counted.new.table l.all_levels-counted.result k.worst_levels-worst.new.table k.worst_levels-worst.result
     h.key_words-words.new.table h.key_words-words.result v.new.table v.result
-    r.rows-rowed.ensures (rowed r.before.before.before.before.before.before.before.before.before.before.before.before.before.before.before.before.before.before).place l.all_levels-counted.ensures (levelled l.before.before.before.before.before.before.before.before.before.before.before.before.before.before).place k.worst_levels-worst.ensures
+    r.rows-rowed.ensures
+        (rowed (after_rows_rowed_from_after_slice_known_6_1 r)).place
+        l.all_levels-counted.ensures (levelled (after_all_levels_counted_from_after_slice_known_6_1 l)).place
+        k.worst_levels-worst.ensures
     h.key_words-words.ensures v.ensures
 
 pub candidate_spec : {M : Type 1} → statement M

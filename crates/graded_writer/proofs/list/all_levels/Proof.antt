@@ -14,6 +14,13 @@ use Rattle.graded_writer.proofs.ListWriters.{span_least, merge_same, all_levels_
 use Rattle.graded_writer.proofs.list.all_levels.Statement.{statement}
 use Rattle.graded_writer.proofs.list.all_levels.Tie as tie
 
+-- The stages of the function, seen from later ones.
+abbrev after_slice_known_2_1_from_after_slice_known_4_1 : tie.After-slice_known-4-1 → tie.After-slice_known-2-1
+after_slice_known_2_1_from_after_slice_known_4_1 c = c.before.before.before.before.before.before.before.before
+
+abbrev after_best_of_four_low_from_after_slice_known_4_1 : tie.After-slice_known-4-1 → tie.After-best_of_four-low
+after_best_of_four_low_from_after_slice_known_4_1 c = (after_slice_known_2_1_from_after_slice_known_4_1 c).before.before
+
 abbrev low_span : Plan → ℕ
 low_span p = levels_span p 2 (p.candidates / 2)
 
@@ -116,7 +123,7 @@ returns c =
     let k = p.candidates in
     let f = c.best_of_four-low in
     let g = c.best_of_four-high in
-    let l = low c.before.before.before.before.before.before.before.before.before.before in
+    let l = low (after_best_of_four_low_from_after_slice_known_4_1 c) in
     let h = high c.before.before.before.before.before.before in
     wrote_then a.all a.table.now _ g.new.table g.result _ _ _ _
     (wrote_then a.all a.table.now _ f.new.table f.result _ _ _ _

@@ -17,6 +17,13 @@ use Rattle.graded_writer.proofs.ListWriters.{pair_is, pair_span}
 use Rattle.graded_writer.proofs.list.pair.Statement.{statement}
 use Rattle.graded_writer.proofs.list.pair.Tie as tie
 
+-- The stages of the function, seen from later ones.
+abbrev after_merge_arg_1_from_after_slice_known_3_1 : tie.After-slice_known-3-1 → tie.After-merge-arg-1
+after_merge_arg_1_from_after_slice_known_3_1 c = c.before.before.before.before.before.before.before.before
+
+abbrev else_count_le1_from_after_slice_known_3_1 : tie.After-slice_known-3-1 → tie.Else-count-le1
+else_count_le1_from_after_slice_known_3_1 c = (after_merge_arg_1_from_after_slice_known_3_1 c).before.before.before
+
 returns : tie.Need-returns-then-count-le1
 returns c =
     let a = c.args in
@@ -133,7 +140,7 @@ returns_2 c =
     let e : c.merge-met.result.wire - 7 + 1 ≡ result_at p n + 1 =
     omega (arith, (met c.before.before.before.before.before.before.before).place) in
     wrote_as a.w a.table.now _ _ _ _
-    (sym (ap (levels p 1 n a.c) (two c.before.before.before.before.before.before.before.before.before.before.before) ∙ pair_is p n a.c))
+    (sym (ap (levels p 1 n a.c) (two (else_count_le1_from_after_slice_known_3_1 c)) ∙ pair_is p n a.c))
     (wrote_then a.w a.table.now _ c.merge-met.new.table
     c.merge-met.result _ _ _ _
     (wrote_as a.w a.table.now _ _ _ _

@@ -18,6 +18,34 @@ use Rattle.graded_writer.proofs.ListWriters.{span_least, key_below, merge_same, 
 use Rattle.graded_writer.proofs.list.two_to_four.Statement.{statement}
 use Rattle.graded_writer.proofs.list.two_to_four.Tie as tie
 
+-- The stages of the function, seen from later ones.
+abbrev after_slice_known_2_1_from_after_slice_known_4_1 : tie.After-slice_known-4-1 → tie.After-slice_known-2-1
+after_slice_known_2_1_from_after_slice_known_4_1 c = c.before.before.before.before.before.before.before.before
+
+abbrev after_pair_low_from_after_slice_known_4_1 : tie.After-slice_known-4-1 → tie.After-pair-low
+after_pair_low_from_after_slice_known_4_1 c = (after_slice_known_2_1_from_after_slice_known_4_1 c).before.before
+
+abbrev after_slice_known_3_1_from_after_struct_known_1 : tie.After-struct_known-1 → tie.After-slice_known-3-1
+after_slice_known_3_1_from_after_struct_known_1 c = c.before.before.before.before.before.before.before.before
+
+abbrev after_pair_low_from_after_struct_known_1 : tie.After-struct_known-1 → tie.After-pair-low
+after_pair_low_from_after_struct_known_1 c = (after_slice_known_3_1_from_after_struct_known_1 c).before.before.before.before.before.before
+
+abbrev after_pair_high_from_after_struct_known_1 : tie.After-struct_known-1 → tie.After-pair-high
+after_pair_high_from_after_struct_known_1 c = (after_slice_known_3_1_from_after_struct_known_1 c).before.before
+
+abbrev after_table_3_1_from_after_slice_known_5_1 : tie.After-slice_known-5-1 → tie.After-table-3-1
+after_table_3_1_from_after_slice_known_5_1 c = c.before.before.before.before.before.before.before.before
+
+abbrev after_halves_met_from_after_slice_known_5_1 : tie.After-slice_known-5-1 → tie.After-halves-met
+after_halves_met_from_after_slice_known_5_1 c = (after_table_3_1_from_after_slice_known_5_1 c).before
+
+abbrev after_pair_low_from_after_slice_known_5_1 : tie.After-slice_known-5-1 → tie.After-pair-low
+after_pair_low_from_after_slice_known_5_1 c = (after_halves_met_from_after_slice_known_5_1 c).before.before.before.before.before.before.before.before
+
+abbrev after_pair_high_from_after_slice_known_5_1 : tie.After-slice_known-5-1 → tie.After-pair-high
+after_pair_high_from_after_slice_known_5_1 c = (after_table_3_1_from_after_slice_known_5_1 c).before.before.before.before.before
+
 sub_second : tie.Need-overflow_sub-second
 sub_second c =
     omega arith
@@ -174,7 +202,7 @@ best_key_requires c κs =
       small = omega (arith, q.levels_below, c.requires.room.small);
       key_below = λ z. omega (
         arith,
-        (low c.before.before.before.before.before.before.before.before.before.before).place,
+        (low (after_pair_low_from_after_slice_known_4_1 c)).place,
         span_least c.args.p 0
             (c.args.count / 2) z,
       );
@@ -216,8 +244,8 @@ better_requires c κs =
     let q = c.requires in
     let t = c.requires.some in
     let e = (met c.before.before.before.before.before.before).place in
-    let e₁ = (low c.before.before.before.before.before.before.before.before.before.before.before.before.before.before).place in
-    let e₂ = (high c.before.before.before.before.before.before.before.before.before.before).place in
+    let e₁ = (low (after_pair_low_from_after_struct_known_1 c)).place in
+    let e₂ = (high (after_pair_high_from_after_struct_known_1 c)).place in
     let n = c.halves-met.result.wire in
     record {
       plan = f;
@@ -248,7 +276,7 @@ returns c =
     let m = a.count in
     let x = cond (leb (m / 2) 1) (key_at p a.c) (c.pair-low.result.wire - key_span p) in
     let e : c.halves-met.result.wire - m - 5 + 1
-    ≡ result_at p (merge_at p 1 n m) + 1 = omega (arith, (met c.before.before.before.before.before.before.before.before.before).place) in
+    ≡ result_at p (merge_at p 1 n m) + 1 = omega (arith, (met (after_halves_met_from_after_slice_known_5_1 c)).place) in
     wrote_as a.w a.table.now _ _ _ _ (sym (levels_more p 1 m n a.c c.requires.some))
     (wrote_then a.w a.table.now _ c.halves-met.new.table
     c.halves-met.result _ _ _ _
@@ -258,8 +286,9 @@ returns c =
     c.pair-low.result _ _ _ _
     c.pair-low.ensures
     c.pair-high.ensures
-    (ap (λ (k : ℕ). levels p 1 k (a.c + m / 2) (m - m / 2)) (low c.before.before.before.before.before.before.before.before.before.before.before.before.before.before.before.before.before).place))
-    c.halves-met.ensures (sym (merge_wrote c.before.before.before.before.before.before.before.before.before)))
+    (ap (λ (k : ℕ). levels p 1 k (a.c + m / 2) (m - m / 2))
+        (low (after_pair_low_from_after_slice_known_5_1 c)).place))
+    c.halves-met.ensures (sym (merge_wrote (after_halves_met_from_after_slice_known_5_1 c))))
     c.better.ensures
     (ap (λ (k : ℕ). choose (c.halves-met.result.wire - m - 5 + 1) k
     c.best_key-y.result (key_span p))
@@ -269,7 +298,8 @@ returns c =
     ∙ better_same p 0 n a.c m (c.halves-met.result.wire - m - 5 + 1)
     c.pair-low.result.wire
     c.pair-high.result.wire e
-    (low c.before.before.before.before.before.before.before.before.before.before.before.before.before.before.before.before.before).place (high c.before.before.before.before.before.before.before.before.before.before.before.before.before).place))
+    (low (after_pair_low_from_after_slice_known_5_1 c)).place
+        (high (after_pair_high_from_after_slice_known_5_1 c)).place))
 
 same_length : tie.Need-shape_of-table
 same_length c =

@@ -12,6 +12,25 @@ use Rattle.graded_circuit.proofs.MergeLaws.{high_leaves, select_flags_block, kee
 use Rattle.graded_writer.proofs.merge.merge.Statement.{statement}
 use Rattle.graded_writer.proofs.merge.merge.Tie as tie
 
+-- The stages of the function, seen from later ones.
+abbrev after_table_1_from_after_keep_winners_first : tie.After-keep_winners-first → tie.After-table-1
+after_table_1_from_after_keep_winners_first c = c.before.before.before.before.before.before.before.before
+
+abbrev after_contest_compared_from_after_keep_winners_first : tie.After-keep_winners-first → tie.After-contest-compared
+after_contest_compared_from_after_keep_winners_first c = (after_table_1_from_after_keep_winners_first c).before
+
+abbrev after_select_flags_arg_1_from_after_keep_winners_arg_2_1 : tie.After-keep_winners-arg-2-1 → tie.After-select_flags-arg-1
+after_select_flags_arg_1_from_after_keep_winners_arg_2_1 c = c.before.before.before.before.before.before.before.before
+
+abbrev after_contest_compared_from_after_keep_winners_arg_2_1 : tie.After-keep_winners-arg-2-1 → tie.After-contest-compared
+after_contest_compared_from_after_keep_winners_arg_2_1 c = (after_select_flags_arg_1_from_after_keep_winners_arg_2_1 c).before.before.before.before
+
+abbrev after_slice_known_3_1_from_after_slice_known_5_1 : tie.After-slice_known-5-1 → tie.After-slice_known-3-1
+after_slice_known_3_1_from_after_slice_known_5_1 c = c.before.before.before.before.before.before.before.before
+
+abbrev after_contest_compared_from_after_slice_known_5_1 : tie.After-slice_known-5-1 → tie.After-contest-compared
+after_contest_compared_from_after_slice_known_5_1 c = (after_slice_known_3_1_from_after_slice_known_5_1 c).before.before.before.before.before.before.before
+
 contest_requires : tie.Need-contest-compared-requires
 contest_requires c κs =
     let s = c in
@@ -95,14 +114,14 @@ first c =
     (keep_winners_block c.select_flags-judged.result.wire a.u
     (c.contest-compared.result.wire - 2 + 4) a.l
     (λ k. let z = q.first_won k in omega arith)
-    (omega (arith, (compared c.before.before.before.before.before.before.before.before.before).place, p))).long
+    (omega (arith, (compared (after_contest_compared_from_after_keep_winners_first c)).place, p))).long
     (judged c.before.before.before.before)
 
 add_keep_winners_2 : tie.Need-overflow_add-q-2
 add_keep_winners_2 c =
     omega (
       arith,
-      (compared c.before.before.before.before.before.before.before.before.before.before.before.before).place,
+      (compared (after_contest_compared_from_after_keep_winners_arg_2_1 c)).place,
       c.requires.room.small,
     )
 
@@ -122,7 +141,7 @@ returns c =
     let a = c.args in
     let e : c.contest-compared.result.wire - 2
     ≡ result_at a.p a.w.wire =
-    omega (arith, (compared c.before.before.before.before.before.before.before.before.before.before.before.before.before.before.before).place) in
+    omega (arith, (compared (after_contest_compared_from_after_slice_known_5_1 c)).place) in
     wrote_then a.w a.table.now _ c.keep_winners-first.new.table
     c.keep_winners-first.result _ _ _ _
     (wrote_then a.w a.table.now _

@@ -9,6 +9,19 @@ use Rattle.ranked_circuit.specs.Contests.{meeting}
 use Rattle.ranked_blocks.proofs.entries.meet.Statement.{statement}
 use Rattle.ranked_blocks.proofs.entries.meet.Tie as tie
 
+-- The stages of the function, seen from later ones.
+abbrev after_slice_known_1_from_after_kept_5 : tie.After-kept-5 → tie.After-slice_known-1
+after_slice_known_1_from_after_kept_5 c = c.before.before.before.before.before.before.before.before
+
+abbrev start_from_after_kept_5 : tie.After-kept-5 → tie.Start
+start_from_after_kept_5 c = (after_slice_known_1_from_after_kept_5 c).before
+
+abbrev after_shared_slice_known_1_from_after_kept_6 : tie.After-kept-6 → tie.After-shared_slice_known-1
+after_shared_slice_known_1_from_after_kept_6 c = c.before.before.before.before.before.before.before.before
+
+abbrev start_from_after_kept_6 : tie.After-kept-6 → tie.Start
+start_from_after_kept_6 c = (after_shared_slice_known_1_from_after_kept_6 c).before.before
+
 -- the candidates i, j and l
 pub record Three (k i j : ℕ) : Type 0 where
   pub last : k - 1 < k
@@ -81,8 +94,8 @@ kept_requires_6 c κs =
     let s = c in
     record {
       few = s.requires.kept.ranked.k_most;
-      row = (who s.before.before.before.before.before.before.before.before.before).earlier;
-      column = (who s.before.before.before.before.before.before.before.before.before).last;
+      row = (who (start_from_after_kept_5 s)).earlier;
+      column = (who (start_from_after_kept_5 s)).last;
       long = s.requires.kept.wires_long;
     }
 
@@ -93,7 +106,7 @@ meeting_requires c κs =
     let k = s.args.p.candidates in
     let i = s.args.i in
     let j = s.args.j in
-    let t = who s.before.before.before.before.before.before.before.before.before.before in
+    let t = who (start_from_after_kept_6 s) in
     let ib = t.i_before in
     let jb = t.j_before in
     let l = s.requires.later in

@@ -16,6 +16,43 @@ use Rattle.ranked_blocks.proofs.Entering.{apart_later, new_zero, new_first, new_
 use Rattle.ranked_blocks.proofs.entries.new_word.Statement.{statement}
 use Rattle.ranked_blocks.proofs.entries.new_word.Tie as tie
 
+-- The stages of the function, seen from later ones.
+abbrev after_shared_slice_known_2_1_from_after_slice_known_then_m_eq0_1 : tie.After-slice_known-then-m-eq0-1 → tie.After-shared_slice_known-2-1
+after_shared_slice_known_2_1_from_after_slice_known_then_m_eq0_1 c = c.before.before.before.before.before.before.before.before
+
+abbrev start_from_after_slice_known_then_m_eq0_1 : tie.After-slice_known-then-m-eq0-1 → tie.Start
+start_from_after_slice_known_then_m_eq0_1 c = (after_shared_slice_known_2_1_from_after_slice_known_then_m_eq0_1 c).before.before.before
+
+abbrev after_slice_known_1_from_after_cut_at_cut : tie.After-cut_at-cut → tie.After-slice_known-1
+after_slice_known_1_from_after_cut_at_cut c = c.before.before.before.before.before.before.before.before
+
+abbrev start_from_after_cut_at_cut : tie.After-cut_at-cut → tie.Start
+start_from_after_cut_at_cut c = (after_slice_known_1_from_after_cut_at_cut c).before
+
+abbrev after_shared_slice_known_2_1_from_after_link_or_way_arg_1 : tie.After-link_or_way-arg-1 → tie.After-shared_slice_known-2-1
+after_shared_slice_known_2_1_from_after_link_or_way_arg_1 c = c.before.before.before.before.before.before.before.before
+
+abbrev start_from_after_link_or_way_arg_1 : tie.After-link_or_way-arg-1 → tie.Start
+start_from_after_link_or_way_arg_1 c = (after_shared_slice_known_2_1_from_after_link_or_way_arg_1 c).before.before.before
+
+abbrev else_m_eq0_from_after_slice_known_then_m_eq1_1 : tie.After-slice_known-then-m-eq1-1 → tie.Else-m-eq0
+else_m_eq0_from_after_slice_known_then_m_eq1_1 c = c.before.before.before.before.before.before.before.before
+
+abbrev start_from_after_slice_known_then_m_eq1_1 : tie.After-slice_known-then-m-eq1-1 → tie.Start
+start_from_after_slice_known_then_m_eq1_1 c = (else_m_eq0_from_after_slice_known_then_m_eq1_1 c).before.before.before.before.before.before
+
+abbrev after_shared_slice_known_2_1_from_after_path_or_way_arg_1 : tie.After-path_or_way-arg-1 → tie.After-shared_slice_known-2-1
+after_shared_slice_known_2_1_from_after_path_or_way_arg_1 c = c.before.before.before.before.before.before.before.before
+
+abbrev start_from_after_path_or_way_arg_1 : tie.After-path_or_way-arg-1 → tie.Start
+start_from_after_path_or_way_arg_1 c = (after_shared_slice_known_2_1_from_after_path_or_way_arg_1 c).before.before.before
+
+abbrev else_m_eq0_from_after_slice_known_2_1 : tie.After-slice_known-2-1 → tie.Else-m-eq0
+else_m_eq0_from_after_slice_known_2_1 c = c.before.before.before.before.before.before.before.before
+
+abbrev start_from_after_slice_known_2_1 : tie.After-slice_known-2-1 → tie.Start
+start_from_after_slice_known_2_1 c = (else_m_eq0_from_after_slice_known_2_1 c).before.before.before.before.before.before
+
 abbrev cut_of : tie.Start → ℕ
 cut_of s = cut_at s.args.p.candidates s.args.p.digits s.args.m s.args.i s.args.j
 
@@ -85,7 +122,8 @@ returns c =
     wrote_as a.w a.table.now _ _ d.masked.new.table d.masked.result
     (zero_same r.kept-link.result r.kept-word.result a.p.digits (kept_of a.links.now k a.i a.j)
     (kept_of a.words.now k a.i a.j) r.kept-link.ensures r.kept-word.ensures
-    ∙ new_zero (kept_of a.links.now k) (kept_of a.words.now k) a.p.digits (cut_of s.before.before.before.before.before.before.before.before.before.before.before) a.w.wire a.i
+    ∙ new_zero (kept_of a.links.now k) (kept_of a.words.now k) a.p.digits
+        (cut_of (start_from_after_slice_known_then_m_eq0_1 s)) a.w.wire a.i
     a.j a.m t.if-m-eq0.true) d.masked.ensures
 
 -- the detour goes over a candidate
@@ -138,9 +176,10 @@ below c =
     let b = s.requires.kept.below in
     record {
       word = omega (arith, b a.i a.j s.requires.row s.requires.column p.2, r.kept-word.ensures);
-      to = omega (arith, b a.i (a.m - 1) s.requires.row (over s.before.before.before.before.before.before.before.before.before) p.0, c.kept-to.ensures);
-      from = omega (arith, b (a.m - 1) a.j (over s.before.before.before.before.before.before.before.before.before) s.requires.column (λ z. p.1 (sym z)), c.kept-from.ensures);
-      most = omega (arith, c.cut_at-cut.ensures, within s.before.before.before.before.before.before.before.before.before);
+      to = omega (arith, b a.i (a.m - 1) s.requires.row (over (start_from_after_cut_at_cut s)) p.0, c.kept-to.ensures);
+      from = omega (arith, b (a.m - 1) a.j (over (start_from_after_cut_at_cut s)) s.requires.column (λ z. p.1 (sym z)),
+          c.kept-from.ensures);
+      most = omega (arith, c.cut_at-cut.ensures, within (start_from_after_cut_at_cut s));
     }
 
 link_or_way_requires : tie.Need-link_or_way-requires
@@ -154,8 +193,9 @@ link_or_way_requires c κs =
     record {
       room = room_less a.w _ _ (omega (
         arith,
-        long_first (kept_of a.links.now k) (kept_of a.words.now k) a.p.digits (cut_of s.before.before.before.before.before.before.before.before.before.before.before) a.w.wire
-            a.i a.j (within s.before.before.before.before.before.before.before.before.before.before.before) a.m t.if-m-eq1.true,
+        long_first (kept_of a.links.now k) (kept_of a.words.now k) a.p.digits
+            (cut_of (start_from_after_link_or_way_arg_1 s)) a.w.wire
+            a.i a.j (within (start_from_after_link_or_way_arg_1 s)) a.m t.if-m-eq1.true,
         q.cut_at-cut.ensures,
       )) s.requires.room;
       word_below = b.word;
@@ -177,9 +217,11 @@ returns_2 c =
     wrote_as a.w a.table.now _ _ d.link_or_way.new.table d.link_or_way.result
     (first_same a.w.wire r.kept-link.result r.kept-word.result q.kept-to.result
     q.kept-from.result a.p.digits q.cut_at-cut.result (kept_of a.links.now k a.i a.j)
-    (words a.i a.j) (words a.i (a.m - 1)) (words (a.m - 1) a.j) (cut_of s.before.before.before.before.before.before.before.before.before.before.before.before.before.before)
+    (words a.i a.j) (words a.i (a.m - 1)) (words (a.m - 1) a.j)
+        (cut_of (start_from_after_slice_known_then_m_eq1_1 s))
     r.kept-link.ensures r.kept-word.ensures q.kept-to.ensures q.kept-from.ensures q.cut_at-cut.ensures
-    ∙ new_first (kept_of a.links.now k) words a.p.digits (cut_of s.before.before.before.before.before.before.before.before.before.before.before.before.before.before) a.w.wire a.i a.j a.m
+    ∙ new_first (kept_of a.links.now k) words a.p.digits
+        (cut_of (start_from_after_slice_known_then_m_eq1_1 s)) a.w.wire a.i a.j a.m
     t.if-m-eq1.true) d.link_or_way.ensures
 
 path_or_way_requires : tie.Need-path_or_way-requires
@@ -193,8 +235,9 @@ path_or_way_requires c κs =
     record {
       room = room_less a.w _ _ (omega (
         arith,
-        long_later (kept_of a.links.now k) (kept_of a.words.now k) a.p.digits (cut_of s.before.before.before.before.before.before.before.before.before.before.before) a.w.wire
-            a.i a.j (within s.before.before.before.before.before.before.before.before.before.before.before) a.m q.if-m-eq0.false t.if-m-eq1.false,
+        long_later (kept_of a.links.now k) (kept_of a.words.now k) a.p.digits
+            (cut_of (start_from_after_path_or_way_arg_1 s)) a.w.wire
+            a.i a.j (within (start_from_after_path_or_way_arg_1 s)) a.m q.if-m-eq0.false t.if-m-eq1.false,
         q.cut_at-cut.ensures,
       )) s.requires.room;
       word_below = b.word;
@@ -216,9 +259,10 @@ returns_3 c =
     wrote_as a.w a.table.now _ _ d.path_or_way.new.table d.path_or_way.result
     (later_same a.w.wire r.kept-word.result q.kept-to.result q.kept-from.result
     a.p.digits q.cut_at-cut.result (words a.i a.j) (words a.i (a.m - 1)) (words (a.m - 1) a.j)
-    (cut_of s.before.before.before.before.before.before.before.before.before.before.before.before.before.before)
+    (cut_of (start_from_after_slice_known_2_1 s))
     r.kept-word.ensures q.kept-to.ensures q.kept-from.ensures q.cut_at-cut.ensures
-    ∙ new_later (kept_of a.links.now k) words a.p.digits (cut_of s.before.before.before.before.before.before.before.before.before.before.before.before.before.before) a.w.wire a.i a.j a.m
+    ∙ new_later (kept_of a.links.now k) words a.p.digits
+        (cut_of (start_from_after_slice_known_2_1 s)) a.w.wire a.i a.j a.m
     q.if-m-eq0.false t.if-m-eq1.false) d.path_or_way.ensures
 
 add_masked : tie.Need-overflow_add-p

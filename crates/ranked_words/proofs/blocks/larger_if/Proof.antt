@@ -17,6 +17,13 @@ use Rattle.ranked_words.proofs.Cutting.{cut_end_lem}
 use Rattle.ranked_words.proofs.blocks.larger_if.Statement.{statement}
 use Rattle.ranked_words.proofs.blocks.larger_if.Tie as tie
 
+-- The stages of the function, seen from later ones.
+abbrev after_chain_end_end_from_after_slice_known_4_1 : tie.After-slice_known-4-1 → tie.After-chain_end-end
+after_chain_end_end_from_after_slice_known_4_1 c = c.before.before.before.before.before.before.before.before
+
+abbrev after_order_cut_told_from_after_slice_known_4_1 : tie.After-slice_known-4-1 → tie.After-order_cut-told
+after_order_cut_told_from_after_slice_known_4_1 c = (after_chain_end_end_from_after_slice_known_4_1 c).before.before.before.before
+
 order_cut_requires : tie.Need-order_cut-told-requires
 order_cut_requires c κs =
     let s = c in
@@ -78,7 +85,7 @@ returns c =
     let q = f in
     let a = q.args in
     let n = a.w.wire in
-    let p = (one q.before.before.before.before.before.before.before.before.before.before.before.before).place in
+    let p = (one (after_order_cut_told_from_after_slice_known_4_1 q)).place in
     let end : f.chain_end-end.result ≡ cut_end n a.x a.digits a.cut = f.chain_end-end.ensures
     ∙ cut_end_lem n a.x a.y a.digits a.cut q.order_cut-told.result.wire p in
     wrote_then a.w a.table.now (order_cut n a.x a.y a.digits a.cut) q.order_cut-told.new.table q.order_cut-told.result

@@ -18,6 +18,34 @@ use Rattle.ranked_words.proofs.Cutting.{cut_zero, cut_some}
 use Rattle.ranked_words.proofs.blocks.order_cut.Statement.{statement}
 use Rattle.ranked_words.proofs.blocks.order_cut.Tie as tie
 
+-- The stages of the function, seen from later ones.
+abbrev after_struct_known_1_from_after_compare_halves_arg_1 : tie.After-compare_halves-arg-1 → tie.After-struct_known-1
+after_struct_known_1_from_after_compare_halves_arg_1 c = c.before.before.before.before.before.before.before.before
+
+abbrev else_cut_eq0_from_after_compare_halves_arg_1 : tie.After-compare_halves-arg-1 → tie.Else-cut-eq0
+else_cut_eq0_from_after_compare_halves_arg_1 c = (after_struct_known_1_from_after_compare_halves_arg_1 c).before
+
+abbrev after_chain_end_end_from_after_compare_halves_compared : tie.After-compare_halves-compared → tie.After-chain_end-end
+after_chain_end_end_from_after_compare_halves_compared c = c.before.before.before.before.before.before.before.before
+
+abbrev start_from_after_compare_halves_compared : tie.After-compare_halves-compared → tie.Start
+start_from_after_compare_halves_compared c = (after_chain_end_end_from_after_compare_halves_compared c).before.before.before.before
+
+abbrev after_above_at_over_from_after_slice_known_4_1 : tie.After-slice_known-4-1 → tie.After-above_at-over
+after_above_at_over_from_after_slice_known_4_1 c = c.before.before.before.before.before.before.before.before
+
+abbrev after_slice_known_2_1_from_after_slice_known_4_1 : tie.After-slice_known-4-1 → tie.After-slice_known-2-1
+after_slice_known_2_1_from_after_slice_known_4_1 c = (after_above_at_over_from_after_slice_known_4_1 c).before.before
+
+abbrev start_from_after_slice_known_4_1 : tie.After-slice_known-4-1 → tie.Start
+start_from_after_slice_known_4_1 c = (after_slice_known_2_1_from_after_slice_known_4_1 c).before.before.before.before.before.before.before.before
+
+abbrev after_order_told_from_after_slice_known_4_1 : tie.After-slice_known-4-1 → tie.After-order-told
+after_order_told_from_after_slice_known_4_1 c = (after_above_at_over_from_after_slice_known_4_1 c).before.before.before.before
+
+abbrev else_cut_eq0_from_after_slice_known_4_1 : tie.After-slice_known-4-1 → tie.Else-cut-eq0
+else_cut_eq0_from_after_slice_known_4_1 c = (after_above_at_over_from_after_slice_known_4_1 c).before.before.before.before.before.before.before.before
+
 -- one chain
 order_requires : tie.Need-order-requires
 order_requires c κs =
@@ -97,13 +125,13 @@ add_compare_halves_2 : tie.Need-overflow_add-y-2
 add_compare_halves_2 c = let s = c in omega (arith, s.requires.room.small, s.requires.second_below)
 
 sub_compare_halves : tie.Need-overflow_sub-cut-3
-sub_compare_halves c = let t = c in omega (arith, some t.before.before.before.before.before.before.before.before.before)
+sub_compare_halves c = let t = c in omega (arith, some (else_cut_eq0_from_after_compare_halves_arg_1 t))
 
 compare_halves_requires : tie.Need-compare_halves-compared-requires
 compare_halves_requires c κs =
     let q = c in
     let s = q in
-    let e = some q.before.before.before.before.before.before.before.before.before in
+    let e = some (else_cut_eq0_from_after_compare_halves_arg_1 q) in
     let w = s.requires.within in
     let p = (one q.before.before.before.before.before).place in
     record {
@@ -114,7 +142,7 @@ compare_halves_requires c κs =
 
 two : (c : tie.After-compare_halves-compared)
     → Stands c.compare_halves-compared.result
-    (c.args.w.wire + 2 * low_of c.before.before.before.before.before.before.before.before.before.before.before.before
+    (c.args.w.wire + 2 * low_of (start_from_after_compare_halves_compared c)
     + (3 * (c.args.cut - 1) + 1)) 1
 two c =
     let q = c in
@@ -124,7 +152,8 @@ two c =
     let t = one q.before.before.before.before.before.before in
     stands_after q.order-told.result q.order-told.new.table _ c.compare_halves-compared.new.table
     c.compare_halves-compared.result _ (3 * h + 1) 1 c.compare_halves-compared.ensures
-    (length_compare_halves q.order-told.result.wire (a.x + low_of s.before.before.before.before.before.before.before.before.before.before.before.before + 1) (a.y + low_of s.before.before.before.before.before.before.before.before.before.before.before.before + 1) h 0 ∙ omega arith)
+    (length_compare_halves q.order-told.result.wire (a.x + low_of (start_from_after_compare_halves_compared s) + 1)
+        (a.y + low_of (start_from_after_compare_halves_compared s) + 1) h 0 ∙ omega arith)
     (stands q.order-told.result _ _ _ t.place (omega arith) t.left)
 
 emit_requires : tie.Need-emit-requires
@@ -146,14 +175,15 @@ returns_2 c =
     let s = t in
     let a = s.args in
     let n = a.w.wire in
-    let l = low_of s.before.before.before.before.before.before.before.before.before.before.before.before.before.before.before.before.before.before in
+    let l = low_of (start_from_after_slice_known_4_1 s) in
     let h = a.cut - 1 in
     let N = q.order-told.result.wire in
-    let p = (one q.before.before.before.before.before.before.before.before.before.before.before.before).place in
+    let p = (one (after_order_told_from_after_slice_known_4_1 q)).place in
     let X : a.x + l + 1 ≡ a.x + suc l = omega arith in
     let Y : a.y + l + 1 ≡ a.y + suc l = omega arith in
     wrote_as a.w a.table.now _ _ d.emit.new.table d.emit.result
-    (cut_some n a.x a.y a.digits a.cut l h (some t.before.before.before.before.before.before.before.before.before.before.before.before.before.before.before.before) refl)
+    (cut_some n a.x a.y a.digits a.cut l h
+        (some (else_cut_eq0_from_after_slice_known_4_1 t)) refl)
     (wrote_then a.w a.table.now
     (order n a.x a.y l ++ compare_halves (n + 2 * l) (a.x + suc l) (a.y + suc l) h 0)
     z.compare_halves-compared.new.table z.compare_halves-compared.result _ _ d.emit.new.table d.emit.result

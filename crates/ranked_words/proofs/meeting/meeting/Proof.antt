@@ -15,6 +15,28 @@ use Rattle.ranked_circuit.proofs.BlockLaws.{length_whole, length_strictly}
 use Rattle.ranked_words.proofs.meeting.meeting.Statement.{statement}
 use Rattle.ranked_words.proofs.meeting.meeting.Tie as tie
 
+-- The stages of the function, seen from later ones.
+abbrev after_strictly_arg_1_from_after_decide_arg_1 : tie.After-decide-arg-1 → tie.After-strictly-arg-1
+after_strictly_arg_1_from_after_decide_arg_1 c = c.before.before.before.before.before.before.before.before
+
+abbrev after_compare_first_from_after_decide_arg_1 : tie.After-decide-arg-1 → tie.After-compare-first
+after_compare_first_from_after_decide_arg_1 c = (after_strictly_arg_1_from_after_decide_arg_1 c).before.before.before.before.before.before.before
+
+abbrev after_compare_second_from_after_decide_arg_1 : tie.After-decide-arg-1 → tie.After-compare-second
+after_compare_second_from_after_decide_arg_1 c = (after_strictly_arg_1_from_after_decide_arg_1 c).before.before.before
+
+abbrev after_slice_known_4_1_from_after_slice_known_6_1 : tie.After-slice_known-6-1 → tie.After-slice_known-4-1
+after_slice_known_4_1_from_after_slice_known_6_1 c = c.before.before.before.before.before.before.before.before
+
+abbrev after_strictly_third_from_after_slice_known_6_1 : tie.After-slice_known-6-1 → tie.After-strictly-third
+after_strictly_third_from_after_slice_known_6_1 c = (after_slice_known_4_1_from_after_slice_known_6_1 c).before.before
+
+abbrev after_compare_first_from_after_slice_known_6_1 : tie.After-slice_known-6-1 → tie.After-compare-first
+after_compare_first_from_after_slice_known_6_1 c = (after_strictly_third_from_after_slice_known_6_1 c).before.before.before.before.before.before.before.before
+
+abbrev after_compare_second_from_after_slice_known_6_1 : tie.After-slice_known-6-1 → tie.After-compare-second
+after_compare_second_from_after_slice_known_6_1 c = (after_slice_known_4_1_from_after_slice_known_6_1 c).before.before.before.before.before.before
+
 -- the numbers of gates of a comparison both ways, and of one way
 abbrev both : ℕ → ℕ
 both w = 3 + 3 * w
@@ -114,8 +136,8 @@ decide_requires c κs =
     let q = p in
     record {
       room = (four p.before.before.before).left;
-      first = omega (arith, (one q.before.before.before.before.before.before.before.before.before.before.before.before.before.before.before).place);
-      second = omega (arith, (two q.before.before.before.before.before.before.before.before.before.before.before).place);
+      first = omega (arith, (one (after_compare_first_from_after_decide_arg_1 q)).place);
+      second = omega (arith, (two (after_compare_second_from_after_decide_arg_1 q)).place);
       third = omega (arith, (three p.before.before.before.before.before.before.before).place);
       fourth = omega (arith, (four p.before.before.before).place);
     }
@@ -149,12 +171,19 @@ returns c =
     p₂.compare-second.new.table p₂.compare-second.result _ _ p₃.strictly-third.new.table p₃.strictly-third.result
     (wrote_then a.w a.table.now (compare n a.li a.lj w) p₁.compare-first.new.table p₁.compare-first.result
     _ _ p₂.compare-second.new.table p₂.compare-second.result
-    p₁.compare-first.ensures p₂.compare-second.ensures (ap (λ (m : ℕ). compare m a.ij a.ji w) (one p₁.before.before.before.before.before.before.before.before.before.before.before.before.before.before.before.before.before.before).place))
-    p₃.strictly-third.ensures (ap (λ (m : ℕ). strictly m a.ij a.lj w) (two p₂.before.before.before.before.before.before.before.before.before.before.before.before.before.before).place))
-    p₄.strictly-fourth.ensures (ap (λ (m : ℕ). strictly m a.ji a.li w) (three p₃.before.before.before.before.before.before.before.before.before.before).place))
+    p₁.compare-first.ensures p₂.compare-second.ensures
+        (ap (λ (m : ℕ). compare m a.ij a.ji w)
+        (one (after_compare_first_from_after_slice_known_6_1 p₁)).place))
+    p₃.strictly-third.ensures
+        (ap (λ (m : ℕ). strictly m a.ij a.lj w)
+        (two (after_compare_second_from_after_slice_known_6_1 p₂)).place))
+    p₄.strictly-fourth.ensures (ap (λ (m : ℕ). strictly m a.ji a.li w) (three (after_strictly_third_from_after_slice_known_6_1 p₃)).place))
     d.decide.ensures
     (decided p₁.compare-first.result.wire p₂.compare-second.result.wire p₃.strictly-third.result.wire
-    p₄.strictly-fourth.result.wire _ _ _ _ a.mi a.mj (one p₁.before.before.before.before.before.before.before.before.before.before.before.before.before.before.before.before.before.before).place (two p₂.before.before.before.before.before.before.before.before.before.before.before.before.before.before).place (three p₃.before.before.before.before.before.before.before.before.before.before).place
+    p₄.strictly-fourth.result.wire _ _ _ _ a.mi a.mj
+        (one (after_compare_first_from_after_slice_known_6_1 p₁)).place
+        (two (after_compare_second_from_after_slice_known_6_1 p₂)).place
+        (three (after_strictly_third_from_after_slice_known_6_1 p₃)).place
     (four p₄.before.before.before.before.before.before).place)
 
 same_length : tie.Need-shape_of-table

@@ -19,6 +19,19 @@ use Rattle.ranked_writer.proofs.Parts.{list_parts, list_long, duels_from_lem, lo
 use Rattle.ranked_writer.proofs.list.circuit.Statement.{statement}
 use Rattle.ranked_writer.proofs.list.circuit.Tie as tie
 
+-- The stages of the function, seen from later ones.
+abbrev after_slice_known_3_1_from_after_beats_4_1 : tie.After-beats-4-1 → tie.After-slice_known-3-1
+after_slice_known_3_1_from_after_beats_4_1 c = c.before.before.before.before.before.before.before.before
+
+abbrev after_contests_met_from_after_beats_4_1 : tie.After-beats-4-1 → tie.After-contests-met
+after_contests_met_from_after_beats_4_1 c = (after_slice_known_3_1_from_after_beats_4_1 c).before.before
+
+abbrev after_beats_3_1_from_after_slice_known_5_1 : tie.After-slice_known-5-1 → tie.After-beats-3-1
+after_beats_3_1_from_after_slice_known_5_1 c = c.before.before.before.before.before.before.before.before
+
+abbrev after_contests_met_from_after_slice_known_5_1 : tie.After-slice_known-5-1 → tie.After-contests-met
+after_contests_met_from_after_slice_known_5_1 c = (after_beats_3_1_from_after_slice_known_5_1 c).before.before.before.before.before
+
 -- what is known from the start
 pub record Known (p : Ranks) : Type 0 where
   pub two : p.candidates ≡ suc (suc (p.candidates - 2))
@@ -137,7 +150,8 @@ output_gates_requires c κs =
     let r = q.loser_rows-lost in
     let e = rows_size q.before.before.before.before in
     record {
-      room = room_after l.result l.new.table _ r.new.table r.result _ _ r.ensures (omega (arith, e)) (room_rows q.before.before.before.before.before.before.before.before.before.before);
+      room = room_after l.result l.new.table _ r.new.table r.result _ _ r.ensures (omega (arith, e))
+          (room_rows (after_contests_met_from_after_beats_4_1 q));
       k_least = s.requires.ranked.k_least;
       k_most = s.requires.ranked.k_most;
       long = l.ensures.kept.long;
@@ -187,9 +201,11 @@ returns c =
     (wrote_both a.w a.table.now paths h.new.table h.result met l.new.table l.result
     h.ensures.wrote l.ensures.wrote)
     (wrote_as l.result l.new.table _ rows r.new.table r.result
-    (rows_are k n w bs l.result.wire two l.ensures.kept (losers_start x.before.before.before.before.before.before.before.before.before.before.before.before.before)) r.ensures))
+    (rows_are k n w bs l.result.wire two l.ensures.kept
+        (losers_start (after_contests_met_from_after_slice_known_5_1 x))) r.ensures))
     (wrote_as r.result r.new.table _ outputs o.new.table o.result
-    (outputs_are k n w bs l.result.wire two l.ensures.kept (losers_start x.before.before.before.before.before.before.before.before.before.before.before.before.before)) o.ensures))
+    (outputs_are k n w bs l.result.wire two l.ensures.kept
+        (losers_start (after_contests_met_from_after_slice_known_5_1 x))) o.ensures))
   where
     -- the contests as one part
     grouped : (k n w r : ℕ) → 1 ≤ r → k ≡ suc (suc r) →

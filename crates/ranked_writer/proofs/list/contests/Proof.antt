@@ -15,6 +15,25 @@ use Rattle.ranked_writer.proofs.Parts.{kept_below, duels_from_lem, meetings_from
 use Rattle.ranked_writer.proofs.list.contests.Statement.{statement}
 use Rattle.ranked_writer.proofs.list.contests.Tie as tie
 
+-- The stages of the function, seen from later ones.
+abbrev after_links_table_arg_2_1_from_after_meetings_table_arg_2_1 : tie.After-meetings_table-arg-2-1 → tie.After-links_table-arg-2-1
+after_links_table_arg_2_1_from_after_meetings_table_arg_2_1 c = c.before.before.before.before.before.before.before.before
+
+abbrev start_from_after_meetings_table_arg_2_1 : tie.After-meetings_table-arg-2-1 → tie.Start
+start_from_after_meetings_table_arg_2_1 c = (after_links_table_arg_2_1_from_after_meetings_table_arg_2_1 c).before.before.before.before.before
+
+abbrev after_beats_1_from_after_slice_known_6_1 : tie.After-slice_known-6-1 → tie.After-beats-1
+after_beats_1_from_after_slice_known_6_1 c = c.before.before.before.before.before.before.before.before
+
+abbrev after_table_1_from_after_slice_known_6_1 : tie.After-slice_known-6-1 → tie.After-table-1
+after_table_1_from_after_slice_known_6_1 c = (after_beats_1_from_after_slice_known_6_1 c).before.before
+
+abbrev start_from_after_slice_known_6_1 : tie.After-slice_known-6-1 → tie.Start
+start_from_after_slice_known_6_1 c = (after_table_1_from_after_slice_known_6_1 c).before.before.before.before.before.before.before.before
+
+abbrev after_links_table_met_from_after_slice_known_6_1 : tie.After-slice_known-6-1 → tie.After-links_table-met
+after_links_table_met_from_after_slice_known_6_1 c = (after_beats_1_from_after_slice_known_6_1 c).before.before.before
+
 -- the table of duels is that of the definition
 same : (s : tie.Start) → table s.args.w.wire s.args.p.candidates
     (links_block (s.args.p.candidates - 1) (kept_of s.args.words.now s.args.p.candidates)
@@ -36,7 +55,8 @@ links_table_requires : tie.Need-links_table-met-requires
 links_table_requires c κs =
     let s = c in
     record {
-      kept = record { ranked = s.requires.ranked; words_long = s.requires.paths.long; wires_long = s.requires.long; below = below s.before.before.before.before.before.before };
+      kept = record { ranked = s.requires.ranked; words_long = s.requires.paths.long; wires_long = s.requires.long; below =
+          below s.before.before.before.before.before.before };
       room = room_less s.args.w _ _ (omega (arith, ap length (same s.before.before.before.before.before.before))) s.requires.room;
     }
 
@@ -80,10 +100,11 @@ meetings_table_requires c κs =
         ranked = s.requires.ranked;
         words_long = s.requires.paths.long;
         wires_long = l.ensures.kept.long;
-        below = λ i j hi hj ne. omega (arith, below s.before.before.before.before.before.before.before.before.before.before.before.before.before i j hi hj ne);
+        below = λ i j hi hj ne. omega (arith, below (start_from_after_meetings_table_arg_2_1 s) i j hi hj ne);
       };
       room = room_after a.w a.table.now _ l.new.table l.result _ _ l.ensures.wrote
-          (omega (arith, ap length (same s.before.before.before.before.before.before.before.before.before.before.before.before.before), ap length (met q.before.before.before.before.before.before))) s.requires.room;
+          (omega (arith, ap length (same (start_from_after_meetings_table_arg_2_1 s)),
+              ap length (met q.before.before.before.before.before.before))) s.requires.room;
     }
 
 returns : tie.Need-returns
@@ -101,10 +122,14 @@ returns c =
     record {
       wrote =
           wrote_both a.w a.table.now (duels k n w) l.new.table l.result (meetings k n w) m.new.table m.result
-          (wrote_as a.w a.table.now _ (duels k n w) l.new.table l.result (same s.before.before.before.before.before.before.before.before.before.before.before.before.before.before.before.before.before.before) l.ensures.wrote)
-          (wrote_as l.result l.new.table _ (meetings k n w) m.new.table m.result (met q.before.before.before.before.before.before.before.before.before.before.before) m.ensures.wrote);
+          (wrote_as a.w a.table.now _ (duels k n w) l.new.table l.result
+              (same (start_from_after_slice_known_6_1 s))
+              l.ensures.wrote)
+          (wrote_as l.result l.new.table _ (meetings k n w) m.new.table m.result
+              (met (after_links_table_met_from_after_slice_known_6_1 q)) m.ensures.wrote);
       kept = beats_kept k n w a.words.now s.requires.paths a.w.wire s.requires.place l.new.links
-          a.beats.now l.ensures.kept l.result.wire m.new.met (stands q.before.before.before.before.before.before.before.before.before.before.before) m.ensures.kept;
+          a.beats.now l.ensures.kept l.result.wire m.new.met (stands (after_links_table_met_from_after_slice_known_6_1 q))
+              m.ensures.kept;
     }
 
 same_length : tie.Need-shape_of-table

@@ -15,6 +15,13 @@ use Rattle.ranked_writer.proofs.Parts.{first_parts, links_from_lem, votes_words,
 use Rattle.ranked_writer.proofs.list.first_tables.Statement.{statement}
 use Rattle.ranked_writer.proofs.list.first_tables.Tie as tie
 
+-- The stages of the function, seen from later ones.
+abbrev after_words_1_from_after_slice_known_7_1 : tie.After-slice_known-7-1 → tie.After-words-1
+after_words_1_from_after_slice_known_7_1 c = c.before.before.before.before.before.before.before.before
+
+abbrev after_votes_table_counted_from_after_slice_known_7_1 : tie.After-slice_known-7-1 → tie.After-votes_table-counted
+after_votes_table_counted_from_after_slice_known_7_1 c = (after_words_1_from_after_slice_known_7_1 c).before.before.before
+
 -- the length of both tables
 long : (k n w : ℕ) → length (paths_to k n w 0).gates ≡ length (table (n * k * k) k (votes_block k n w))
     + length (table (links_from k n w) k (links_block 0 (votes_at k n w) w))
@@ -124,13 +131,13 @@ returns c =
           (votes_from p.candidates p.ballots p.digits a.w.wire
           c.requires.place) v.ensures.wrote)
           (wrote_as v.result v.new.table _ _ l.new.table l.result
-          (same c.before.before.before.before.before.before.before.before.before.before.before) l.ensures.wrote));
-      words_kept = kept c.before.before.before.before.before.before.before.before.before.before.before;
+          (same (after_votes_table_counted_from_after_slice_known_7_1 c)) l.ensures.wrote));
+      words_kept = kept (after_votes_table_counted_from_after_slice_known_7_1 c);
       links_kept = subst (λ (f : ℕ → ℕ → ℕ). Keeps p.candidates l.new.links f)
           (link_wire_is p.candidates p.ballots p.digits)
           (links_kept_is p.candidates p.ballots p.digits words v.new.words
-          (kept c.before.before.before.before.before.before.before.before.before.before.before) v.result.wire from l.new.links
-          (kept_of a.links.now p.candidates) (stands c.before.before.before.before.before.before.before.before.before.before.before) l.ensures.kept);
+          (kept (after_votes_table_counted_from_after_slice_known_7_1 c)) v.result.wire from l.new.links
+          (kept_of a.links.now p.candidates) (stands (after_votes_table_counted_from_after_slice_known_7_1 c)) l.ensures.kept);
     }
 
 same_length : tie.Need-shape_of-table

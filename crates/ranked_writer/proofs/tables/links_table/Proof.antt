@@ -37,6 +37,13 @@ invariant_loop table₀ words wires₀ p first k next₀ e₀ table wires next e
 abbrev decreases_loop : tie.decreases-loop-e
 decreases_loop table₀ words wires₀ p first k next₀ e₀ table wires next e = p.candidates * p.candidates - e
 
+-- The stages of the function, seen from later ones.
+abbrev at_loop_e_from_after_slice_known_in_loop_e_2_1 : tie.After-slice_known-in-loop-e-2-1 invariant_loop decreases_loop → tie.At-loop-e invariant_loop decreases_loop
+at_loop_e_from_after_slice_known_in_loop_e_2_1 c = c.before.before.before.before.before.before.before.before
+
+abbrev start_from_after_slice_known_in_loop_e_2_1 : tie.After-slice_known-in-loop-e-2-1 invariant_loop decreases_loop → tie.Start invariant_loop decreases_loop
+start_from_after_slice_known_in_loop_e_2_1 c = (at_loop_e_from_after_slice_known_in_loop_e_2_1 c).before.before.before.before
+
 abbrev block_at : tie.Start invariant_loop decreases_loop → ℕ → ℕ → ℕ → List Gate
 block_at s = block s.args.p s.args.first s.args.words.now
 
@@ -83,7 +90,8 @@ links_entry_requires c κs =
         below = λ i j hi hj ne. omega (arith, from, b i j hi hj ne);
       };
       number = t.few;
-      room = table_room a.w a.table.now k (block_at s.before.before.before.before.before.before.before) l.e l.table l.next t.few s.requires.room l.invariant.wrote;
+      room = table_room a.w a.table.now k (block_at s.before.before.before.before.before.before.before) l.e l.table l.next t.few s.requires.room
+          l.invariant.wrote;
     }
 
 add_e : tie.Need-overflow_add-e invariant_loop decreases_loop
@@ -102,17 +110,20 @@ loop_again c =
     let l = q.loop-e in
     let t = now q.before.before.before.before.before.before.before in
     let h = d.links_entry-next in
-    let more = table_next a.w a.table.now k (block_at s.before.before.before.before.before.before.before.before.before.before.before.before) l.e l.table l.next h.new.table
+    let more = table_next a.w a.table.now k (block_at (start_from_after_slice_known_in_loop_e_2_1 s)) l.e l.table l.next
+        h.new.table
     h.result l.invariant.wrote h.ensures.wrote in
     record {
       same = l.invariant.same;
       few = omega (arith, t.few);
       wrote = more;
       kept =
-          links_next k (leb a.first) (entry_end a.w.wire k (block_at s.before.before.before.before.before.before.before.before.before.before.before.before)) a.links.now
+          links_next k (leb a.first) (entry_end a.w.wire k (block_at (start_from_after_slice_known_in_loop_e_2_1 s)))
+              a.links.now
           s.requires.kept.ranked.k_most l.e l.links h.new.links h.result.wire t.row
           t.column l.invariant.kept h.ensures.kept
-          (end_here a.w a.table.now k (block_at s.before.before.before.before.before.before.before.before.before.before.before.before) l.e (l.e / k) (l.e % k) h.new.table h.result t.number more);
+          (end_here a.w a.table.now k (block_at (start_from_after_slice_known_in_loop_e_2_1 s)) l.e (l.e / k) (l.e % k)
+              h.new.table h.result t.number more);
     }
 
 same_length : tie.Need-shape_of-table invariant_loop decreases_loop

@@ -40,6 +40,13 @@ invariant_loop table₀ words wires₀ p k next₀ e₀ table wires next e =
 abbrev decreases_loop : tie.decreases-loop-e
 decreases_loop table₀ words wires₀ p k next₀ e₀ table wires next e = p.candidates * p.candidates - e
 
+-- The stages of the function, seen from later ones.
+abbrev at_loop_e_from_after_slice_known_in_loop_e_2_1 : tie.After-slice_known-in-loop-e-2-1 invariant_loop decreases_loop → tie.At-loop-e invariant_loop decreases_loop
+at_loop_e_from_after_slice_known_in_loop_e_2_1 c = c.before.before.before.before.before.before.before.before
+
+abbrev start_from_after_slice_known_in_loop_e_2_1 : tie.After-slice_known-in-loop-e-2-1 invariant_loop decreases_loop → tie.Start invariant_loop decreases_loop
+start_from_after_slice_known_in_loop_e_2_1 c = (at_loop_e_from_after_slice_known_in_loop_e_2_1 c).before.before.before.before
+
 abbrev block_at : tie.Start invariant_loop decreases_loop → ℕ → ℕ → ℕ → List Gate
 block_at s = block s.args.p s.args.words.now s.args.met.now
 
@@ -92,7 +99,8 @@ meetings_entry_requires c κs =
             ap length (met_agree k a.p.digits a.words.now a.met.now (entry_end a.w.wire k (block_at s.before.before.before.before.before.before.before))
                 l.e l.met l.invariant.kept l.next.wire t.few),
           ))
-          (table_room a.w a.table.now k (block_at s.before.before.before.before.before.before.before) l.e l.table l.next t.few s.requires.room l.invariant.wrote);
+          (table_room a.w a.table.now k (block_at s.before.before.before.before.before.before.before) l.e l.table l.next t.few s.requires.room
+              l.invariant.wrote);
     }
 
 add_e : tie.Need-overflow_add-e invariant_loop decreases_loop
@@ -111,19 +119,23 @@ loop_again c =
     let l = q.loop-e in
     let t = now q.before.before.before.before.before.before.before in
     let h = d.meetings_entry-next in
-    let more = table_next a.w a.table.now k (block_at s.before.before.before.before.before.before.before.before.before.before.before.before) l.e l.table l.next h.new.table h.result l.invariant.wrote
+    let more = table_next a.w a.table.now k (block_at (start_from_after_slice_known_in_loop_e_2_1 s)) l.e l.table l.next
+        h.new.table h.result l.invariant.wrote
     (wrote_as l.next l.table _ _ h.new.table h.result
-    (met_agree k a.p.digits a.words.now a.met.now (entry_end a.w.wire k (block_at s.before.before.before.before.before.before.before.before.before.before.before.before)) l.e l.met
+    (met_agree k a.p.digits a.words.now a.met.now
+        (entry_end a.w.wire k (block_at (start_from_after_slice_known_in_loop_e_2_1 s))) l.e l.met
     l.invariant.kept l.next.wire t.few) h.ensures.wrote) in
     record {
       same = l.invariant.same;
       few = omega (arith, t.few);
       wrote = more;
       kept =
-          links_next k (λ i. ltb i (k - 1)) (entry_end a.w.wire k (block_at s.before.before.before.before.before.before.before.before.before.before.before.before)) a.met.now
+          links_next k (λ i. ltb i (k - 1))
+              (entry_end a.w.wire k (block_at (start_from_after_slice_known_in_loop_e_2_1 s))) a.met.now
           s.requires.kept.ranked.k_most l.e l.met h.new.met h.result.wire t.row
           t.column l.invariant.kept h.ensures.kept
-          (end_here a.w a.table.now k (block_at s.before.before.before.before.before.before.before.before.before.before.before.before) l.e (l.e / k) (l.e % k) h.new.table h.result t.number more);
+          (end_here a.w a.table.now k (block_at (start_from_after_slice_known_in_loop_e_2_1 s)) l.e (l.e / k) (l.e % k)
+              h.new.table h.result t.number more);
     }
 
 same_length : tie.Need-shape_of-table invariant_loop decreases_loop

@@ -22,6 +22,25 @@ invariant_loop counts a b d n lower₀ sums₀ g₀ lower sums g = (g ≤ d) × 
 abbrev decreases_loop : tie.decreases-loop-g
 decreases_loop counts a b d n lower₀ sums₀ g₀ lower sums g = d - g
 
+-- The stages of the function, seen from later ones.
+abbrev after_wide_from_then_half_reached : tie.Then-half_reached invariant_loop decreases_loop → tie.After-wide invariant_loop decreases_loop
+after_wide_from_then_half_reached c = c.before.before.before.before.before.before.before.before
+
+abbrev start_from_then_half_reached : tie.Then-half_reached invariant_loop decreases_loop → tie.Start invariant_loop decreases_loop
+start_from_then_half_reached c = (after_wide_from_then_half_reached c).before.before.before.before
+
+abbrev after_struct_known_1_from_after_decided : tie.After-decided invariant_loop decreases_loop → tie.After-struct_known-1 invariant_loop decreases_loop
+after_struct_known_1_from_after_decided c = c.before.before.before.before.before.before.before.before
+
+abbrev start_from_after_decided : tie.After-decided invariant_loop decreases_loop → tie.Start invariant_loop decreases_loop
+start_from_after_decided c = (after_struct_known_1_from_after_decided c).before.before.before.before.before
+
+abbrev in_loop_g_from_joined_sums : tie.Joined-sums invariant_loop decreases_loop → tie.In-loop-g invariant_loop decreases_loop
+in_loop_g_from_joined_sums c = c.before.before.before.before.before.before.before.before
+
+abbrev start_from_joined_sums : tie.Joined-sums invariant_loop decreases_loop → tie.Start invariant_loop decreases_loop
+start_from_joined_sums c = (in_loop_g_from_joined_sums c).before.before
+
 -- the rows of both candidates
 abbrev first : tie.Start invariant_loop decreases_loop → List ℕ
 first c = get_or c.args.counts.now c.args.a []
@@ -102,14 +121,16 @@ next c = record {
 }
 
 next_at : (c : tie.After-struct_known-in-loop-g-1 invariant_loop decreases_loop) → let start = c in
-    At (take start.args.d (first start.before.before.before.before.before.before.before.before)) (take start.args.d (second start.before.before.before.before.before.before.before.before))
+    At (take start.args.d (first start.before.before.before.before.before.before.before.before))
+        (take start.args.d (second start.before.before.before.before.before.before.before.before))
     (suc c.loop-g.g) (next c)
 unfolding next
 next_at c =
     let at = c in
     let start = at in
     let x = start.args in
-    sums_next (first start.before.before.before.before.before.before.before.before) (second start.before.before.before.before.before.before.before.before) x.d at.loop-g.g at.loop-g.sums (next c) (omega arith) at.loop-g.invariant.1.sums_at
+    sums_next (first start.before.before.before.before.before.before.before.before) (second start.before.before.before.before.before.before.before.before) x.d
+        at.loop-g.g at.loop-g.sums (next c) (omega arith) at.loop-g.invariant.1.sums_at
     (ap (λ (v : ℕ). at.loop-g.sums.a + v) c.wide.ensures)
     (ap (λ (v : ℕ). at.loop-g.sums.b + v) c.wide-in-loop-g.ensures)
 
@@ -133,8 +154,10 @@ decided_requires c κs =
     let m = next_most c.before.before.before.before in
     let at = c in
     let x = at.args in
-    let w = walk_most x.n (take x.d (first at.before.before.before.before.before.before.before.before.before.before.before.before)) (take x.d (second at.before.before.before.before.before.before.before.before.before.before.before.before))
-    (alike at.before.before.before.before.before.before.before.before.before.before.before.before) at.loop-g.lower at.loop-g.sums at.loop-g.g at.loop-g.invariant.1 in
+    let w = walk_most x.n (take x.d (first (start_from_then_half_reached at)))
+        (take x.d (second (start_from_then_half_reached at)))
+    (alike (start_from_then_half_reached at)) at.loop-g.lower at.loop-g.sums at.loop-g.g
+        at.loop-g.invariant.1 in
     (omega arith, omega arith, m.0, m.1)
 
 returns : tie.Need-returns-then-half_reached invariant_loop decreases_loop
@@ -144,8 +167,10 @@ returns c =
     let at = turn in
     let x = at.args in
     c.decided.ensures
-    ∙ walk_decides x.n (take x.d (first at.before.before.before.before.before.before.before.before.before.before.before.before.before)) (take x.d (second at.before.before.before.before.before.before.before.before.before.before.before.before.before))
-    (alike at.before.before.before.before.before.before.before.before.before.before.before.before.before) at.loop-g.lower at.loop-g.sums (next turn.before.before.before.before.before) at.loop-g.g at.loop-g.invariant.1
+    ∙ walk_decides x.n (take x.d (first (start_from_after_decided at)))
+        (take x.d (second (start_from_after_decided at)))
+    (alike (start_from_after_decided at)) at.loop-g.lower at.loop-g.sums
+        (next turn.before.before.before.before.before) at.loop-g.g at.loop-g.invariant.1
     (next_at turn.before.before.before.before.before) c.if-sums.true
     (sym c.half_reached.ensures ∙ c.if-half_reached.true)
 
@@ -161,18 +186,20 @@ loop_again c =
     let turn = c in
     let at = turn in
     let x = at.args in
-    let a = take x.d (first at.before.before.before.before.before.before.before.before.before.before) in
-    let b = take x.d (second at.before.before.before.before.before.before.before.before.before.before) in
+    let a = take x.d (first (start_from_joined_sums at)) in
+    let b = take x.d (second (start_from_joined_sums at)) in
     let g = at.loop-g.g in
     let now = next turn.before.before in
     let step = next_at turn.before.before in
     let walked : Walk x.n a b c.if-sums.lower now (suc g) =
     ⊎_elim {C = Walk x.n a b c.if-sums.lower now (suc g)}
     (λ w. subst (λ (l : Sums). Walk x.n a b l now (suc g)) (sym w.lower-is)
-    (walk_differs x.n a b (alike at.before.before.before.before.before.before.before.before.before.before) at.loop-g.lower at.loop-g.sums now g at.loop-g.invariant.1
+    (walk_differs x.n a b (alike (start_from_joined_sums at)) at.loop-g.lower at.loop-g.sums now g
+        at.loop-g.invariant.1
     step w.if-sums.true (sym w.half_reached.ensures ∙ w.if-half_reached.false)))
     (λ w. subst (λ (l : Sums). Walk x.n a b l now (suc g)) (sym w.lower-is)
-    (walk_equal x.n a b (alike at.before.before.before.before.before.before.before.before.before.before) at.loop-g.lower at.loop-g.sums now g at.loop-g.invariant.1 step
+    (walk_equal x.n a b (alike (start_from_joined_sums at)) at.loop-g.lower at.loop-g.sums now g
+        at.loop-g.invariant.1 step
     w.if-sums.false))
     c.if-sums.branch-raw in
     (omega arith, subst (λ (j : ℕ). Walk x.n a b c.if-sums.lower now j) (sym (add-one g)) walked)

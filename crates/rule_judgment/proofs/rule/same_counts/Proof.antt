@@ -79,7 +79,8 @@ returns c =
     let start = at in
     let x = start.args in
     both start.before.before.before.before.before
-    (sym (same_not (first start.before.before.before.before.before) (second start.before.before.before.before.before) at.loop-g.g x.d (first_length start.before.before.before.before.before) (second_length start.before.before.before.before.before)
+    (sym (same_not (first start.before.before.before.before.before) (second start.before.before.before.before.before) at.loop-g.g x.d
+        (first_length start.before.before.before.before.before) (second_length start.before.before.before.before.before)
     (omega arith) c.if-counts-a.true) ∙ at.loop-g.invariant.1)
 
 add_g : tie.Need-overflow_add-g invariant_loop decreases_loop
@@ -97,7 +98,8 @@ loop_again c =
       omega arith,
       ap (λ (j : ℕ). same_numbers (drop j (take x.d (first start.before.before.before.before.before)))
           (drop j (take x.d (second start.before.before.before.before.before)))) (add-one g)
-          ∙ sym (same_later (first start.before.before.before.before.before) (second start.before.before.before.before.before) g x.d (first_length start.before.before.before.before.before) (second_length start.before.before.before.before.before)
+          ∙ sym (same_later (first start.before.before.before.before.before) (second start.before.before.before.before.before) g x.d
+              (first_length start.before.before.before.before.before) (second_length start.before.before.before.before.before)
           (omega arith) c.if-counts-a.false) ∙ at.loop-g.invariant.1,
     )
 
@@ -107,7 +109,8 @@ returns_2 c =
     let start = at in
     let x = start.args in
     both start.before.before
-    (sym (same_end (first start.before.before) (second start.before.before) at.loop-g.g x.d (first_length start.before.before) (second_length start.before.before)
+    (sym (same_end (first start.before.before) (second start.before.before) at.loop-g.g x.d (first_length start.before.before)
+        (second_length start.before.before)
     (omega arith)) ∙ at.loop-g.invariant.1)
 
 pub same_counts_spec : {M : Type 1} → statement M

@@ -14,6 +14,13 @@ use Rattle.tally.proofs.RunReasons.{same_result, outcome_refused, outcome_accept
 use Rattle.tally.proofs.run.run.Statement.{statement}
 use Rattle.tally.proofs.run.run.Tie as tie
 
+-- The stages of the function, seen from later ones.
+abbrev after_run_from_after_slice_known_in_accepted_3_1 : tie.After-slice_known-in-Accepted-3-1 → tie.After-run
+after_run_from_after_slice_known_in_accepted_3_1 c = c.before.before.before.before.before.before.before.before
+
+abbrev in_accepted_from_after_slice_known_in_accepted_3_1 : tie.After-slice_known-in-Accepted-3-1 → tie.In-Accepted
+in_accepted_from_after_slice_known_in_accepted_3_1 c = (after_run_from_after_slice_known_in_accepted_3_1 c).before.before.before
+
 test_run_requires : tie.Need-test_run-answer-requires
 test_run_requires c κs = search rules
 
@@ -61,11 +68,12 @@ returns c =
     let done = emptied in
     let told = done in
     let a = told.args in
-    let e = ran_by a.shape a.table.now a.ballots.now a.tape.now a.wires.now a.board.now none (no_reason told.before.before.before.before.before.before.before.before.before.before.before) in
+    let e = ran_by a.shape a.table.now a.ballots.now a.tape.now a.wires.now a.board.now none
+        (no_reason (in_accepted_from_after_slice_known_in_accepted_3_1 told)) in
     let kept = done.run.auto.wires in
     same_result
     (told.test_run-answer.ensures ∙ ap (λ (o : Option Reason). outcome o
-    (size_of (gates_of a.table.now))) (no_reason told.before.before.before.before.before.before.before.before.before.before.before))
+    (size_of (gates_of a.table.now))) (no_reason (in_accepted_from_after_slice_known_in_accepted_3_1 told)))
     (emptied.empty.ensures ∙ ap (λ (n : ℕ). replicate n 0) kept) done.run.ensures.board
     ∙ sym e
 

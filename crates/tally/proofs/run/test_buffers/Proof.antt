@@ -16,6 +16,25 @@ use Rattle.tally.proofs.RunReasons.{lent_found, lent_by}
 use Rattle.tally.proofs.run.test_buffers.Statement.{statement}
 use Rattle.tally.proofs.run.test_buffers.Tie as tie
 
+-- The stages of the function, seen from later ones.
+abbrev after_shared_slice_known_1_from_then_not_has_length_2 : tie.Then-not-has_length-2 → tie.After-shared_slice_known-1
+after_shared_slice_known_1_from_then_not_has_length_2 c = c.before.before.before.before.before.before.before.before
+
+abbrev start_from_then_not_has_length_2 : tie.Then-not-has_length-2 → tie.Start
+start_from_then_not_has_length_2 c = (after_shared_slice_known_1_from_then_not_has_length_2 c).before
+
+abbrev after_shared_slice_known_3_1_from_then_not_has_length_3 : tie.Then-not-has_length-3 → tie.After-shared_slice_known-3-1
+after_shared_slice_known_3_1_from_then_not_has_length_3 c = c.before.before.before.before.before.before.before.before
+
+abbrev start_from_then_not_has_length_3 : tie.Then-not-has_length-3 → tie.Start
+start_from_then_not_has_length_3 c = (after_shared_slice_known_3_1_from_then_not_has_length_3 c).before.before.before
+
+abbrev after_shared_slice_known_3_1_from_else_not_has_length_3 : tie.Else-not-has_length-3 → tie.After-shared_slice_known-3-1
+after_shared_slice_known_3_1_from_else_not_has_length_3 c = c.before.before.before.before.before.before.before.before
+
+abbrev start_from_else_not_has_length_3 : tie.Else-not-has_length-3 → tie.Start
+start_from_else_not_has_length_3 c = (after_shared_slice_known_3_1_from_else_not_has_length_3 c).before.before.before
+
 -- G and C as the record that the definition takes
 abbrev size : tie.Start → Size
 size c = record { gates = c.args.gates; conditional = c.args.conditional }
@@ -75,7 +94,7 @@ returns_3 c =
     let told = c in
     let start = told in
     let a = start.args in
-    sym (lent_by a.inputs a.outputs (size start.before.before.before.before.before.before.before.before.before) a.tape.now a.wires.now a.board.now true Nowhere
+    sym (lent_by a.inputs a.outputs (size (start_from_then_not_has_length_2 start)) a.tape.now a.wires.now a.board.now true Nowhere
     false _ (tape_long told.before.before.before.before) (tape_bits told.before.before)
     (sym c.has_length-2.ensures ∙ c.if-not-has_length-2.true) refl)
 
@@ -88,7 +107,8 @@ returns_4 c =
     let told = c in
     let start = told in
     let a = start.args in
-    sym (lent_by a.inputs a.outputs (size start.before.before.before.before.before.before.before.before.before.before.before) a.tape.now a.wires.now a.board.now true Nowhere
+    sym (lent_by a.inputs a.outputs (size (start_from_then_not_has_length_3 start)) a.tape.now a.wires.now
+        a.board.now true Nowhere
     true false (tape_long told.before.before.before.before.before.before) (tape_bits told.before.before.before.before)
     (wires_long c.before.before) (sym c.has_length-3.ensures ∙ c.if-not-has_length-3.true))
 
@@ -98,7 +118,8 @@ returns_5 c =
     let told = c in
     let start = told in
     let a = start.args in
-    sym (lent_by a.inputs a.outputs (size start.before.before.before.before.before.before.before.before.before.before.before) a.tape.now a.wires.now a.board.now true Nowhere
+    sym (lent_by a.inputs a.outputs (size (start_from_else_not_has_length_3 start)) a.tape.now a.wires.now
+        a.board.now true Nowhere
     true true (tape_long told.before.before.before.before.before.before) (tape_bits told.before.before.before.before)
     (wires_long c.before.before) (sym c.has_length-3.ensures ∙ c.if-not-has_length-3.false))
 

@@ -17,6 +17,19 @@ use Rattle.tally.proofs.RunReasons.{by_test, by_ballots, by_lent}
 use Rattle.tally.proofs.run.test_run.Statement.{statement}
 use Rattle.tally.proofs.run.test_run.Tie as tie
 
+-- The stages of the function, seen from later ones.
+abbrev after_shared_slice_known_1_from_in_refused : tie.In-Refused → tie.After-shared_slice_known-1
+after_shared_slice_known_1_from_in_refused c = c.before.before.before.before.before.before.before.before
+
+abbrev start_from_in_refused : tie.In-Refused → tie.Start
+start_from_in_refused c = (after_shared_slice_known_1_from_in_refused c).before
+
+abbrev after_shared_slice_known_4_1_from_in_refused_test_buffers : tie.In-Refused-test_buffers → tie.After-shared_slice_known-4-1
+after_shared_slice_known_4_1_from_in_refused_test_buffers c = c.before.before.before.before.before.before.before.before
+
+abbrev start_from_in_refused_test_buffers : tie.In-Refused-test_buffers → tie.Start
+start_from_in_refused_test_buffers c = (after_shared_slice_known_4_1_from_in_refused_test_buffers c).before.before.before.before
+
 -- the first reason decides the answer
 refuses : (c : tie.Start) (r : Reason) → let a = c.args in
     first_of (run_reasons a.shape a.table.now a.ballots.now a.tape.now a.wires.now a.board.now)
@@ -76,7 +89,7 @@ returns_2 c =
     let start = told in
     let a = start.args in
     let r = reason_of c.in-Refused.reason in
-    refuses start.before.before.before.before.before.before.before.before.before r
+    refuses (start_from_in_refused start) r
     (by_ballots a.shape a.table.now a.ballots.now a.tape.now a.wires.now a.board.now (passed told.before.before).reasons r
     (sym c.test.ensures ∙ ap refused_for c.in-Refused.is))
 
@@ -107,7 +120,8 @@ lent_answer c =
     let told = passes in
     let a = told.args in
     by_lent a.shape a.table.now a.ballots.now a.tape.now a.wires.now a.board.now
-    (passed told.before.before.before.before).reasons (size told.before.before.before.before) (refused_for c.test_buffers.result) (passed told.before.before.before.before).size (no_reason passes.before.before)
+    (passed told.before.before.before.before).reasons (size told.before.before.before.before) (refused_for c.test_buffers.result)
+        (passed told.before.before.before.before).size (no_reason passes.before.before)
     (sym (c.test_buffers.ensures ∙ ap (λ (i : ℕ). first_of
     (buffer_reasons i a.shape.candidates (size told.before.before.before.before) a.tape.now a.wires.now a.board.now))
     c.ballot_bytes-inputs.ensures))
@@ -118,7 +132,8 @@ returns_3 c =
     let lent = c in
     let start = lent in
     let r = reason_of c.in-Refused-test_buffers.reason in
-    refuses start.before.before.before.before.before.before.before.before.before.before.before.before r (lent_answer lent.before ∙ ap refused_for c.in-Refused-test_buffers.is)
+    refuses (start_from_in_refused_test_buffers start) r (lent_answer lent.before
+        ∙ ap refused_for c.in-Refused-test_buffers.is)
 
 returns_4 : tie.Need-returns-in-Accepted-test_buffers
 unfolding test_outcome refused_for

@@ -25,6 +25,31 @@ use borrow.Author.Rules.{rules}
 use Rattle.text.proofs.read.read.Statement.{statement}
 use Rattle.text.proofs.read.read.Tie as tie
 
+-- The stages of the function, seen from later ones.
+abbrev after_line_count_lines_from_in_at_first_bad : tie.In-At-first_bad → tie.After-line_count-lines
+after_line_count_lines_from_in_at_first_bad c = c.before.before.before.before.before.before.before.before
+
+abbrev else_not_is_within_limits_from_in_at_first_bad : tie.In-At-first_bad → tie.Else-not-is_within_limits
+else_not_is_within_limits_from_in_at_first_bad c = (after_line_count_lines_from_in_at_first_bad c).before
+
+abbrev after_struct_known_1_from_then_output_lines : tie.Then-output-lines → tie.After-struct_known-1
+after_struct_known_1_from_then_output_lines c = c.before.before.before.before.before.before.before.before
+
+abbrev else_not_is_within_limits_from_then_output_lines : tie.Then-output-lines → tie.Else-not-is_within_limits
+else_not_is_within_limits_from_then_output_lines c = (after_struct_known_1_from_then_output_lines c).before.before
+
+abbrev in_default_from_after_slice_known_2_1 : tie.After-slice_known-2-1 → tie.In_default
+in_default_from_after_slice_known_2_1 c = c.before.before.before.before.before.before.before.before
+
+abbrev else_lines_gt_most_gates_from_after_slice_known_2_1 : tie.After-slice_known-2-1 → tie.Else-lines-gt-MOST_GATES
+else_lines_gt_most_gates_from_after_slice_known_2_1 c = (in_default_from_after_slice_known_2_1 c).before.before
+
+abbrev else_not_is_within_limits_from_after_slice_known_2_1 : tie.After-slice_known-2-1 → tie.Else-not-is_within_limits
+else_not_is_within_limits_from_after_slice_known_2_1 c = (in_default_from_after_slice_known_2_1 c).before.before.before.before.before.before
+
+abbrev else_lines_shape_from_after_slice_known_2_1 : tie.After-slice_known-2-1 → tie.Else-lines-shape
+else_lines_shape_from_after_slice_known_2_1 c = (in_default_from_after_slice_known_2_1 c).before.before.before
+
 is_within_limits_requires : tie.Need-is_within_limits-requires
 is_within_limits_requires c κs = search rules
 
@@ -123,7 +148,7 @@ unfolding length_outcome text_reason_of reason_of
 returns_5 c =
     let a = c.args in
     same_text (read_refused a.shape a.text.now a.output.now (reason_at 3 c.in-At-first_bad.g)
-    (bad_gate a.shape a.text.now a.output.now (limits c.before.before.before.before.before.before.before.before.before)
+    (bad_gate a.shape a.text.now a.output.now (limits (else_not_is_within_limits_from_in_at_first_bad c))
     (enough c.before.before.before.before.before.before) (few c.before.before.before.before.before) (gates_all c.before.before.before)
     c.in-At-first_bad.g (tested c.before ∙ c.in-At-first_bad.is)))
 
@@ -138,7 +163,7 @@ unfolding length_outcome text_reason_of
 returns_6 c =
     let a = c.args in
     same_text (read_refused a.shape a.text.now a.output.now (reason_at 24 0)
-    (numbers_short a.shape a.text.now a.output.now (limits c.before.before.before.before.before.before.before.before.before.before)
+    (numbers_short a.shape a.text.now a.output.now (limits (else_not_is_within_limits_from_then_output_lines c))
     (enough c.before.before.before.before.before.before.before) (few c.before.before.before.before.before.before) (gates_all c.before.before.before.before)
     (gates_good c.before) (omega (arith, c.line_count-lines.ensures, c.if-output-lines.true))))
 
@@ -154,7 +179,7 @@ put_gates_requires c κs =
     }
 
 mul_t18 : tie.Need-overflow_mul-result
-mul_t18 c = omega (arith, c.line_count-lines.ensures, few c.before.before.before.before.before.before.before.before.before.before)
+mul_t18 c = omega (arith, c.line_count-lines.ensures, few (else_lines_gt_most_gates_from_after_slice_known_2_1 c))
 
 same_length : tie.Need-shape_of-output
 same_length c = ap length c.put_gates.ensures
@@ -175,8 +200,9 @@ returns_7 c =
       fits c.before.before.before.before,
     ) in
     let e = read_accepted a.shape text a.output.now
-    (numbers_good a.shape text a.output.now (limits c.before.before.before.before.before.before.before.before.before.before.before.before.before.before)
-    (enough c.before.before.before.before.before.before.before.before.before.before.before) (few c.before.before.before.before.before.before.before.before.before.before)
+    (numbers_good a.shape text a.output.now (limits (else_not_is_within_limits_from_after_slice_known_2_1 c))
+    (enough (else_lines_shape_from_after_slice_known_2_1 c))
+        (few (else_lines_gt_most_gates_from_after_slice_known_2_1 c))
     (gates_all c.before.before.before.before.before.before.before.before) (gates_good c.before.before.before.before.before)
     (fits c.before.before.before.before)) in
     same_text (

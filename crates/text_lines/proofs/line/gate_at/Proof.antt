@@ -17,6 +17,25 @@ use borrow.Author.Rules.{rules}
 use Rattle.text_lines.proofs.line.gate_at.Statement.{statement}
 use Rattle.text_lines.proofs.line.gate_at.Tie as tie
 
+-- The stages of the function, seen from later ones.
+abbrev else_kind_ge_kinds_from_in_default_operand_3 : tie.In_default-operand-3 → tie.Else-kind-ge-KINDS
+else_kind_ge_kinds_from_in_default_operand_3 c = c.before.before.before.before.before.before.before.before
+
+abbrev in_value_from_in_default_operand_3 : tie.In_default-operand-3 → tie.In-Value
+in_value_from_in_default_operand_3 c = (else_kind_ge_kinds_from_in_default_operand_3 c).before
+
+abbrev else_kind_ge_kinds_from_in_value_operand_3 : tie.In-Value-operand-3 → tie.Else-kind-ge-KINDS
+else_kind_ge_kinds_from_in_value_operand_3 c = c.before.before.before.before.before.before.before.before
+
+abbrev in_value_from_in_value_operand_3 : tie.In-Value-operand-3 → tie.In-Value
+in_value_from_in_value_operand_3 c = (else_kind_ge_kinds_from_in_value_operand_3 c).before
+
+abbrev after_operand_from_else_text_c_end_ne_line_feed : tie.Else-text-c_end-ne-LINE_FEED → tie.After-operand
+after_operand_from_else_text_c_end_ne_line_feed c = c.before.before.before.before.before.before.before.before
+
+abbrev in_value_from_else_text_c_end_ne_line_feed : tie.Else-text-c_end-ne-LINE_FEED → tie.In-Value
+in_value_from_else_text_c_end_ne_line_feed c = (after_operand_from_else_text_c_end_ne_line_feed c).before.before.before.before
+
 number_requires : tie.Need-number-requires
 number_requires c κs = search rules
 
@@ -185,7 +204,7 @@ enum_told_4 c = search rules
 returns_5 : tie.Need-returns-in_default-operand-3
 unfolding line_found
 returns_5 c =
-    let k = kind_read c.before.before.before.before.before.before.before.before.before in
+    let k = kind_read (in_value_from_in_default_operand_3 c) in
     let x = a_read c.before.before.before.before in
     let y = b_read c.before.before in
     let n = c.operand-3 in
@@ -206,10 +225,10 @@ c_read c = record {
 
 left_c : (c : tie.In-Value-operand-3)
     → gate_in (drop c.args.at c.args.text.now)
-    ≡ after_c (kind_read c.before.before.before.before.before.before.before.before.before) (a_read c.before.before.before.before)
+    ≡ after_c (kind_read (in_value_from_in_value_operand_3 c)) (a_read c.before.before.before.before)
     (b_read c.before.before) (c_read c)
 left_c c =
-    let k = kind_read c.before.before.before.before.before.before.before.before.before in
+    let k = kind_read (in_value_from_in_value_operand_3 c) in
     let x = a_read c.before.before.before.before in
     let y = b_read c.before.before in
     let n = c.operand-3 in
@@ -221,7 +240,7 @@ left_c c =
 -- the line does not end in a line feed
 unended : (c : tie.In-Value-operand-3) → end_in (c_read c).rest ≡ none
     → gate_in (drop c.args.at c.args.text.now) ≡ none
-unended c e = left_c c ∙ end_lost (kind_read c.before.before.before.before.before.before.before.before.before)
+unended c e = left_c c ∙ end_lost (kind_read (in_value_from_in_value_operand_3 c))
     (a_read c.before.before.before.before) (b_read c.before.before) (c_read c) e
 
 returns_6 : tie.Need-returns-then-text-c_end
@@ -254,7 +273,7 @@ unfolding line_found
 returns_8 c =
     let i = c.in-Value-operand-3.c_end in
     let text = c.args.text.now in
-    let k = kind_read c.before.before.before.before.before.before.before.before.before.before.before.before in
+    let k = kind_read (in_value_from_else_text_c_end_ne_line_feed c) in
     let x = a_read c.before.before.before.before.before.before.before in
     let y = b_read c.before.before.before.before.before in
     let z = c_read c.before.before.before in

@@ -15,6 +15,25 @@ use borrow.Author.Rules.{rules}
 use Rattle.text_lines.proofs.print.put_line.Statement.{statement}
 use Rattle.text_lines.proofs.print.put_line.Tie as tie
 
+-- The stages of the function, seen from later ones.
+abbrev after_put_arg_1_from_after_put_operand_arg_2_1 : tie.After-put_operand-arg-2-1 → tie.After-put-arg-1
+after_put_arg_1_from_after_put_operand_arg_2_1 c = c.before.before.before.before.before.before.before.before
+
+abbrev after_operands_count_from_after_put_operand_arg_2_1 : tie.After-put_operand-arg-2-1 → tie.After-operands-count
+after_operands_count_from_after_put_operand_arg_2_1 c = (after_put_arg_1_from_after_put_operand_arg_2_1 c).before
+
+abbrev after_put_operand_arg_1_from_after_put_operand_arg_3_1 : tie.After-put_operand-arg-3-1 → tie.After-put_operand-arg-1
+after_put_operand_arg_1_from_after_put_operand_arg_3_1 c = c.before.before.before.before.before.before.before.before
+
+abbrev after_operands_count_from_after_put_operand_arg_3_1 : tie.After-put_operand-arg-3-1 → tie.After-operands-count
+after_operands_count_from_after_put_operand_arg_3_1 c = (after_put_operand_arg_1_from_after_put_operand_arg_3_1 c).before.before.before.before.before
+
+abbrev after_put_operand_a_end_from_after_put_operand_c_end : tie.After-put_operand-c_end → tie.After-put_operand-a_end
+after_put_operand_a_end_from_after_put_operand_c_end c = c.before.before.before.before.before.before.before.before
+
+abbrev after_operands_count_from_after_put_operand_c_end : tie.After-put_operand-c_end → tie.After-operands-count
+after_operands_count_from_after_put_operand_c_end c = (after_put_operand_a_end_from_after_put_operand_c_end c).before.before.before.before.before.before
+
 operands_requires : tie.Need-operands-count-requires
 operands_requires c κs = search rules
 
@@ -99,7 +118,7 @@ put_operand_requires c κs =
 put_operand_requires_2 : tie.Need-put_operand-b_end-requires
 put_operand_requires_2 c κs =
     let st = a_stored c.before.before.before in
-    omega (arith, st.next, stored_long st, a_long c.before.before.before, fits c.before.before.before.before.before.before.before.before.before)
+    omega (arith, st.next, stored_long st, a_long c.before.before.before, fits (after_operands_count_from_after_put_operand_arg_2_1 c))
 
 put_operand_requires_3 : tie.Need-put_operand-c_end-requires
 put_operand_requires_3 c κs =
@@ -110,7 +129,7 @@ put_operand_requires_3 c κs =
       stored_long st,
       b_long c.before.before.before,
       a_long c.before.before.before.before.before.before.before,
-      fits c.before.before.before.before.before.before.before.before.before.before.before.before.before,
+      fits (after_operands_count_from_after_put_operand_arg_3_1 c),
     )
 
 -- the line feed has room
@@ -124,7 +143,7 @@ feed_fits c =
       c_long c,
       b_long c.before.before.before.before,
       a_long c.before.before.before.before.before.before.before.before,
-      fits c.before.before.before.before.before.before.before.before.before.before.before.before.before.before,
+      fits (after_operands_count_from_after_put_operand_c_end c),
     )
 
 whole : (c : tie.After-put_operand-c_end) →

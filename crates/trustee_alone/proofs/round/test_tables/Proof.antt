@@ -28,6 +28,31 @@ use Rattle.trustee_alone.proofs.round.test_tables.Statement.{statement}
 use Rattle.basics.specs.Lists.{same_numbers}
 use Rattle.trustee_alone.proofs.round.test_tables.Tie as tie
 
+-- The stages of the function, seen from later ones.
+abbrev after_tables_fit_from_then_heard_conditional : tie.Then-heard-conditional → tie.After-tables_fit
+after_tables_fit_from_then_heard_conditional c = c.before.before.before.before.before.before.before.before
+
+abbrev else_not_is_trustee_from_then_heard_conditional : tie.Then-heard-conditional → tie.Else-not-is_trustee
+else_not_is_trustee_from_then_heard_conditional c = (after_tables_fit_from_then_heard_conditional c).before
+
+abbrev after_only_bits_from_then_not_only_bits_2 : tie.Then-not-only_bits-2 → tie.After-only_bits
+after_only_bits_from_then_not_only_bits_2 c = c.before.before.before.before.before.before.before.before
+
+abbrev else_not_is_trustee_from_then_not_only_bits_2 : tie.Then-not-only_bits-2 → tie.Else-not-is_trustee
+else_not_is_trustee_from_then_not_only_bits_2 c = (after_only_bits_from_then_not_only_bits_2 c).before.before.before
+
+abbrev else_not_tables_fit_from_then_not_only_bits_2 : tie.Then-not-only_bits-2 → tie.Else-not-tables_fit
+else_not_tables_fit_from_then_not_only_bits_2 c = (after_only_bits_from_then_not_only_bits_2 c).before
+
+abbrev after_only_bits_from_else_not_only_bits_2 : tie.Else-not-only_bits-2 → tie.After-only_bits
+after_only_bits_from_else_not_only_bits_2 c = c.before.before.before.before.before.before.before.before
+
+abbrev else_not_is_trustee_from_else_not_only_bits_2 : tie.Else-not-only_bits-2 → tie.Else-not-is_trustee
+else_not_is_trustee_from_else_not_only_bits_2 c = (after_only_bits_from_else_not_only_bits_2 c).before.before.before
+
+abbrev else_not_tables_fit_from_else_not_only_bits_2 : tie.Else-not-only_bits-2 → tie.Else-not-tables_fit
+else_not_tables_fit_from_else_not_only_bits_2 c = (after_only_bits_from_else_not_only_bits_2 c).before
+
 -- the outcomes of the tests
 trustee : (c : tie.Else-not-is_trustee) → let a = c.args in is_trustee a.t a.p ≡ true
 trustee c = sym c.is_trustee.ensures ∙ c.if-not-is_trustee.false
@@ -181,7 +206,8 @@ returns_7 c =
     (first_of (table_reasons a.inputs a.k (gates_of a.table.now) a.t a.p a.round
     a.levels.now a.triples.now a.heard.now a.wires.now a.published.now))
     (depths_of a.inputs (gates_of a.table.now)) (reason_at 202 0)
-    (pass _ 16 _ (trustee c.before.before.before.before.before.before.before.before.before) ∙ pass _ 17 _ (fits c.before.before.before.before.before.before.before)
+    (pass _ 16 _ (trustee (else_not_is_trustee_from_then_heard_conditional c))
+        ∙ pass _ 17 _ (fits c.before.before.before.before.before.before.before)
     ∙ pass _ 18 _ (bits c.before.before.before.before.before) ∙ pass _ 200 _ (same c.before.before).0
     ∙ pass _ 201 _ (early c.before)
     ∙ fail _ 202 [] (and_first_fails _ _
@@ -200,7 +226,8 @@ returns_8 c =
     (first_of (table_reasons a.inputs a.k (gates_of a.table.now) a.t a.p a.round a.levels.now
     a.triples.now a.heard.now a.wires.now a.published.now))
     (depths_of a.inputs (gates_of a.table.now)) (reason_at 202 0)
-    (pass _ 16 _ (trustee c.before.before.before.before.before.before.before.before.before.before.before) ∙ pass _ 17 _ (fits c.before.before.before.before.before.before.before.before.before)
+    (pass _ 16 _ (trustee (else_not_is_trustee_from_then_not_only_bits_2 c))
+        ∙ pass _ 17 _ (fits (else_not_tables_fit_from_then_not_only_bits_2 c))
     ∙ pass _ 18 _ (bits c.before.before.before.before.before.before.before) ∙ pass _ 200 _ (same c.before.before.before.before).0
     ∙ pass _ 201 _ (early c.before.before.before)
     ∙ fail _ 202 [] (and_both _ _ false (long c.before.before)
@@ -215,7 +242,8 @@ returns_9 c =
     (first_of (table_reasons a.inputs a.k (gates_of a.table.now) a.t a.p a.round a.levels.now
     a.triples.now a.heard.now a.wires.now a.published.now))
     (depths_of a.inputs (gates_of a.table.now)) _
-    (pass _ 16 _ (trustee c.before.before.before.before.before.before.before.before.before.before.before) ∙ pass _ 17 _ (fits c.before.before.before.before.before.before.before.before.before)
+    (pass _ 16 _ (trustee (else_not_is_trustee_from_else_not_only_bits_2 c))
+        ∙ pass _ 17 _ (fits (else_not_tables_fit_from_else_not_only_bits_2 c))
     ∙ pass _ 18 _ (bits c.before.before.before.before.before.before.before) ∙ pass _ 200 _ (same c.before.before.before.before).0
     ∙ pass _ 201 _ (early c.before.before.before)
     ∙ pass _ 202 [] (and_both _ _ true (long c.before.before)

@@ -28,6 +28,16 @@ use Rattle.trustee_alone.proofs.Sizes.{tables_ready, small_sizes, size_is, Fit, 
 use Rattle.trustee_alone.proofs.start.start.Statement.{statement}
 use Rattle.trustee_alone.proofs.start.start.Tie as tie
 
+-- The stages of the function, seen from later ones.
+abbrev after_slice_known_3_1_from_after_slice_known_5_1 : tie.After-slice_known-5-1 → tie.After-slice_known-3-1
+after_slice_known_3_1_from_after_slice_known_5_1 c = c.before.before.before.before.before.before.before.before
+
+abbrev in_default_test_own_from_after_slice_known_5_1 : tie.After-slice_known-5-1 → tie.In_default-test_own
+in_default_test_own_from_after_slice_known_5_1 c = (after_slice_known_3_1_from_after_slice_known_5_1 c).before.before.before.before
+
+abbrev in_accepted_from_after_slice_known_5_1 : tie.After-slice_known-5-1 → tie.In-Accepted
+in_accepted_from_after_slice_known_5_1 c = (after_slice_known_3_1_from_after_slice_known_5_1 c).before.before.before.before.before.before.before
+
 -- the list has passed its test
 facts : (c : tie.In-Accepted) → let a = c.args in
     ListFacts a.shape a.table.now c.in-Accepted.gates c.in-Accepted.conditional
@@ -189,13 +199,14 @@ returns_3 c =
     let a = c.args in
     let told = c in
     let known = c in
-    let why = none_applies told.before.before.before.before.before.before.before.before.before.before.before.before in
-    let l = lengths told.before.before.before.before.before.before.before.before.before.before.before.before in
+    let why = none_applies (in_default_test_own_from_after_slice_known_5_1 told) in
+    let l = lengths (in_default_test_own_from_after_slice_known_5_1 told) in
     same_own
     (outcome_none
     (first_of (start_reasons a.shape a.table.now a.t a.p a.shares.now a.triples.now a.wires.now
     a.published.now)) (size_of (gates_of a.table.now)) _ why
-    (size_is _ _ a.table.now (facts known.before.before.before.before.before.before.before.before.before.before.before.before.before.before.before).gates_are (facts known.before.before.before.before.before.before.before.before.before.before.before.before.before.before.before).conditional_are))
+    (size_is _ _ a.table.now (facts (in_accepted_from_after_slice_known_5_1 known)).gates_are
+        (facts (in_accepted_from_after_slice_known_5_1 known)).conditional_are))
     (copied a.shares.now c.empty.new.bytes _ c.copy.ensures
     ∙ ap (λ (z : List ℕ). take (length a.shares.now) a.shares.now ++ drop (length a.shares.now) z)
     c.empty.ensures

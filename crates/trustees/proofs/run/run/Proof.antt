@@ -20,6 +20,16 @@ use Rattle.trustees.proofs.Sums.{Ready, call_ready, opened_closing}
 use Rattle.trustees.proofs.run.run.Statement.{statement}
 use Rattle.trustees.proofs.run.run.Tie as tie
 
+-- The stages of the function, seen from later ones.
+abbrev after_wires_1_from_after_slice_known_5_1 : tie.After-slice_known-5-1 → tie.After-wires-1
+after_wires_1_from_after_slice_known_5_1 c = c.before.before.before.before.before.before.before.before
+
+abbrev in_accepted_from_after_slice_known_5_1 : tie.After-slice_known-5-1 → tie.In-Accepted
+in_accepted_from_after_slice_known_5_1 c = (after_wires_1_from_after_slice_known_5_1 c).before.before.before.before
+
+abbrev start_from_after_slice_known_5_1 : tie.After-slice_known-5-1 → tie.Start
+start_from_after_slice_known_5_1 c = (in_accepted_from_after_slice_known_5_1 c).before.before.before.before.before.before.before.before
+
 -- This call, from its arguments at the start.
 abbrev call : tie.Start → Call
 call s =
@@ -58,7 +68,8 @@ is_size c =
     cc
 
 ready : (c : tie.In-Accepted) → Ready (call c.before.before.before.before.before.before.before.before) (size c)
-ready c = call_ready (call c.before.before.before.before.before.before.before.before) (size c) (is_size c) (call_passed (call c.before.before.before.before.before.before.before.before) (no_reason c))
+ready c = call_ready (call c.before.before.before.before.before.before.before.before) (size c) (is_size c)
+    (call_passed (call c.before.before.before.before.before.before.before.before) (no_reason c))
 
 test_requires : tie.Need-test-answer-requires
 test_requires c κs = search rules
@@ -83,7 +94,8 @@ returns c =
     let r = reason_of c.in_default.field-0 in
     let told = ap outcome_of c.in_default.is in
     let e = result_by (call start.before.before.before.before.before.before.before.before) (some r)
-    (outcome_refused (first_of (trustees_reasons (call start.before.before.before.before.before.before.before.before))) (size_of (gates_of (call start.before.before.before.before.before.before.before.before).table)) r
+    (outcome_refused (first_of (trustees_reasons (call start.before.before.before.before.before.before.before.before)))
+        (size_of (gates_of (call start.before.before.before.before.before.before.before.before).table)) r
     (sym c.test-answer.ensures ∙ told)) in
     same_result _ _ (told ∙ sym (ap (λ (q : TrusteesResult). q.answer) e)) (sym (ap (λ (q : TrusteesResult). q.closing) e))
     (sym (ap (λ (q : TrusteesResult). q.wire_parts) e)) (sym (ap (λ (q : TrusteesResult). q.published) e))
@@ -123,13 +135,16 @@ returns_2 c =
     let opened = emptied in
     let done = opened in
     let told = done in
-    let of = call told.before.before.before.before.before.before.before.before.before.before.before.before.before.before.before.before.before.before.before.before in
-    let e = result_by of none (no_reason told.before.before.before.before.before.before.before.before.before.before.before.before) in
+    let of = call
+        (start_from_after_slice_known_5_1 told) in
+    let e = result_by of none (no_reason (in_accepted_from_after_slice_known_5_1 told)) in
     same_result _ _
     (sym (ap outcome_of told.in-Accepted.is) ∙ told.test-answer.ensures
-    ∙ ap (λ (o : Option Reason). outcome o (size_of (gates_of of.table))) (no_reason told.before.before.before.before.before.before.before.before.before.before.before.before)
+    ∙ ap (λ (o : Option Reason). outcome o (size_of (gates_of of.table)))
+        (no_reason (in_accepted_from_after_slice_known_5_1 told))
     ∙ sym (ap (λ (q : TrusteesResult). q.answer) e))
-    (opened.open_closing-closing.ensures ∙ opened_closing of (size told.before.before.before.before.before.before.before.before.before.before.before.before) (ready told.before.before.before.before.before.before.before.before.before.before.before.before) _ done.evaluate.ensures.shown
+    (opened.open_closing-closing.ensures ∙ opened_closing of (size (in_accepted_from_after_slice_known_5_1 told))
+        (ready (in_accepted_from_after_slice_known_5_1 told)) _ done.evaluate.ensures.shown
     ∙ sym (ap (λ (q : TrusteesResult). q.closing) e))
     (emptied.empty.ensures ∙ ap (λ (n : ℕ). replicate n 0) done.evaluate.auto.wires
     ∙ sym (ap (λ (q : TrusteesResult). q.wire_parts) e))

@@ -17,6 +17,37 @@ use Rattle.trustees.proofs.Reasons.{by_test, by_ballots, by_parts, small_sizes}
 use Rattle.trustees.proofs.test.test.Statement.{statement}
 use Rattle.trustees.proofs.test.test.Tie as tie
 
+-- The stages of the function, seen from later ones.
+abbrev after_shared_slice_known_2_1_from_in_default_test : tie.In_default-test → tie.After-shared_slice_known-2-1
+after_shared_slice_known_2_1_from_in_default_test c = c.before.before.before.before.before.before.before.before
+
+abbrev start_from_in_default_test : tie.In_default-test → tie.Start
+start_from_in_default_test c = (after_shared_slice_known_2_1_from_in_default_test c).before.before
+
+abbrev after_shared_slice_known_3_1_from_after_test_parts : tie.After-test_parts → tie.After-shared_slice_known-3-1
+after_shared_slice_known_3_1_from_after_test_parts c = c.before.before.before.before.before.before.before.before
+
+abbrev start_from_after_test_parts : tie.After-test_parts → tie.Start
+start_from_after_test_parts c = (after_shared_slice_known_3_1_from_after_test_parts c).before.before.before
+
+abbrev after_shared_slice_known_2_1_from_in_refused : tie.In-Refused → tie.After-shared_slice_known-2-1
+after_shared_slice_known_2_1_from_in_refused c = c.before.before.before.before.before.before.before.before
+
+abbrev start_from_in_refused : tie.In-Refused → tie.Start
+start_from_in_refused c = (after_shared_slice_known_2_1_from_in_refused c).before.before
+
+abbrev after_shared_slice_known_4_1_from_in_refused_test_parts : tie.In-Refused-test_parts → tie.After-shared_slice_known-4-1
+after_shared_slice_known_4_1_from_in_refused_test_parts c = c.before.before.before.before.before.before.before.before
+
+abbrev start_from_in_refused_test_parts : tie.In-Refused-test_parts → tie.Start
+start_from_in_refused_test_parts c = (after_shared_slice_known_4_1_from_in_refused_test_parts c).before.before.before.before
+
+abbrev after_shared_slice_known_4_1_from_in_accepted_test_parts : tie.In-Accepted-test_parts → tie.After-shared_slice_known-4-1
+after_shared_slice_known_4_1_from_in_accepted_test_parts c = c.before.before.before.before.before.before.before.before
+
+abbrev start_from_in_accepted_test_parts : tie.In-Accepted-test_parts → tie.Start
+start_from_in_accepted_test_parts c = (after_shared_slice_known_4_1_from_in_accepted_test_parts c).before.before.before.before
+
 -- This call, from its arguments at the start.
 abbrev call : tie.Start → Call
 call s =
@@ -43,7 +74,8 @@ refuses s r e = sym (ap (λ (o : Option Reason). outcome o (size_of (gates_of (c
 size : tie.In-Accepted → Size
 size c = record { gates = c.in-Accepted.gates; conditional = c.in-Accepted.conditional }
 
-passed : (c : tie.In-Accepted) → TestPassed (call c.before.before.before.before.before.before.before.before).shape (call c.before.before.before.before.before.before.before.before).table (size c)
+passed : (c : tie.In-Accepted) → TestPassed (call c.before.before.before.before.before.before.before.before).shape
+    (call c.before.before.before.before.before.before.before.before).table (size c)
 unfolding outcome_of size
 passed c =
     let of = call c.before.before.before.before.before.before.before.before in
@@ -51,17 +83,19 @@ passed c =
     (sym c.test-answer.ensures ∙ ap outcome_of c.in-Accepted.is)
 
 -- no reason of the ballots applies
-no_reason : (c : tie.In_default-test) → let of = call c.before.before.before.before.before.before.before.before.before.before in first_of (ballot_reasons of.shape of.ballots) ≡ none
+no_reason : (c : tie.In_default-test) → let of = call (start_from_in_default_test c) in
+    first_of (ballot_reasons of.shape of.ballots) ≡ none
 unfolding refused_for
 no_reason c = sym c.test.ensures ∙ ap refused_for c.in_default-test.is
 
 -- if the tests before have passed, the tests 16 to 18 decide
 parts_answer : (c : tie.After-test_parts)
-    → first_of (trustees_reasons (call c.before.before.before.before.before.before.before.before.before.before.before)) ≡ refused_for c.test_parts.result
+    → first_of (trustees_reasons (call (start_from_after_test_parts c))) ≡ refused_for c.test_parts.result
 unfolding size
 parts_answer c =
     let told = c in
-    by_parts (call told.before.before.before.before.before.before.before.before.before.before.before) (passed told.before.before.before).reasons (size told.before.before.before) (refused_for c.test_parts.result) (passed told.before.before.before).size
+    by_parts (call (start_from_after_test_parts told)) (passed told.before.before.before).reasons
+        (size told.before.before.before) (refused_for c.test_parts.result) (passed told.before.before.before).size
     (no_reason c.before) (sym c.test_parts.ensures)
 
 test_requires : tie.Need-test-answer-requires
@@ -80,7 +114,8 @@ returns c =
     let start = lending in
     let r = reason_of c.in_default.field-0 in
     let e = ap outcome_of c.in_default.is in
-    e ∙ refuses start.before.before.before.before.before.before.before.before r (by_test (call start.before.before.before.before.before.before.before.before) r (sym c.test-answer.ensures ∙ e))
+    e ∙ refuses start.before.before.before.before.before.before.before.before r
+        (by_test (call start.before.before.before.before.before.before.before.before) r (sym c.test-answer.ensures ∙ e))
 
 test_requires_2 : tie.Need-test-requires
 test_requires_2 c κs = true_T (within_limits (call c.before.before.before.before.before.before.before.before).shape) (passed c).within
@@ -93,8 +128,8 @@ unfolding outcome_of refused_for
 returns_2 c =
     let told = c in
     let r = reason_of c.in-Refused.reason in
-    refuses told.before.before.before.before.before.before.before.before.before.before r
-    (by_ballots (call told.before.before.before.before.before.before.before.before.before.before) (passed told.before.before).reasons r
+    refuses (start_from_in_refused told) r
+    (by_ballots (call (start_from_in_refused told)) (passed told.before.before).reasons r
     (sym c.test.ensures ∙ ap refused_for c.in-Refused.is))
 
 enum_told_2 : tie.Need-enum_told-in_default-test
@@ -104,7 +139,7 @@ test_parts_requires : tie.Need-test_parts-requires
 unfolding size
 test_parts_requires c κs =
     let told = c in
-    let of = call told.before.before.before.before.before.before.before.before.before.before in
+    let of = call (start_from_in_default_test told) in
     small_sizes of.shape of.table of.ballots (size told.before.before) (passed told.before.before) (no_reason c)
 
 enum_known_reason_2 : tie.Need-enum_known-reason-in-Refused-test_parts
@@ -118,7 +153,8 @@ unfolding outcome_of refused_for
 returns_3 c =
     let parts = c in
     let r = reason_of c.in-Refused-test_parts.reason in
-    refuses parts.before.before.before.before.before.before.before.before.before.before.before.before r (parts_answer parts.before ∙ ap refused_for c.in-Refused-test_parts.is)
+    refuses (start_from_in_refused_test_parts parts) r (parts_answer parts.before
+        ∙ ap refused_for c.in-Refused-test_parts.is)
 
 returns_4 : tie.Need-returns-in-Accepted-test_parts
 unfolding test_outcome refused_for
@@ -127,7 +163,9 @@ returns_4 c =
     let told = parts in
     let none_applies = parts_answer parts.before ∙ ap refused_for c.in-Accepted-test_parts.is in
     sym (ap outcome_of told.in-Accepted.is) ∙ told.test-answer.ensures
-    ∙ ap (λ (o : Option Reason). outcome o (size_of (gates_of (call told.before.before.before.before.before.before.before.before.before.before.before.before).table))) ((passed told.before.before.before.before).reasons ∙ sym none_applies)
+    ∙ ap (λ (o : Option Reason).
+        outcome o (size_of (gates_of (call (start_from_in_accepted_test_parts told)).table)))
+        ((passed told.before.before.before.before).reasons ∙ sym none_applies)
 
 pub test_spec : {M : Type 1} → statement M
 test_spec =

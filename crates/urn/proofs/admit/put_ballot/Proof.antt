@@ -16,6 +16,13 @@ use borrow.Author.Rules.{rules}
 use Rattle.urn.proofs.admit.put_ballot.Statement.{statement}
 use Rattle.urn.proofs.admit.put_ballot.Tie as tie
 
+-- The stages of the function, seen from later ones.
+abbrev after_shared_slice_known_1_from_after_slice_known_5_1 : tie.After-slice_known-5-1 → tie.After-shared_slice_known-1
+after_shared_slice_known_1_from_after_slice_known_5_1 c = c.before.before.before.before.before.before.before.before
+
+abbrev start_from_after_slice_known_5_1 : tie.After-slice_known-5-1 → tie.Start
+start_from_after_slice_known_5_1 c = (after_shared_slice_known_1_from_after_slice_known_5_1 c).before.before
+
 -- the urn has at least two slots
 long : (s : tie.Start) → 4 ≤ length s.args.urn.now
 long s =
@@ -77,14 +84,14 @@ put_slot_requires c κs =
 
 slice_write_urn : tie.Need-bounds-urn-0-2
 slice_write_urn c =
-    let l = long c.before.before.before.before.before.before.before.before.before.before in
+    let l = long (start_from_after_slice_known_5_1 c) in
     let q : length c.put_slot.new.urn ≡ length c.args.urn.now = c.put_slot.auto.urn in
     let r : 0 < length c.put_slot.new.urn = omega arith in
     r
 
 slice_write_urn_2 : tie.Need-bounds-urn-1-2
 slice_write_urn_2 c =
-    let l = long c.before.before.before.before.before.before.before.before.before.before in
+    let l = long (start_from_after_slice_known_5_1 c) in
     let q : length c.put_slot.new.urn ≡ length c.args.urn.now = c.put_slot.auto.urn in
     let r : 1 < length (set c.put_slot.new.urn 0 (get_or c.args.urn.now 1 0)) =
     omega (arith, length-set c.put_slot.new.urn 0 (get_or c.args.urn.now 1 0)) in

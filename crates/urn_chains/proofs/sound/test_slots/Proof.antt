@@ -17,6 +17,13 @@ use borrow.Author.Rules.{rules}
 use Rattle.urn_chains.proofs.sound.test_slots.Statement.{statement}
 use Rattle.urn_chains.proofs.sound.test_slots.Tie as tie
 
+-- The stages of the function, seen from later ones.
+abbrev after_struct_known_1_from_else_ballots_free : tie.Else-ballots-free → tie.After-struct_known-1
+after_struct_known_1_from_else_ballots_free c = c.before.before.before.before.before.before.before.before
+
+abbrev after_is_zero_from_else_ballots_free : tie.Else-ballots-free → tie.After-is_zero
+after_is_zero_from_else_ballots_free c = (after_struct_known_1_from_else_ballots_free c).before.before.before
+
 -- the test of slot 0, from its bytes
 head_told : (c : tie.After-is_zero) →
     let a = c.args in
@@ -133,7 +140,7 @@ returns_5 c =
     sound_is _ _ _
     (tests_sound a.k a.d a.slots a.urn.now c.requires.table
     (record {
-      head = head_told c.before.before.before.before.before.before.before.before.before.before.before ∙ c.if-not-is_zero.false;
+      head = head_told (after_is_zero_from_else_ballots_free c) ∙ c.if-not-is_zero.false;
       ballots = sym c.walk_ballots-ballots.ensures.told ∙ not-false _ c.if-not-ballots.false;
       free = free_told c.before.before.before.before ∙ not-false _ c.if-not-free.false;
       count = ap (λ (m : ℕ). m + length

@@ -22,6 +22,13 @@ use Rattle.urn_run.proofs.Reasons.{one_T, whole_within, UrnRunPassed, urn_run_pa
 use Rattle.urn_run.proofs.run.run_on_urn.Statement.{statement}
 use Rattle.urn_run.proofs.run.run_on_urn.Tie as tie
 
+-- The stages of the function, seen from later ones.
+abbrev after_finish_from_after_slice_known_in_accepted_4_1 : tie.After-slice_known-in-Accepted-4-1 → tie.After-finish
+after_finish_from_after_slice_known_in_accepted_4_1 c = c.before.before.before.before.before.before.before.before
+
+abbrev in_accepted_from_after_slice_known_in_accepted_4_1 : tie.After-slice_known-in-Accepted-4-1 → tie.In-Accepted
+in_accepted_from_after_slice_known_in_accepted_4_1 c = (after_finish_from_after_slice_known_in_accepted_4_1 c).before.before.before.before.before.before.before.before
+
 -- two results are equal if their three parts are
 whole : {a b : Outcome Size} {v w x y : List ℕ} → a ≡ b → v ≡ w → x ≡ y
     → ◌≡◌ {A = RunResult} (record { answer = a; wires = v; board = x }) (record { answer = b; wires = w; board = y })
@@ -94,7 +101,7 @@ unfolding outcome run_result_after
 returns c =
     let done = c.finish in
     let l = c.load in
-    let told = c.before.before.before.before.before.before.before.before.before.before.before.before.before.before.before.before in
+    let told = (in_accepted_from_after_slice_known_in_accepted_4_1 c) in
     let a = c.args in
     let p = passed told in
     let gs = gates_of a.table.now in

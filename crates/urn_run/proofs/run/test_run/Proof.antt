@@ -21,6 +21,31 @@ use Rattle.urn_run.proofs.Reasons.{one_T, by_1, by_13, by_list, by_4, by_lent}
 use Rattle.urn_run.proofs.run.test_run.Statement.{statement}
 use Rattle.urn_run.proofs.run.test_run.Tie as tie
 
+-- The stages of the function, seen from later ones.
+abbrev after_shared_slice_known_1_from_in_default : tie.In_default → tie.After-shared_slice_known-1
+after_shared_slice_known_1_from_in_default c = c.before.before.before.before.before.before.before.before
+
+abbrev start_from_in_default : tie.In_default → tie.Start
+start_from_in_default c = (after_shared_slice_known_1_from_in_default c).before
+
+abbrev after_shared_slice_known_3_1_from_in_default_answer : tie.In_default-answer → tie.After-shared_slice_known-3-1
+after_shared_slice_known_3_1_from_in_default_answer c = c.before.before.before.before.before.before.before.before
+
+abbrev start_from_in_default_answer : tie.In_default-answer → tie.Start
+start_from_in_default_answer c = (after_shared_slice_known_3_1_from_in_default_answer c).before.before.before
+
+abbrev after_shared_slice_known_5_1_from_then_ballots_shape : tie.Then-ballots-shape → tie.After-shared_slice_known-5-1
+after_shared_slice_known_5_1_from_then_ballots_shape c = c.before.before.before.before.before.before.before.before
+
+abbrev start_from_then_ballots_shape : tie.Then-ballots-shape → tie.Start
+start_from_then_ballots_shape c = (after_shared_slice_known_5_1_from_then_ballots_shape c).before.before.before.before.before
+
+abbrev after_test_from_in_refused : tie.In-Refused → tie.After-test
+after_test_from_in_refused c = c.before.before.before.before.before.before.before.before
+
+abbrev start_from_in_refused : tie.In-Refused → tie.Start
+start_from_in_refused c = (after_test_from_in_refused c).before.before.before.before.before.before.before.before
+
 -- the first reason decides the answer
 refuses : (c : tie.Start) (r : Reason) → let a = c.args in
     first_of (urn_run_reasons a.shape a.table.now a.urn.now a.tape.now a.wires.now a.board.now)
@@ -78,7 +103,7 @@ returns_2 : tie.Need-returns-in_default
 unfolding outcome_of reason_of
 returns_2 c =
     let a = c.args in
-    refuses c.before.before.before.before.before.before.before.before.before (reason_at 13 0)
+    refuses (start_from_in_default c) (reason_at 13 0)
     (by_13 a.shape a.table.now a.urn.now a.tape.now a.wires.now a.board.now (graded c.before.before)
     (soundness_unsound _ _ (sym c.test.ensures ∙ c.in_default.is)))
 
@@ -97,7 +122,7 @@ returns_3 c =
     let a = c.args in
     let r = reason_of c.in_default-answer.field-0 in
     let e = ap outcome_of c.in_default-answer.is in
-    e ∙ refuses c.before.before.before.before.before.before.before.before.before.before.before r
+    e ∙ refuses (start_from_in_default_answer c) r
     (by_list a.shape a.table.now a.urn.now a.tape.now a.wires.now a.board.now
     (graded c.before.before.before.before) (sound_told c.before.before).0
     r (sym c.test-answer.ensures ∙ e))
@@ -107,7 +132,7 @@ unfolding outcome_of reason_of
 returns_4 c =
     let a = c.args in
     let told = sound_told c.before.before.before.before in
-    refuses c.before.before.before.before.before.before.before.before.before.before.before.before.before (reason_at 4 0)
+    refuses (start_from_then_ballots_shape c) (reason_at 4 0)
     (by_4 a.shape a.table.now a.urn.now a.tape.now a.wires.now a.board.now
     (graded c.before.before.before.before.before.before) told.0 (passed c.before.before).reasons
     (λ q. c.if-ballots-shape.true (told.1 ∙ q)))
@@ -145,7 +170,7 @@ returns_5 : tie.Need-returns-in-Refused
 unfolding outcome_of refused_for
 returns_5 c =
     let r = reason_of c.in-Refused.reason in
-    refuses c.before.before.before.before.before.before.before.before.before.before.before.before.before.before.before.before r
+    refuses (start_from_in_refused c) r
     (lent_answer c.before ∙ ap refused_for c.in-Refused.is)
 
 returns_6 : tie.Need-returns-in-Accepted-test_buffers

@@ -13,6 +13,13 @@ use Rattle.gate_words.proofs.HalvesLaws.{above_halves_none, above_halves_some}
 use Rattle.gate_words.proofs.writer.Writer.above_halves.Statement.{statement}
 use Rattle.gate_words.proofs.writer.Writer.above_halves.Tie as tie
 
+-- The stages of the function, seen from later ones.
+abbrev after_above_arg_2_1_from_after_slice_known_4_1 : tie.After-slice_known-4-1 → tie.After-above-arg-2-1
+after_above_arg_2_1_from_after_slice_known_4_1 c = c.before.before.before.before.before.before.before.before
+
+abbrev after_above_lower_from_after_slice_known_4_1 : tie.After-slice_known-4-1 → tie.After-above-lower
+after_above_lower_from_after_slice_known_4_1 c = (after_above_arg_2_1_from_after_slice_known_4_1 c).before.before.before.before.before
+
 add_above : tie.Need-overflow_add-f
 add_above c =
     omega (arith, c.requires)
@@ -144,7 +151,7 @@ returns_2 c =
     c.above-lower.ensures
     c.above-upper.ensures
     (ap (λ (k : ℕ). above k (a.f + 1 + a.low + 1) (a.x + 1 + a.low + 1) (a.x + 1 + a.low) (a.high - 1))
-    (lower c.before.before.before.before.before.before.before.before.before.before.before.before.before).place))
+    (lower (after_above_lower_from_after_slice_known_4_1 c)).place))
     (mux_wrote w₂ t₂ c.emit.new.table c.emit.result a.e
     c.chain_end-end.result
     c.chain_end.result c.emit.ensures)

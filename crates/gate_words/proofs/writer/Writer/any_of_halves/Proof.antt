@@ -13,6 +13,13 @@ use Rattle.gate_words.proofs.HalvesLaws.{beside, any_halves_none, any_halves_som
 use Rattle.gate_words.proofs.writer.Writer.any_of_halves.Statement.{statement}
 use Rattle.gate_words.proofs.writer.Writer.any_of_halves.Tie as tie
 
+-- The stages of the function, seen from later ones.
+abbrev after_any_of_arg_2_1_from_after_slice_known_4_1 : tie.After-slice_known-4-1 → tie.After-any_of-arg-2-1
+after_any_of_arg_2_1_from_after_slice_known_4_1 c = c.before.before.before.before.before.before.before.before
+
+abbrev after_any_of_lower_from_after_slice_known_4_1 : tie.After-slice_known-4-1 → tie.After-any_of-lower
+after_any_of_lower_from_after_slice_known_4_1 c = (after_any_of_arg_2_1_from_after_slice_known_4_1 c).before.before.before.before.before
+
 any_of_requires : tie.Need-any_of-lower-requires
 any_of_requires c κs =
     let s = c in
@@ -137,7 +144,7 @@ returns_2 c =
     c.any_of-lower.ensures
     c.any_of-upper.ensures
     (ap (λ (k : ℕ). any_of k (a.first + a.low) (a.first + a.low + 1) 1 (a.high - 1))
-    (lower c.before.before.before.before.before.before.before.before.before.before.before.before.before).place))
+    (lower (after_any_of_lower_from_after_slice_known_4_1 c)).place))
     (or_wrote w₂ t₂ c.emit.new.table c.emit.result
     c.chain_end-end.result
     c.chain_end.result 0 c.emit.ensures)
