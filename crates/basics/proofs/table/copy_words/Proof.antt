@@ -2,26 +2,13 @@
 -- Assumes nothing.
 use mathlib.Core.Path.{◌≡◌, ◌∙◌, refl, sym, ap}
 use mathlib.Core.List.{List, ◌++◌}
-use Prim.Native.Nat.{ℕ, suc, ◌-◌, ◌≤◌, ◌<◌}
+use Prim.Native.Nat.{ℕ, ◌-◌, ◌≤◌}
 use native.Mathlib.Numerals.{add-one}
 use native.Mathlib.Omega.{arith}
 use lib.ListN.{length, get_or, take, drop, set, length-set}
-use lib.Seq.{drop-cons, set_at, length-take-le, append_snoc, take-suc, take_all}
+use Rattle.basics.proofs.Tables.{copy_more, copy_all}
 use Rattle.basics.proofs.table.copy_words.Statement.{statement}
 use Rattle.basics.proofs.table.copy_words.Tie as tie
-
--- turn i copies word i
-more : (from to : List ℕ) (i : ℕ) → i < length from → i < length to
-    → set (take i from ++ drop i to) i (get_or from i 0) ≡ take (suc i) from ++ drop (suc i) to
-more from to i h l =
-    ap (λ (r : List ℕ). set (take i from ++ r) i (get_or from i 0)) (drop-cons to i 0 l)
-    ∙ set_at (take i from) (get_or to i 0) (drop (suc i) to) (get_or from i 0) i (length-take-le i from (omega arith))
-    ∙ sym (append_snoc (take i from) (get_or from i 0) (drop (suc i) to))
-    ∙ ap (λ (r : List ℕ). r ++ drop (suc i) to) (sym (take-suc from i 0 h))
-
--- after the last turn all words are copied
-all : (from to : List ℕ) (i : ℕ) → i ≡ length from → take i from ++ drop i to ≡ from ++ drop (length from) to
-all from to i e = ap (λ (r : List ℕ). r ++ drop i to) (take_all i from (omega arith)) ∙ ap (λ (n : ℕ). from ++ drop n to) e
 
 abbrev invariant_loop : tie.invariant-loop-i
 invariant_loop from to₀ i₀ to i = (i ≤ length from) × (length to ≡ length to₀) × (to ≡ take i from ++ drop i to₀)
@@ -58,7 +45,7 @@ loop_again c =
     let l = at.loop-i in (
       omega arith,
       length-set l.to l.i (get_or from l.i 0) ∙ l.invariant.1,
-      ap (λ (r : List ℕ). set r l.i (get_or from l.i 0)) l.invariant.2 ∙ more from to l.i (omega arith) (omega arith)
+      ap (λ (r : List ℕ). set r l.i (get_or from l.i 0)) l.invariant.2 ∙ copy_more from to l.i (omega arith) (omega arith)
           ∙ ap (λ (n : ℕ). take n from ++ drop n to) (sym (add-one l.i)),
     )
 
@@ -66,7 +53,7 @@ same_length : tie.Need-shape_of-to invariant_loop decreases_loop
 same_length c = c.loop-i.invariant.1
 
 returns : tie.Need-returns invariant_loop decreases_loop
-returns c = let l = c.loop-i in l.invariant.2 ∙ all _ _ l.i (omega arith)
+returns c = let l = c.loop-i in l.invariant.2 ∙ copy_all _ _ l.i (omega arith)
 
 pub copy_words_spec : {M : Type 1} → statement M
 copy_words_spec =

@@ -33,7 +33,7 @@ returns c =
     sym (ap (λ (p : Place). found p (first_not_weak_order k n xs)) none.0 ∙ ap (found Nowhere) none.1)
 
 test_rankings_requires : tie.Need-test_rankings-requires
-test_rankings_requires c κs = c.requires.1
+test_rankings_requires c κs = search rules
 
 returns_2 : tie.Need-returns
 returns_2 c = c.test_rankings.ensures
