@@ -27,10 +27,12 @@ abbrev decreases_loop : tie.decreases-loop-done
 decreases_loop count headers conditional gates_per_round lists ballots tapes wires₀ boards₀ most shown₀ done₀ wires boards shown done = most - done
 
 -- The stages of the function, seen from later ones.
-abbrev at_loop_done_from_after_slice_known_in_loop_done_2_1 : tie.After-slice_known-in-loop-done-2-1 invariant_loop decreases_loop → tie.At-loop-done invariant_loop decreases_loop
+abbrev at_loop_done_from_after_slice_known_in_loop_done_2_1 : tie.After-slice_known-in-loop-done-2-1 invariant_loop decreases_loop
+    → tie.At-loop-done invariant_loop decreases_loop
 at_loop_done_from_after_slice_known_in_loop_done_2_1 c = c.before.before.before.before.before.before.before.before
 
-abbrev start_from_after_slice_known_in_loop_done_2_1 : tie.After-slice_known-in-loop-done-2-1 invariant_loop decreases_loop → tie.Start invariant_loop decreases_loop
+abbrev start_from_after_slice_known_in_loop_done_2_1 : tie.After-slice_known-in-loop-done-2-1 invariant_loop decreases_loop
+    → tie.Start invariant_loop decreases_loop
 start_from_after_slice_known_in_loop_done_2_1 c = (at_loop_done_from_after_slice_known_in_loop_done_2_1 c).before.before.before.before.before.before.before
 
 -- From a round back to where the function starts.

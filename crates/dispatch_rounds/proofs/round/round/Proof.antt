@@ -33,7 +33,8 @@ abbrev decreases_loop : tie.decreases-loop-j
 decreases_loop count done gates_per_round lists ballots tapes wires₀ boards₀ headers conditional given shown₀ at₀ j₀ wires boards shown at j = count - j
 
 -- The stages of the function, seen from later ones.
-abbrev after_shared_slice_known_1_from_after_after_at : tie.After-after-at invariant_loop decreases_loop → tie.After-shared_slice_known-1 invariant_loop decreases_loop
+abbrev after_shared_slice_known_1_from_after_after_at : tie.After-after-at invariant_loop decreases_loop
+    → tie.After-shared_slice_known-1 invariant_loop decreases_loop
 after_shared_slice_known_1_from_after_after_at c = c.before.before.before.before.before.before.before.before
 
 abbrev start_from_after_after_at : tie.After-after-at invariant_loop decreases_loop → tie.Start invariant_loop decreases_loop
@@ -277,11 +278,11 @@ record Handed (c : tie.After-after-at invariant_loop decreases_loop) (ws bs : Li
       ≡ (pieces_of (jury c.before.before) (here c.before.before ws bs)).tapes
   pub wires : take (c.after-at.result.wires - c.loop-j.at.wires)
       (drop c.loop-j.at.wires c.loop-j.wires)
-      ≡ jury_wires (given c.before.before.before.before.before.before.before.before.before) (jury c.before.before)
+      ≡ jury_wires (given (start_from_after_after_at c)) (jury c.before.before)
       (pieces_of (jury c.before.before) (here c.before.before ws bs))
   pub board : take (c.after-at.result.boards - c.loop-j.at.boards)
       (drop c.loop-j.at.boards c.loop-j.boards)
-      ≡ jury_board (given c.before.before.before.before.before.before.before.before.before) (jury c.before.before)
+      ≡ jury_board (given (start_from_after_after_at c)) (jury c.before.before)
       (pieces_of (jury c.before.before) (here c.before.before ws bs))
 
 handed : (c : tie.After-after-at invariant_loop decreases_loop) (ws bs : List ℕ) → Turn c.before.before ws bs → Handed c ws bs

@@ -29,7 +29,8 @@ abbrev after_all_of_every_from_after_slice_known_5_1 : tie.After-slice_known-5-1
 after_all_of_every_from_after_slice_known_5_1 c = c.before.before.before.before.before.before.before.before
 
 abbrev after_differences_differ_from_after_slice_known_5_1 : tie.After-slice_known-5-1 → tie.After-differences-differ
-after_differences_differ_from_after_slice_known_5_1 c = (after_all_of_every_from_after_slice_known_5_1 c).before.before.before.before.before.before.before.before
+after_differences_differ_from_after_slice_known_5_1 c =
+    (after_all_of_every_from_after_slice_known_5_1 c).before.before.before.before.before.before.before.before
 
 abbrev after_carries_by_free_from_after_slice_known_5_1 : tie.After-slice_known-5-1 → tie.After-carries_by-free
 after_carries_by_free_from_after_slice_known_5_1 c = (after_all_of_every_from_after_slice_known_5_1 c).before.before.before.before

@@ -38,7 +38,8 @@ abbrev decreases_loop : tie.decreases-loop-e
 decreases_loop table₀ words wires₀ p first k next₀ e₀ table wires next e = p.candidates * p.candidates - e
 
 -- The stages of the function, seen from later ones.
-abbrev at_loop_e_from_after_slice_known_in_loop_e_2_1 : tie.After-slice_known-in-loop-e-2-1 invariant_loop decreases_loop → tie.At-loop-e invariant_loop decreases_loop
+abbrev at_loop_e_from_after_slice_known_in_loop_e_2_1 : tie.After-slice_known-in-loop-e-2-1 invariant_loop decreases_loop
+    → tie.At-loop-e invariant_loop decreases_loop
 at_loop_e_from_after_slice_known_in_loop_e_2_1 c = c.before.before.before.before.before.before.before.before
 
 abbrev start_from_after_slice_known_in_loop_e_2_1 : tie.After-slice_known-in-loop-e-2-1 invariant_loop decreases_loop → tie.Start invariant_loop decreases_loop

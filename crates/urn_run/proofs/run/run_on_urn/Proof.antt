@@ -27,7 +27,8 @@ abbrev after_finish_from_after_slice_known_in_accepted_4_1 : tie.After-slice_kno
 after_finish_from_after_slice_known_in_accepted_4_1 c = c.before.before.before.before.before.before.before.before
 
 abbrev in_accepted_from_after_slice_known_in_accepted_4_1 : tie.After-slice_known-in-Accepted-4-1 → tie.In-Accepted
-in_accepted_from_after_slice_known_in_accepted_4_1 c = (after_finish_from_after_slice_known_in_accepted_4_1 c).before.before.before.before.before.before.before.before
+in_accepted_from_after_slice_known_in_accepted_4_1 c =
+    (after_finish_from_after_slice_known_in_accepted_4_1 c).before.before.before.before.before.before.before.before
 
 -- two results are equal if their three parts are
 whole : {a b : Outcome Size} {v w x y : List ℕ} → a ≡ b → v ≡ w → x ≡ y
