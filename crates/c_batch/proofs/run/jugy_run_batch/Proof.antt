@@ -36,79 +36,67 @@ call_for s start =
 abbrev call : tie.Start → Call
 call start = call_for (shape_of start.args.candidates start.args.grades start.args.ballots) start
 
--- The stages: the answer array is too short; it is long enough.
-abbrev started_short : tie.Then1 → tie.Start
-started_short c = c.before.before.before.before.before.before.before
-
-abbrev started : tie.Else1 → tie.Start
-started c = c.before.before.before.before.before.before.before
-
-returns : tie.Need-returns
+returns : tie.Need-returns-then-answer-lt-SIZE_ANSWER
 unfolding shape_of
 returns c =
-    let of = call (started_short c) in
+    let of = call c.before.before.before.before.before.before.before in
     let r = batch_result of in
-    short_call size_answer (started_short c).args.answer.now c.if1.true (size_numbers r.answer)
+    short_call size_answer c.args.answer.now c.if-answer-lt-SIZE_ANSWER.true (size_numbers r.answer)
     (of.wires ∷ of.board ∷ []) (r.wires ∷ r.board ∷ [])
 
 new_requires : tie.Need-new-requires
 new_requires c κs = search rules
 
-enum_known_shape : tie.Need-enum-known-shape
+enum_known_shape : tie.Need-enum_known-shape
 enum_known_shape c = search rules
 
-enum_told : tie.Need-enum-told
+enum_told : tie.Need-enum_told-1
 enum_told c = search rules
 
-put_size_requires : tie.Need-put-size-requires
+put_size_requires : tie.Need-put_size-requires
 put_size_requires c κs = search rules
 
-same_length : tie.Need-same-length
+same_length : tie.Need-shape_of-answer-in_default
 same_length c = search rules
 
-returns_2 : tie.Need-returns-2
+returns_2 : tie.Need-returns-in_default
 unfolding shape_of outcome_of reason_of batch_result_after
 returns_2 c =
-    let told = c.before.before.before.before in
-    let made = told.before.before in
-    let long = made.before in
-    let of = call (started long) in
-    let outside = outside_is (within_limits of.shape) of.shape (sym made.new.ensures.result ∙ told.enum_told.given.1) in
+    let start = c.before.before.before.before.before.before.before.before.before.before.before.before.before in
+    let of = call start in
+    let outside = outside_is (within_limits of.shape) of.shape (sym c.new.ensures.result ∙ c.in_default.is) in
     let r = batch_result of in
     let left = result_by of (some (reason_at 1 0)) (by_test of (reason_at 1 0) (outside_list of.shape of.table outside)) in
-    put_call size_answer (started long).args.answer.now long.if1.false (size_numbers r.answer) _ _ _
-    c.before.before.put-size.ensures (ap (λ (z : RunResult). size_numbers z.answer) (sym left))
+    put_call size_answer c.args.answer.now c.if-answer-lt-SIZE_ANSWER.false (size_numbers r.answer) _ _ _
+    c.put_size.ensures (ap (λ (z : RunResult). size_numbers z.answer) (sym left))
     (of.wires ∷ of.board ∷ []) (r.wires ∷ r.board ∷ []) _ (ap (λ (z : RunResult). z.wires ∷ z.board ∷ []) (sym left))
 
-run_requires : tie.Need-run-requires
+run_requires : tie.Need-run-outcome-requires
 run_requires c κs = search rules
 
-put_size_requires_2 : tie.Need-put-size-requires-2
+put_size_requires_2 : tie.Need-put_size-requires-2
 put_size_requires_2 c κs = search rules
 
-same_length_2 : tie.Need-same-length-2
+same_length_2 : tie.Need-shape_of-wires
 same_length_2 c = search rules
 
-same_length_3 : tie.Need-same-length-3
+same_length_3 : tie.Need-shape_of-board
 same_length_3 c = search rules
 
-same_length_4 : tie.Need-same-length-4
+same_length_4 : tie.Need-shape_of-answer
 same_length_4 c = search rules
 
-returns_3 : tie.Need-returns-3
+returns_3 : tie.Need-returns
 unfolding shape_of
 returns_3 c =
-    let ran = c.before.before.before.before.before.before.before.before in
-    let known = ran.before.before.before.before in
-    let made = known.before.before in
-    let long = made.before in
-    let of = call (started long) in
-    let same = shape_is (within_limits of.shape) of.shape known.shape.given.0.0
-    (sym made.new.ensures.result ∙ known.shape.given.1) in
+    let start = c.before.before.before.before.before.before.before.before.before.before.before.before.before.before.before.before.before.before.before.before in
+    let of = call start in
+    let same = shape_is (within_limits of.shape) of.shape c.in-Within.shape
+    (sym c.new.ensures.result ∙ c.in-Within.is) in
     let r = batch_result of in
-    let left = ran.run.ensures ∙ ap (λ (z : Shape). batch_result (call_for z (started long))) same in
-    put_call size_answer (started long).args.answer.now long.if1.false (size_numbers r.answer) _ _ _
-    c.before.before.put-size2.ensures (ap (λ (z : RunResult). size_numbers z.answer) left)
+    let left = c.run-outcome.ensures ∙ ap (λ (z : Shape). batch_result (call_for z start)) same in
+    put_call size_answer c.args.answer.now c.if-answer-lt-SIZE_ANSWER.false (size_numbers r.answer) _ _ _
+    c.put_size-2.ensures (ap (λ (z : RunResult). size_numbers z.answer) left)
     (of.wires ∷ of.board ∷ []) (r.wires ∷ r.board ∷ []) _ (ap (λ (z : RunResult). z.wires ∷ z.board ∷ []) left)
 
 pub jugy_run_batch_spec : {M : Type 1} → statement M
