@@ -13,6 +13,16 @@ use Rattle.c_answers.proofs.Answering.{short_call, put_call}
 use Rattle.c_dispatch.proofs.by_rounds.jugy_dispatch.Statement.{statement}
 use Rattle.c_dispatch.proofs.by_rounds.jugy_dispatch.Tie as tie
 
+-- The stages of the function, seen from later ones.
+abbrev after_wires_1_from_after_slice_known_6_1 : tie.After-slice_known-6-1 → tie.After-wires-1
+after_wires_1_from_after_slice_known_6_1 c = c.before.before.before.before.before.before.before.before
+
+abbrev else_answer_lt_dispatch_answer_from_after_slice_known_6_1 : tie.After-slice_known-6-1 → tie.Else-answer-lt-DISPATCH_ANSWER
+else_answer_lt_dispatch_answer_from_after_slice_known_6_1 c = (after_wires_1_from_after_slice_known_6_1 c).before.before.before.before.before
+
+abbrev start_from_after_slice_known_6_1 : tie.After-slice_known-6-1 → tie.Start
+start_from_after_slice_known_6_1 c = (else_answer_lt_dispatch_answer_from_after_slice_known_6_1 c).before.before.before.before.before.before.before.before
+
 -- This call with these headers, by its other arguments at the start.
 abbrev with_headers : tie.Start → List JuryHeader → Call
 with_headers s headers =
@@ -54,7 +64,7 @@ same_length_3 c = search rules
 
 returns_2 : tie.Need-returns
 returns_2 c =
-    let start = c.before.before.before.before.before.before.before.before.before.before.before.before.before.before.before.before.before.before.before.before.before in
+    let start = (start_from_after_slice_known_6_1 c) in
     let of = call start in
     let r = dispatch_result of in
     let left = c.dispatch-outcome.ensures
