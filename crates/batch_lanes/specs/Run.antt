@@ -10,4 +10,4 @@ pub record RunDone (inputs table : List ℕ) (outputs : ℕ) (tape wires board :
   pub wires_are : (j : ℕ) → j < lane_count → lane_of j wires ≡ wires_of (lane_of j inputs) (gates_of table)
   pub board_is : (j : ℕ) → j < lane_count
       → lane_of j board ≡ board_of (wires_of (lane_of j inputs) (gates_of table)) (gates_of table) outputs
-          (lane_of j tape)
+      (lane_of j tape)

@@ -170,7 +170,7 @@ pub record Dispatching : Type 0 where
       → write_outcome (header_shape (jury c j)) table ≡ accepted size
       → (pieces c j).lists ≡ list_in (header_shape (jury c j)) size table
       → let s = header_shape (jury c j) in
-          SaysWhoWins s (pieces c j).ballots (closing_bytes s (pieces_after c j).boards)
+      SaysWhoWins s (pieces c j).ballots (closing_bytes s (pieces_after c j).boards)
   -- demand 3, for two juries with the same header and list whose boards end with the same closing bytes; it is
   -- stated for the undivided runs on their pieces, which by `EachJury` leave the same boards
   pub hiding : (c c' : Call) (j i : ℕ) → AcceptedJury c j → AcceptedJury c' i

@@ -29,7 +29,7 @@ pub record InputsHidden (gs : List Gate) (k : ℕ) (xs ys : List ℕ) : Type 0 w
   -- whatever the first tape, exactly one second tape makes the boards equal in every byte
   pub same_board : (s : List ℕ) → MaskTape gs s
       → ExactlyOne (λ (t : List ℕ). MaskTape gs t
-          × (board_of (wires_of xs gs) gs k s ≡ board_of (wires_of ys gs) gs k t))
+      × (board_of (wires_of xs gs) gs k s ≡ board_of (wires_of ys gs) gs k t))
 
 -- Demand 3, for any list of at least k gates and any two inputs whose k outputs are equal.
 abbrev pub BoardHidesInputs : Type 0

@@ -48,7 +48,7 @@ unfoldable pub last_words : ℕ → ℕ → ℕ → ℕ → ℕ → ℕ → ℕ 
 last_words n f x y u v r zero = []
 last_words n f x y u v r (suc t) =
     either f x y u v r ++ last_words (n + either_span r) (f + side_span r) (x + stride r) (y + stride r) n (n + suc r)
-        r t
+    r t
 
 -- The words of the first such grade: the grades are visited from the last to the first.
 unfoldable pub first_words : ℕ → ℕ → ℕ → ℕ → ℕ → ℕ → ℕ → ℕ → List Gate

@@ -111,12 +111,12 @@ unfoldable pub tie_break : ℕ → ℕ → ℕ → ℕ → ℕ → ℕ → ℕ �
 tie_break bit n x y e s r h t =
     nearest n x y r h t
     ++ compare_and_reach (nearest_end n r t) (down_left n x r t) (down_right n y r t) (up_left n x r t)
-        (up_right n y r t)
+    (up_right n y r t)
     bit r (chosen_high r h t)
     ++ resolve (resolve_at n r t) e s
     (unequal_at (nearest_end n r t) r) (above_at (nearest_end n r t) (down_left n x r t) r)
     (unequal_at (nearest_end n r t + compare_span r) r)
-        (above_at (nearest_end n r t + compare_span r) (up_left n x r t) r)
+    (above_at (nearest_end n r t + compare_span r) (up_left n x r t) r)
     (left_carry (nearest_end n r t) r) (right_carry (nearest_end n r t) r)
     (x + suc r) (far_at x r t + suc r)
 

@@ -77,7 +77,7 @@ pub eight_judged : (rows : List (List ℕ))
     → tabulate most_candidates (up_to (length rows) (λ j. get_or (judgment_of rows) j 0) (λ j. 0)) ≡ eight_bytes (judgment_of rows)
 eight_judged rows =
     ext_get_or 0 (tabulate most_candidates closing) (eight_bytes (judgment_of rows)) (length_tabulate most_candidates closing
-        ∙ sym (eight_length (judgment_of rows)))
+    ∙ sym (eight_length (judgment_of rows)))
     (λ j l. at j (omega (arith, length_tabulate most_candidates closing)))
   where
     closing : ℕ → ℕ

@@ -18,7 +18,7 @@ pub record TextMemory : Type 0 where
   -- an accepted call says how much it wrote, and what comes after that is unchanged
   pub writes_its_length : (s : Shape) (table output : List ℕ) (n : ℕ) → text_outcome s table output ≡ accepted n
       → (length (text_of (gates_of table)) ≡ n)
-          × (text_written s table output ≡ text_of (gates_of table) ++ drop n output)
+      × (text_written s table output ≡ text_of (gates_of table) ++ drop n output)
   pub reads_its_length : (s : Shape) (text output : List ℕ) (n : ℕ) → read_outcome s text output ≡ accepted n
       → let numbers = numbers_of (gates_in (lines_of text)) in
       (length numbers ≡ n) × (numbers_read s text output ≡ numbers ++ drop n output)

@@ -76,7 +76,7 @@ pub record OwnListAccuracy (way : Way) (c : Call) : Type 0 where
 pub record ViewsHide (way : Way) (c c' : Call) : Type 0 where
   pub same_view : (q : ℕ) → q < c.trustees → (d : Dealing) → Accepted (dealt_as c d)
       → ExactlyOne (λ (e : Dealing). Accepted (dealt_as c' e)
-          × (way.view q (dealt_as c d) ≡ way.view q (dealt_as c' e)))
+      × (way.view q (dealt_as c d) ≡ way.view q (dealt_as c' e)))
   pub sees_the_table : (q : ℕ) (d : Dealing) → Accepted (dealt_as c d)
       → (way.view q (dealt_as c d)).published ≡ way.published (dealt_as c d)
 

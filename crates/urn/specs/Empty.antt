@@ -28,7 +28,7 @@ all_free n b = layout n b [] (tabulate (n - 1) suc)
 unfoldable pub emptied : ℕ → ℕ → List ℕ → List ℕ
 emptied k d table =
     afterwards (first_of (empty_reasons k d table)) (bytes_of (all_free (slot_count (k * d) (length table)) (k * d)))
-        table
+    table
 
 -- What the call leaves: the contract of `empty` is an equation with this.
 abbrev pub emptying : ℕ → ℕ → List ℕ → UrnResult

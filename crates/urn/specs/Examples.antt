@@ -28,7 +28,7 @@ pub empty_sound : sound 1 2 empty_urn ≡ true
 unfolding empty_urn slot_bytes slot_of slots_of slot_at chain ends entry_at ballot_slots ballot_chain free_chain all
     member
     distinct good_juror in_urn each_once good_chains all_zero empty_slot sound_slots slot_count urn_length urn_slots
-        sound
+    sound
     tabulate
 empty_sound = refl
 
@@ -37,7 +37,7 @@ pub loop_unsound : sound 1 2 (0 ∷ 1 ∷ 0 ∷ 0 ∷ 1 ∷ 0 ∷ 0 ∷ 0 ∷ []
 unfolding slot_bytes slot_of slots_of slot_at chain ends entry_at ballot_slots ballot_chain free_chain all member
     distinct
     good_juror in_urn each_once good_chains all_zero empty_slot sound_slots slot_count urn_length urn_slots sound
-        tabulate
+    tabulate
 loop_unsound = refl
 
 pub emptying_computes : emptied 1 2 (9 ∷ 9 ∷ 9 ∷ 9 ∷ 9 ∷ 9 ∷ 9 ∷ 9 ∷ 9 ∷ 9 ∷ 9 ∷ 9 ∷ [])
@@ -51,7 +51,7 @@ pub admission_computes : admitted 1 2 empty_urn 9 (0 ∷ 1 ∷ []) ≡ one_ballo
 unfolding empty_urn one_ballot_in slot_bytes slot_of slots_of bytes_of_slot bytes_of slot_at free_slot chain ends
     entry_at
     ballot_slots ballot_chain free_chain first_entry first_free entry_slot with_ballots with_free head_slot layout all
-        member
+    member
     distinct jury_of_one no_reason good_ballot good_juror in_urn each_once good_chains all_zero empty_slot sound_slots
     slot_count urn_length urn_slots sound is_empty jurors_of facts_of afterwards admit_reasons with_ballot admitted
     is_ranking graded_limits columns ballot_bytes unless found_at first_of ones rows_of first_bad_row graded_reasons
@@ -62,10 +62,10 @@ pub withdrawal_computes : withdrawn 1 2 one_ballot_in 9 ≡ empty_urn
 unfolding empty_urn one_ballot_in slot_bytes slot_of slots_of bytes_of_slot bytes_of slot_at free_slot chain ends
     entry_at
     ballot_slots ballot_chain free_chain first_entry first_free entry_slot with_ballots with_free head_slot layout all
-        member
+    member
     distinct jury_of_one no_reason good_ballot good_juror in_urn each_once good_chains all_zero empty_slot sound_slots
     slot_count urn_length urn_slots sound is_empty jurors_of facts_of afterwards withdraw_reasons without_juror
-        slot_of_juror
+    slot_of_juror
     without_ballot withdrawn is_ranking graded_limits columns ballot_bytes unless found_at first_of ones rows_of
     first_bad_row graded_reasons ballot_kind_reasons ballot_reasons tabulate first_above_one
 withdrawal_computes = refl

@@ -77,5 +77,5 @@ pub record Turned (seat : Seat) (rounds conditional k : ℕ)
   pub shown : published' ≡ closes seat.round rounds conditional k
       (enters (turn_by seat levels triples heard) (gates_of table) 0 0 ws)
       (publishes (turn_by seat levels triples heard)
-          (enters (turn_by seat levels triples heard) (gates_of table) 0 0 ws)
+      (enters (turn_by seat levels triples heard) (gates_of table) 0 0 ws)
       (gates_of table) 0 0 published)

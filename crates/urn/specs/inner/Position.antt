@@ -9,4 +9,4 @@ use Rattle.urn_chains.specs.inner.Position.{position_of}
 unfoldable pub position_in : ℕ → ℕ → List ℕ → ℕ → ChainPosition
 position_in k d urn juror =
     position_of (urn_slots k d urn) juror 0
-        (chain (slot_count (k * d) (length urn)) (get_or urn 0 0) (urn_slots k d urn))
+    (chain (slot_count (k * d) (length urn)) (get_or urn 0 0) (urn_slots k d urn))

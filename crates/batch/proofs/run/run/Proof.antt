@@ -57,7 +57,7 @@ run_requires : tie.Need-run-requires
 run_requires c κs =
     let told = c.before.before in
     batch_ready (call told.before.before.before.before.before.before.before)
-        (batch_passed (call told.before.before.before.before.before.before.before) (no_reason told))
+    (batch_passed (call told.before.before.before.before.before.before.before) (no_reason told))
 
 empty_words_requires : tie.Need-empty_words-requires
 empty_words_requires c κs = search rules

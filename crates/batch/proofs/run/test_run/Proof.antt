@@ -151,7 +151,7 @@ returns_4 c =
     let none_applies = lent_answer lent.before ∙ ap refused_for c.in-Accepted-test_buffers.is in
     sym (ap outcome_of told.in-Accepted.is) ∙ told.test-answer.ensures
     ∙ ap (λ (o : Option Reason). outcome o (size_of (gates_of (call told.before.before.before.before.before.before.before).table))) ((passed told).reasons
-        ∙ sym none_applies)
+    ∙ sym none_applies)
 
 pub test_run_spec : {M : Type 1} → statement M
 test_run_spec =

@@ -20,6 +20,22 @@ use Rattle.batch.proofs.Reasons.{by_test, result_by}
 use Rattle.c_batch.proofs.run.jugy_run_batch.Statement.{statement}
 use Rattle.c_batch.proofs.run.jugy_run_batch.Tie as tie
 
+-- The stages of the function, seen from later ones.
+abbrev after_slice_known_2_1_from_after_slice_known_in_default_1 : tie.After-slice_known-in_default-1 → tie.After-slice_known-2-1
+after_slice_known_2_1_from_after_slice_known_in_default_1 c = c.before.before.before.before.before.before.before.before
+
+abbrev start_from_after_slice_known_in_default_1 : tie.After-slice_known-in_default-1 → tie.Start
+start_from_after_slice_known_in_default_1 c = (after_slice_known_2_1_from_after_slice_known_in_default_1 c).before.before.before.before.before
+
+abbrev after_run_outcome_from_after_slice_known_6_1 : tie.After-slice_known-6-1 → tie.After-run-outcome
+after_run_outcome_from_after_slice_known_6_1 c = c.before.before.before.before.before.before.before.before
+
+abbrev after_new_from_after_slice_known_6_1 : tie.After-slice_known-6-1 → tie.After-new
+after_new_from_after_slice_known_6_1 c = (after_run_outcome_from_after_slice_known_6_1 c).before.before.before.before
+
+abbrev start_from_after_slice_known_6_1 : tie.After-slice_known-6-1 → tie.Start
+start_from_after_slice_known_6_1 c = (after_new_from_after_slice_known_6_1 c).before.before.before.before.before.before.before.before
+
 -- The call for a shape, by its other arguments at the start; and this call.
 abbrev call_for : Shape → tie.Start → Call
 call_for s start =
@@ -62,7 +78,7 @@ same_length c = search rules
 returns_2 : tie.Need-returns-in_default
 unfolding shape_of outcome_of reason_of batch_result_after
 returns_2 c =
-    let start = c.before.before.before.before.before.before.before.before.before.before.before.before.before in
+    let start = (start_from_after_slice_known_in_default_1 c) in
     let of = call start in
     let outside = outside_is (within_limits of.shape) of.shape (sym c.new.ensures.result ∙ c.in_default.is) in
     let r = batch_result of in
@@ -89,7 +105,7 @@ same_length_4 c = search rules
 returns_3 : tie.Need-returns
 unfolding shape_of
 returns_3 c =
-    let start = c.before.before.before.before.before.before.before.before.before.before.before.before.before.before.before.before.before.before.before.before in
+    let start = (start_from_after_slice_known_6_1 c) in
     let of = call start in
     let same = shape_is (within_limits of.shape) of.shape c.in-Within.shape
     (sym c.new.ensures.result ∙ c.in-Within.is) in

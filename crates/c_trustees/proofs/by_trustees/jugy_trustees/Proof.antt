@@ -117,16 +117,16 @@ returns_3 c =
     let made = known in
     let long = made in
     let of = call
-        (start_from_after_slice_known_6_1 long)
-        in
+    (start_from_after_slice_known_6_1 long)
+    in
     let same = shape_is (within_limits of.shape) of.shape known.in-Within.shape
     (sym made.new.ensures.result ∙ known.in-Within.is) in
     let r = trustees_result of in
     let left = outcome.run-outcome.ensures
-        ∙ ap (λ (z : Shape).
-        trustees_result
-        (call_for z
-        (start_from_after_slice_known_6_1 long))) same in
+    ∙ ap (λ (z : Shape).
+    trustees_result
+    (call_for z
+    (start_from_after_slice_known_6_1 long))) same in
     put_call tally_answer long.args.answer.now long.if-answer-lt-TALLY_ANSWER.false (tally_numbers r.answer r.closing) _ _ _
     c.put_tally-2.ensures (ap (λ (z : TrusteesResult). tally_numbers z.answer z.closing) left)
     (of.lent.wire_parts ∷ of.lent.published ∷ []) (r.wire_parts ∷ r.published ∷ []) _

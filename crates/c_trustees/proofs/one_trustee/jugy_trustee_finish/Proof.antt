@@ -99,7 +99,7 @@ returns_3 c =
     let same = shape_is (within_limits s) s known.in-Within.shape (sym made.new.ensures.result ∙ known.in-Within.is) in
     let r = left_by (start_from_after_slice_known_4_1 long) in
     let left = outcome.finish-outcome.ensures
-        ∙ ap (λ (z : Shape). left_for z (start_from_after_slice_known_4_1 long)) same in
+    ∙ ap (λ (z : Shape). left_for z (start_from_after_slice_known_4_1 long)) same in
     put_call size_answer a.answer.now long.if-answer-lt-SIZE_ANSWER.false (size_numbers r.answer) _ _ _ c.put_size-2.ensures
     (ap (λ (z : FinishResult). size_numbers z.answer) left) (a.wires.now ∷ []) (r.wires ∷ []) _
     (ap (λ (z : FinishResult). z.wires ∷ []) left)

@@ -109,12 +109,12 @@ returns_3 c =
     let s = shape_of a.candidates a.grades a.ballots in
     let same = shape_is (within_limits s) s known.in-Within.shape (sym made.new.ensures.result ∙ known.in-Within.is) in
     let r = left_by
-        (start_from_after_slice_known_6_1 long)
-        in
+    (start_from_after_slice_known_6_1 long)
+    in
     let left = outcome.round-outcome.ensures
-        ∙ ap (λ (z : Shape).
-        left_for z
-        (start_from_after_slice_known_6_1 long)) same in
+    ∙ ap (λ (z : Shape).
+    left_for z
+    (start_from_after_slice_known_6_1 long)) same in
     put_call three_answer a.answer.now long.if-answer-lt-THREE_ANSWER.false (depth_numbers r.answer) _ _ _ c.put_depths-2.ensures
     (ap (λ (z : OwnResult Depths). depth_numbers z.answer) left) (a.wires.now ∷ a.published.now ∷ [])
     (r.wires ∷ r.published ∷ []) _ (ap (λ (z : OwnResult Depths). z.wires ∷ z.published ∷ []) left)

@@ -107,12 +107,12 @@ returns_3 c =
     let s = shape_of a.candidates a.grades a.ballots in
     let same = shape_is (within_limits s) s known.in-Within.shape (sym made.new.ensures.result ∙ known.in-Within.is) in
     let r = left_by
-        (start_from_after_slice_known_6_1 long) in
+    (start_from_after_slice_known_6_1 long) in
     let left = outcome.start-outcome.ensures
-        ∙ ap (λ (z : Shape).
-        left_for z
-        (start_from_after_slice_known_6_1 long)) same
-        in
+    ∙ ap (λ (z : Shape).
+    left_for z
+    (start_from_after_slice_known_6_1 long)) same
+    in
     put_call size_answer a.answer.now long.if-answer-lt-SIZE_ANSWER.false (size_numbers r.answer) _ _ _ c.put_size-2.ensures
     (ap (λ (z : OwnResult Size). size_numbers z.answer) left) (a.wires.now ∷ a.published.now ∷ [])
     (r.wires ∷ r.published ∷ []) _ (ap (λ (z : OwnResult Size). z.wires ∷ z.published ∷ []) left)

@@ -100,12 +100,12 @@ most c = let q = (call (start_from_else_not_is_between_2 c)).gates_per_round in
 -- the reason that the tests found is the call's
 by_tests : (c : tie.After-test_juries-tests) (o : Option Reason) → verdict_reason c.test_juries-tests.result.verdict ≡ o
     → dispatch_result (call (start_from_after_test_juries_tests c))
-        ≡ dispatch_result_after o (call (start_from_after_test_juries_tests c))
+    ≡ dispatch_result_after o (call (start_from_after_test_juries_tests c))
 by_tests c o e =
     let two = c in
     result_by (call (start_from_after_test_juries_tests c)) o
     (by_juries (call (start_from_after_test_juries_tests c)) (count_good two.before.before.before) (per_round_good two.before)
-        ∙ sym c.test_juries-tests.ensures.reason ∙ e)
+    ∙ sym c.test_juries-tests.ensures.reason ∙ e)
 
 is_between_requires : tie.Need-is_between-requires
 is_between_requires c κs = search rules
@@ -200,7 +200,7 @@ rounds_of_requires : tie.Need-rounds_of-requires
 rounds_of_requires c κs =
     let t = c in
     let of = call
-        (start_from_after_slice_known_5_1 t) in
+    (start_from_after_slice_known_5_1 t) in
     let two = (else_not_is_between_2_from_after_slice_known_5_1 t) in
     record {
       few = few two.before.before;

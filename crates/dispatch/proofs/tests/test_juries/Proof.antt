@@ -79,7 +79,7 @@ found c =
     let at = i.loop-j.at in
     c.test_jury-answer.ensures
     ∙ ap (λ (x : Tables). outcome (first_of (reasons_of (jury i.before.before.before.before.before.before.before) x))
-        (size_of (gates_of (list_of (jury i.before.before.before.before.before.before.before) x))))
+    (size_of (gates_of (list_of (jury i.before.before.before.before.before.before.before) x))))
     (lent_same _ _ _ _ _ _ _ _ _ _ (rest_is at.lists s.args.lists.now)
     (rest_is at.ballots s.args.ballots.now) (rest_is at.tapes s.args.tapes.now)
     (rest_is at.wires s.args.wires.now) (rest_is at.boards s.args.boards.now))
@@ -180,14 +180,14 @@ returns c =
     let s = i in
     let l = i.loop-j in
     let o = first_of
-        (reasons_of (jury (in_loop_j_from_after_verdict_of i))
-        (here (in_loop_j_from_after_verdict_of i))) in
+    (reasons_of (jury (in_loop_j_from_after_verdict_of i))
+    (here (in_loop_j_from_after_verdict_of i))) in
     let r = reason_of told.in_default.field-0 in
     let is : refusal_in t.test_jury-answer.result ≡ o =
     refusal_is t.test_jury-answer.result o
-        (size_of (gates_of
-        (list_of (jury (in_loop_j_from_after_verdict_of i))
-        (here (in_loop_j_from_after_verdict_of i))))) (found t.before.before) in
+    (size_of (gates_of
+    (list_of (jury (in_loop_j_from_after_verdict_of i))
+    (here (in_loop_j_from_after_verdict_of i))))) (found t.before.before) in
     let bad : o ≡ some r = sym is ∙ ap refusal_in told.in_default.is in
     let named_so = c.verdict_of.ensures ∙ ap (at_jury l.j) is ∙ ap (at_jury l.j) bad in
     record {

@@ -290,7 +290,7 @@ returns_3 c =
     let t = c in
     let r = reason_of c.in-Refused-test_buffers.reason in
     refuses (start_from_in_refused_test_buffers t) r (whole_outcome t.before
-        ∙ ap refused_for c.in-Refused-test_buffers.is)
+    ∙ ap refused_for c.in-Refused-test_buffers.is)
 
 returns_4 : tie.Need-returns-in-Accepted-test_buffers
 unfolding test_outcome refused_for pieces_of

@@ -325,7 +325,7 @@ turn_requires c κs =
     let a = c in
     let s = a in
     let p = pieces_of (jury a.before.before.before.before.before.before.before)
-        (here a.before.before.before.before.before.before.before s.requires.wires_lent s.requires.boards_lent) in
+    (here a.before.before.before.before.before.before.before s.requires.wires_lent s.requires.boards_lent) in
     record {
       per_round_least = s.requires.per_round_least;
       per_round_most = s.requires.per_round_most;

@@ -152,7 +152,7 @@ returns_3 c =
     (step_stands a.ballots.now a.list.now a.header.candidates a.tape.now ws bs j.run a.given
     (a.given + a.gates_per_round) (omega arith) (omega (arith, j.gates))
     _ a.board.now a.shown (begun (after_load_from_after_slice_known_5_1 l) ws bs j) _ _ r.result r.ensures.next r.ensures.wires
-        r.ensures.board)
+    r.ensures.board)
 
 pub turn_spec : {M : Type 1} → statement M
 turn_spec =

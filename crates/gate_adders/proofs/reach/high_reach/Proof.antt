@@ -145,9 +145,9 @@ returns c =
     let w₃ = c.all_of-every.result in
     let t₃ = c.all_of-every.new.table in
     let p₁ : w₁.wire ≡ a.w.wire + suc a.high =
-        omega (arith, (differ (after_differences_differ_from_after_slice_known_5_1 c)).place) in
+    omega (arith, (differ (after_differences_differ_from_after_slice_known_5_1 c)).place) in
     let p₂ : w₂.wire ≡ a.w.wire + suc a.high + a.high =
-        omega (arith, (free (after_carries_by_free_from_after_slice_known_5_1 c)).place) in
+    omega (arith, (free (after_carries_by_free_from_after_slice_known_5_1 c)).place) in
     wrote_then a.w a.table.now _ t₃ w₃ _ _ _ _
     (wrote_then a.w a.table.now _ t₂ w₂ _ _ t₃ w₃
     (wrote_then a.w a.table.now _ t₁ w₁ _ _ t₂ w₂

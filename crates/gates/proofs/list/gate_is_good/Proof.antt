@@ -129,7 +129,7 @@ returns_5 c =
     let w = c in
     let s = w in
     parts_of w.before.before.before.before true false _ (first c.before)
-        (beyond w.before.before.before.before 1 s.args.b s.ranges.b.fits c.if-own-b.true (second c.before)) refl
+    (beyond w.before.before.before.before 1 s.args.b s.ranges.b.fits c.if-own-b.true (second c.before)) refl
 
 both : (c : tie.Else-own-b) → let w = c in let a = w.args in true
     ≡ good_operand (ltb 1 w.operands-count.result) (a.inputs + a.g) a.b

@@ -83,7 +83,7 @@ returns c =
     let s = c in
     closed s.args.wires.now s.args.board.now c.copy.new.to s.args.outputs
     s.args.shown s.requires.enough s.requires.board_length (copied _ (take (length s.args.board.now - s.args.shown) (drop s.args.shown s.args.board.now)) _
-        c.copy.ensures)
+    c.copy.ensures)
 
 pub close_spec : {M : Type 1} → statement M
 close_spec =

@@ -105,8 +105,11 @@ slice_read_b c = let s = c in omega (arith, (good (start_from_after_slice_known_
 
 slice_read_c : tie.Need-bounds-wires-c_wire
 unfolding gate_at
-slice_read_c c = let s = c in omega (arith, (good (start_from_after_slice_known_5_1_unread s)).c_most,
-    s.requires.gate.in_wires)
+slice_read_c c = let s = c in omega (
+  arith,
+  (good (start_from_after_slice_known_5_1_unread s)).c_most,
+  s.requires.gate.in_wires,
+)
 
 value_requires : tie.Need-value-requires
 value_requires c κs = search rules

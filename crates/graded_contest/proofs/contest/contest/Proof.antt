@@ -110,7 +110,7 @@ returns c =
     let at = tie_break_below_at p n in
     wrote_then a.w a.table.now _ d.new.table d.result _ _ v.new.table v.result d.ensures v.ensures
     (ap (λ (i : ℕ). tie_break_below p i a.x a.y e.result s.result p.digits a.high (p.grades - 2))
-        (compared (after_compare_medians_compared_from_after_slice_known_3_1 h)).place
+    (compared (after_compare_medians_compared_from_after_slice_known_3_1 h)).place
     ∙ ap (λ (i : ℕ). tie_break_below p at a.x a.y i s.result p.digits a.high (p.grades - 2)) e.ensures
     ∙ ap (λ (i : ℕ). tie_break_below p at a.x a.y (ones_differ n (p.grades - 1) p.places) i p.digits
     a.high (p.grades - 2)) s.ensures)

@@ -68,8 +68,12 @@ chain_end_requires_2 c κs = let h = c in omega (arith, (first h.before.before).
 
 add_parity_2 : tie.Need-overflow_add-y
 add_parity_2 c = let s = c in
-    omega (arith, (y_there s.before.before.before.before.before.before.before.before).0, near s.before.before.before.before.before.before.before.before,
-    s.requires.ones.room.small)
+    omega (
+      arith,
+      (y_there s.before.before.before.before.before.before.before.before).0,
+      near s.before.before.before.before.before.before.before.before,
+      s.requires.ones.room.small,
+    )
 
 parity_requires_2 : tie.Need-parity-second-requires
 parity_requires_2 c κs =

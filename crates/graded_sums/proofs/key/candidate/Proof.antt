@@ -184,11 +184,17 @@ key_words_requires c κs =
               room_of k.worst_levels-worst.result _ _ _ (counted k.before.before.before) (omega arith);
         };
         rows = omega (arith, (rowed (after_rows_rowed_from_after_key_words_arg_1 r)).place);
-        there = omega (arith, (rowed (after_rows_rowed_from_after_key_words_arg_1 r)).place,
-            (counted k.before.before.before).place);
+        there = omega (
+          arith,
+          (rowed (after_rows_rowed_from_after_key_words_arg_1 r)).place,
+          (counted k.before.before.before).place,
+        );
       };
-      levels = omega (arith, (rowed (after_rows_rowed_from_after_key_words_arg_1 r)).place,
-          (counted k.before.before.before).place);
+      levels = omega (
+        arith,
+        (rowed (after_rows_rowed_from_after_key_words_arg_1 r)).place,
+        (counted k.before.before.before).place,
+      );
     }
 
 worded : (c : tie.After-key_words-words) → let s = c in
@@ -204,8 +210,11 @@ worded c =
     c.key_words-words.result _ _ _ c.key_words-words.ensures
     (key_words_block a.p q.planned k.worst_levels-worst.result.wire a.w.wire r.rows-rowed.result.wire a.c
     0 (a.p.grades - 2) q.inputs q.candidate (before (after_rows_rowed_from_after_key_words_words r))
-        (omega (arith, (rowed (after_rows_rowed_from_after_key_words_words r)).place,
-        (counted k.before.before.before.before).place))).long
+    (omega (
+      arith,
+      (rowed (after_rows_rowed_from_after_key_words_words r)).place,
+      (counted k.before.before.before.before).place,
+    ))).long
     (counted k.before.before.before.before)
 
 worst_word_requires : tie.Need-worst_word-requires
@@ -221,8 +230,11 @@ worst_word_requires c κs =
             omega (arith, q.inputs, (levelled (after_all_levels_counted_from_after_worst_word_arg_1 l)).place);
         room = (worded h.before.before.before).left;
       };
-      levels = omega (arith, (levelled (after_all_levels_counted_from_after_worst_word_arg_1 l)).place,
-          (worded h.before.before.before).place);
+      levels = omega (
+        arith,
+        (levelled (after_all_levels_counted_from_after_worst_word_arg_1 l)).place,
+        (worded h.before.before.before).place,
+      );
     }
 
 same_length : tie.Need-shape_of-table
@@ -240,9 +252,9 @@ returns c =
     l.all_levels-counted.new.table l.all_levels-counted.result k.worst_levels-worst.new.table k.worst_levels-worst.result
     h.key_words-words.new.table h.key_words-words.result v.new.table v.result
     r.rows-rowed.ensures
-        (rowed (after_rows_rowed_from_after_slice_known_6_1 r)).place
-        l.all_levels-counted.ensures (levelled (after_all_levels_counted_from_after_slice_known_6_1 l)).place
-        k.worst_levels-worst.ensures
+    (rowed (after_rows_rowed_from_after_slice_known_6_1 r)).place
+    l.all_levels-counted.ensures (levelled (after_all_levels_counted_from_after_slice_known_6_1 l)).place
+    k.worst_levels-worst.ensures
     h.key_words-words.ensures v.ensures
 
 pub candidate_spec : {M : Type 1} → statement M

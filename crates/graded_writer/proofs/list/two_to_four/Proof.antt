@@ -287,7 +287,7 @@ returns c =
     c.pair-low.ensures
     c.pair-high.ensures
     (ap (λ (k : ℕ). levels p 1 k (a.c + m / 2) (m - m / 2))
-        (low (after_pair_low_from_after_slice_known_5_1 c)).place))
+    (low (after_pair_low_from_after_slice_known_5_1 c)).place))
     c.halves-met.ensures (sym (merge_wrote (after_halves_met_from_after_slice_known_5_1 c))))
     c.better.ensures
     (ap (λ (k : ℕ). choose (c.halves-met.result.wire - m - 5 + 1) k
@@ -299,7 +299,7 @@ returns c =
     c.pair-low.result.wire
     c.pair-high.result.wire e
     (low (after_pair_low_from_after_slice_known_5_1 c)).place
-        (high (after_pair_high_from_after_slice_known_5_1 c)).place))
+    (high (after_pair_high_from_after_slice_known_5_1 c)).place))
 
 same_length : tie.Need-shape_of-table
 same_length c =

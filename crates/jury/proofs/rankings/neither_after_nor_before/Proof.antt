@@ -72,7 +72,7 @@ loop_again c =
       omega arith,
       some_later (test k xs b i j) l at.loop-l.invariant.1
           (⊎_elim (λ w. and_second_fails (not (before k xs b i l)) (not (before k xs b l j)) (ap not (sym w.is_before-then-not-is_before.ensures)
-              ∙ w.if-not-is_before-2.false-raw))
+          ∙ w.if-not-is_before-2.false-raw))
           (λ w. and_first_fails (not (before k xs b i l)) (not (before k xs b l j))
           (ap not (sym asked.is_before.ensures) ∙ w.if-not-is_before.false-raw)) c.else-not-is_before.branch-raw),
     )

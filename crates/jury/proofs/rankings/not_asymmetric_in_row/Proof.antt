@@ -86,7 +86,7 @@ loop_again c =
       omega arith,
       first_later (not_asymmetric_at k xs b i) j at.loop-j.invariant.1
           (⊎_elim (λ w. clash_not_back k xs b i j (sym asked.is_before.ensures ∙ w.if-is_before.true) (sym w.is_before-then-is_before.ensures
-              ∙ w.if-is_before-2.false))
+          ∙ w.if-is_before-2.false))
           (λ w. clash_not_forth k xs b i j (sym asked.is_before.ensures ∙ w.if-is_before.false)) c.else-is_before.branch-raw),
     )
 

@@ -70,7 +70,7 @@ loop_again c =
       omega arith,
       some_later (test k xs b i) j at.loop-j.invariant.1
           (⊎_elim (λ w. and_second_fails (before k xs b i j) (neither_after_nor_before k xs b i j) (sym w.neither_after_nor_before.ensures
-              ∙ w.if-neither_after_nor_before.false))
+          ∙ w.if-neither_after_nor_before.false))
           (λ w. and_first_fails (before k xs b i j) (neither_after_nor_before k xs b i j)
           (sym asked.is_before.ensures ∙ w.if-is_before.false)) c.else-is_before.branch-raw),
     )

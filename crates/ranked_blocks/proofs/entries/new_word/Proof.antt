@@ -123,7 +123,7 @@ returns c =
     (zero_same r.kept-link.result r.kept-word.result a.p.digits (kept_of a.links.now k a.i a.j)
     (kept_of a.words.now k a.i a.j) r.kept-link.ensures r.kept-word.ensures
     ∙ new_zero (kept_of a.links.now k) (kept_of a.words.now k) a.p.digits
-        (cut_of (start_from_after_slice_known_then_m_eq0_1 s)) a.w.wire a.i
+    (cut_of (start_from_after_slice_known_then_m_eq0_1 s)) a.w.wire a.i
     a.j a.m t.if-m-eq0.true) d.masked.ensures
 
 -- the detour goes over a candidate
@@ -177,8 +177,11 @@ below c =
     record {
       word = omega (arith, b a.i a.j s.requires.row s.requires.column p.2, r.kept-word.ensures);
       to = omega (arith, b a.i (a.m - 1) s.requires.row (over (start_from_after_cut_at_cut s)) p.0, c.kept-to.ensures);
-      from = omega (arith, b (a.m - 1) a.j (over (start_from_after_cut_at_cut s)) s.requires.column (λ z. p.1 (sym z)),
-          c.kept-from.ensures);
+      from = omega (
+        arith,
+        b (a.m - 1) a.j (over (start_from_after_cut_at_cut s)) s.requires.column (λ z. p.1 (sym z)),
+        c.kept-from.ensures,
+      );
       most = omega (arith, c.cut_at-cut.ensures, within (start_from_after_cut_at_cut s));
     }
 
@@ -218,10 +221,10 @@ returns_2 c =
     (first_same a.w.wire r.kept-link.result r.kept-word.result q.kept-to.result
     q.kept-from.result a.p.digits q.cut_at-cut.result (kept_of a.links.now k a.i a.j)
     (words a.i a.j) (words a.i (a.m - 1)) (words (a.m - 1) a.j)
-        (cut_of (start_from_after_slice_known_then_m_eq1_1 s))
+    (cut_of (start_from_after_slice_known_then_m_eq1_1 s))
     r.kept-link.ensures r.kept-word.ensures q.kept-to.ensures q.kept-from.ensures q.cut_at-cut.ensures
     ∙ new_first (kept_of a.links.now k) words a.p.digits
-        (cut_of (start_from_after_slice_known_then_m_eq1_1 s)) a.w.wire a.i a.j a.m
+    (cut_of (start_from_after_slice_known_then_m_eq1_1 s)) a.w.wire a.i a.j a.m
     t.if-m-eq1.true) d.link_or_way.ensures
 
 path_or_way_requires : tie.Need-path_or_way-requires
@@ -262,7 +265,7 @@ returns_3 c =
     (cut_of (start_from_after_slice_known_2_1 s))
     r.kept-word.ensures q.kept-to.ensures q.kept-from.ensures q.cut_at-cut.ensures
     ∙ new_later (kept_of a.links.now k) words a.p.digits
-        (cut_of (start_from_after_slice_known_2_1 s)) a.w.wire a.i a.j a.m
+    (cut_of (start_from_after_slice_known_2_1 s)) a.w.wire a.i a.j a.m
     q.if-m-eq0.false t.if-m-eq1.false) d.path_or_way.ensures
 
 add_masked : tie.Need-overflow_add-p

@@ -153,7 +153,7 @@ two c =
     stands_after q.order-told.result q.order-told.new.table _ c.compare_halves-compared.new.table
     c.compare_halves-compared.result _ (3 * h + 1) 1 c.compare_halves-compared.ensures
     (length_compare_halves q.order-told.result.wire (a.x + low_of (start_from_after_compare_halves_compared s) + 1)
-        (a.y + low_of (start_from_after_compare_halves_compared s) + 1) h 0 ∙ omega arith)
+    (a.y + low_of (start_from_after_compare_halves_compared s) + 1) h 0 ∙ omega arith)
     (stands q.order-told.result _ _ _ t.place (omega arith) t.left)
 
 emit_requires : tie.Need-emit-requires
@@ -183,7 +183,7 @@ returns_2 c =
     let Y : a.y + l + 1 ≡ a.y + suc l = omega arith in
     wrote_as a.w a.table.now _ _ d.emit.new.table d.emit.result
     (cut_some n a.x a.y a.digits a.cut l h
-        (some (else_cut_eq0_from_after_slice_known_4_1 t)) refl)
+    (some (else_cut_eq0_from_after_slice_known_4_1 t)) refl)
     (wrote_then a.w a.table.now
     (order n a.x a.y l ++ compare_halves (n + 2 * l) (a.x + suc l) (a.y + suc l) h 0)
     z.compare_halves-compared.new.table z.compare_halves-compared.result _ _ d.emit.new.table d.emit.result

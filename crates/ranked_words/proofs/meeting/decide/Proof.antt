@@ -26,7 +26,7 @@ two : (c : tie.After-emit-back) → Stands c.emit-back.result (c.args.w.wire + 1
 two c =
     let p = c in
     stands_after p.emit-forth.result p.emit-forth.new.table _ c.emit-back.new.table c.emit-back.result _ 1 2 c.emit-back.ensures refl
-        (one p.before.before.before.before)
+    (one p.before.before.before.before)
 
 emit_requires_3 : tie.Need-emit-up-requires
 emit_requires_3 c κs = let p = c in room_of p.emit-back.result _ _ _ (two p.before.before.before) (omega arith)

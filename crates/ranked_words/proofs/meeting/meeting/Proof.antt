@@ -172,18 +172,18 @@ returns c =
     (wrote_then a.w a.table.now (compare n a.li a.lj w) p₁.compare-first.new.table p₁.compare-first.result
     _ _ p₂.compare-second.new.table p₂.compare-second.result
     p₁.compare-first.ensures p₂.compare-second.ensures
-        (ap (λ (m : ℕ). compare m a.ij a.ji w)
-        (one (after_compare_first_from_after_slice_known_6_1 p₁)).place))
+    (ap (λ (m : ℕ). compare m a.ij a.ji w)
+    (one (after_compare_first_from_after_slice_known_6_1 p₁)).place))
     p₃.strictly-third.ensures
-        (ap (λ (m : ℕ). strictly m a.ij a.lj w)
-        (two (after_compare_second_from_after_slice_known_6_1 p₂)).place))
+    (ap (λ (m : ℕ). strictly m a.ij a.lj w)
+    (two (after_compare_second_from_after_slice_known_6_1 p₂)).place))
     p₄.strictly-fourth.ensures (ap (λ (m : ℕ). strictly m a.ji a.li w) (three (after_strictly_third_from_after_slice_known_6_1 p₃)).place))
     d.decide.ensures
     (decided p₁.compare-first.result.wire p₂.compare-second.result.wire p₃.strictly-third.result.wire
     p₄.strictly-fourth.result.wire _ _ _ _ a.mi a.mj
-        (one (after_compare_first_from_after_slice_known_6_1 p₁)).place
-        (two (after_compare_second_from_after_slice_known_6_1 p₂)).place
-        (three (after_strictly_third_from_after_slice_known_6_1 p₃)).place
+    (one (after_compare_first_from_after_slice_known_6_1 p₁)).place
+    (two (after_compare_second_from_after_slice_known_6_1 p₂)).place
+    (three (after_strictly_third_from_after_slice_known_6_1 p₃)).place
     (four p₄.before.before.before.before.before.before).place)
 
 same_length : tie.Need-shape_of-table

@@ -202,10 +202,10 @@ returns c =
     h.ensures.wrote l.ensures.wrote)
     (wrote_as l.result l.new.table _ rows r.new.table r.result
     (rows_are k n w bs l.result.wire two l.ensures.kept
-        (losers_start (after_contests_met_from_after_slice_known_5_1 x))) r.ensures))
+    (losers_start (after_contests_met_from_after_slice_known_5_1 x))) r.ensures))
     (wrote_as r.result r.new.table _ outputs o.new.table o.result
     (outputs_are k n w bs l.result.wire two l.ensures.kept
-        (losers_start (after_contests_met_from_after_slice_known_5_1 x))) o.ensures))
+    (losers_start (after_contests_met_from_after_slice_known_5_1 x))) o.ensures))
   where
     -- the contests as one part
     grouped : (k n w r : ℕ) → 1 ≤ r → k ≡ suc (suc r) →

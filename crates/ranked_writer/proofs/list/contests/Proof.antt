@@ -55,8 +55,13 @@ links_table_requires : tie.Need-links_table-met-requires
 links_table_requires c κs =
     let s = c in
     record {
-      kept = record { ranked = s.requires.ranked; words_long = s.requires.paths.long; wires_long = s.requires.long; below =
-          below s.before.before.before.before.before.before };
+      kept = record {
+        ranked = s.requires.ranked;
+        words_long = s.requires.paths.long;
+        wires_long = s.requires.long;
+        below =
+            below s.before.before.before.before.before.before;
+      };
       room = room_less s.args.w _ _ (omega (arith, ap length (same s.before.before.before.before.before.before))) s.requires.room;
     }
 
@@ -103,8 +108,11 @@ meetings_table_requires c κs =
         below = λ i j hi hj ne. omega (arith, below (start_from_after_meetings_table_arg_2_1 s) i j hi hj ne);
       };
       room = room_after a.w a.table.now _ l.new.table l.result _ _ l.ensures.wrote
-          (omega (arith, ap length (same (start_from_after_meetings_table_arg_2_1 s)),
-              ap length (met q.before.before.before.before.before.before))) s.requires.room;
+          (omega (
+            arith,
+            ap length (same (start_from_after_meetings_table_arg_2_1 s)),
+            ap length (met q.before.before.before.before.before.before),
+          )) s.requires.room;
     }
 
 returns : tie.Need-returns
@@ -123,13 +131,13 @@ returns c =
       wrote =
           wrote_both a.w a.table.now (duels k n w) l.new.table l.result (meetings k n w) m.new.table m.result
           (wrote_as a.w a.table.now _ (duels k n w) l.new.table l.result
-              (same (start_from_after_slice_known_6_1 s))
-              l.ensures.wrote)
+          (same (start_from_after_slice_known_6_1 s))
+          l.ensures.wrote)
           (wrote_as l.result l.new.table _ (meetings k n w) m.new.table m.result
-              (met (after_links_table_met_from_after_slice_known_6_1 q)) m.ensures.wrote);
+          (met (after_links_table_met_from_after_slice_known_6_1 q)) m.ensures.wrote);
       kept = beats_kept k n w a.words.now s.requires.paths a.w.wire s.requires.place l.new.links
           a.beats.now l.ensures.kept l.result.wire m.new.met (stands (after_links_table_met_from_after_slice_known_6_1 q))
-              m.ensures.kept;
+          m.ensures.kept;
     }
 
 same_length : tie.Need-shape_of-table

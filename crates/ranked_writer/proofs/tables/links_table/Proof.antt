@@ -112,7 +112,7 @@ loop_again c =
     let t = now q.before.before.before.before.before.before.before in
     let h = d.links_entry-next in
     let more = table_next a.w a.table.now k (block_at (start_from_after_slice_known_in_loop_e_2_1 s)) l.e l.table l.next
-        h.new.table
+    h.new.table
     h.result l.invariant.wrote h.ensures.wrote in
     record {
       same = l.invariant.same;
@@ -120,11 +120,11 @@ loop_again c =
       wrote = more;
       kept =
           links_next k (leb a.first) (entry_end a.w.wire k (block_at (start_from_after_slice_known_in_loop_e_2_1 s)))
-              a.links.now
+          a.links.now
           s.requires.kept.ranked.k_most l.e l.links h.new.links h.result.wire t.row
           t.column l.invariant.kept h.ensures.kept
           (end_here a.w a.table.now k (block_at (start_from_after_slice_known_in_loop_e_2_1 s)) l.e (l.e / k) (l.e % k)
-              h.new.table h.result t.number more);
+          h.new.table h.result t.number more);
     }
 
 same_length : tie.Need-shape_of-table invariant_loop decreases_loop

@@ -101,7 +101,7 @@ meetings_entry_requires c κs =
                 l.e l.met l.invariant.kept l.next.wire t.few),
           ))
           (table_room a.w a.table.now k (block_at s.before.before.before.before.before.before.before) l.e l.table l.next t.few s.requires.room
-              l.invariant.wrote);
+          l.invariant.wrote);
     }
 
 add_e : tie.Need-overflow_add-e invariant_loop decreases_loop
@@ -121,10 +121,10 @@ loop_again c =
     let t = now q.before.before.before.before.before.before.before in
     let h = d.meetings_entry-next in
     let more = table_next a.w a.table.now k (block_at (start_from_after_slice_known_in_loop_e_2_1 s)) l.e l.table l.next
-        h.new.table h.result l.invariant.wrote
+    h.new.table h.result l.invariant.wrote
     (wrote_as l.next l.table _ _ h.new.table h.result
     (met_agree k a.p.digits a.words.now a.met.now
-        (entry_end a.w.wire k (block_at (start_from_after_slice_known_in_loop_e_2_1 s))) l.e l.met
+    (entry_end a.w.wire k (block_at (start_from_after_slice_known_in_loop_e_2_1 s))) l.e l.met
     l.invariant.kept l.next.wire t.few) h.ensures.wrote) in
     record {
       same = l.invariant.same;
@@ -132,11 +132,11 @@ loop_again c =
       wrote = more;
       kept =
           links_next k (λ i. ltb i (k - 1))
-              (entry_end a.w.wire k (block_at (start_from_after_slice_known_in_loop_e_2_1 s))) a.met.now
+          (entry_end a.w.wire k (block_at (start_from_after_slice_known_in_loop_e_2_1 s))) a.met.now
           s.requires.kept.ranked.k_most l.e l.met h.new.met h.result.wire t.row
           t.column l.invariant.kept h.ensures.kept
           (end_here a.w a.table.now k (block_at (start_from_after_slice_known_in_loop_e_2_1 s)) l.e (l.e / k) (l.e % k)
-              h.new.table h.result t.number more);
+          h.new.table h.result t.number more);
     }
 
 same_length : tie.Need-shape_of-table invariant_loop decreases_loop

@@ -122,7 +122,7 @@ next c = record {
 
 next_at : (c : tie.After-struct_known-in-loop-g-1 invariant_loop decreases_loop) → let start = c in
     At (take start.args.d (first start.before.before.before.before.before.before.before.before))
-        (take start.args.d (second start.before.before.before.before.before.before.before.before))
+    (take start.args.d (second start.before.before.before.before.before.before.before.before))
     (suc c.loop-g.g) (next c)
 unfolding next
 next_at c =
@@ -130,7 +130,7 @@ next_at c =
     let start = at in
     let x = start.args in
     sums_next (first start.before.before.before.before.before.before.before.before) (second start.before.before.before.before.before.before.before.before) x.d
-        at.loop-g.g at.loop-g.sums (next c) (omega arith) at.loop-g.invariant.1.sums_at
+    at.loop-g.g at.loop-g.sums (next c) (omega arith) at.loop-g.invariant.1.sums_at
     (ap (λ (v : ℕ). at.loop-g.sums.a + v) c.wide.ensures)
     (ap (λ (v : ℕ). at.loop-g.sums.b + v) c.wide-in-loop-g.ensures)
 
@@ -155,9 +155,9 @@ decided_requires c κs =
     let at = c in
     let x = at.args in
     let w = walk_most x.n (take x.d (first (start_from_then_half_reached at)))
-        (take x.d (second (start_from_then_half_reached at)))
+    (take x.d (second (start_from_then_half_reached at)))
     (alike (start_from_then_half_reached at)) at.loop-g.lower at.loop-g.sums at.loop-g.g
-        at.loop-g.invariant.1 in
+    at.loop-g.invariant.1 in
     (omega arith, omega arith, m.0, m.1)
 
 returns : tie.Need-returns-then-half_reached invariant_loop decreases_loop
@@ -168,9 +168,9 @@ returns c =
     let x = at.args in
     c.decided.ensures
     ∙ walk_decides x.n (take x.d (first (start_from_after_decided at)))
-        (take x.d (second (start_from_after_decided at)))
+    (take x.d (second (start_from_after_decided at)))
     (alike (start_from_after_decided at)) at.loop-g.lower at.loop-g.sums
-        (next turn.before.before.before.before.before) at.loop-g.g at.loop-g.invariant.1
+    (next turn.before.before.before.before.before) at.loop-g.g at.loop-g.invariant.1
     (next_at turn.before.before.before.before.before) c.if-sums.true
     (sym c.half_reached.ensures ∙ c.if-half_reached.true)
 
@@ -195,11 +195,11 @@ loop_again c =
     ⊎_elim {C = Walk x.n a b c.if-sums.lower now (suc g)}
     (λ w. subst (λ (l : Sums). Walk x.n a b l now (suc g)) (sym w.lower-is)
     (walk_differs x.n a b (alike (start_from_joined_sums at)) at.loop-g.lower at.loop-g.sums now g
-        at.loop-g.invariant.1
+    at.loop-g.invariant.1
     step w.if-sums.true (sym w.half_reached.ensures ∙ w.if-half_reached.false)))
     (λ w. subst (λ (l : Sums). Walk x.n a b l now (suc g)) (sym w.lower-is)
     (walk_equal x.n a b (alike (start_from_joined_sums at)) at.loop-g.lower at.loop-g.sums now g
-        at.loop-g.invariant.1 step
+    at.loop-g.invariant.1 step
     w.if-sums.false))
     c.if-sums.branch-raw in
     (omega arith, subst (λ (j : ℕ). Walk x.n a b c.if-sums.lower now j) (sym (add-one g)) walked)

@@ -80,7 +80,7 @@ returns c =
     let x = start.args in
     both start.before.before.before.before.before
     (sym (same_not (first start.before.before.before.before.before) (second start.before.before.before.before.before) at.loop-g.g x.d
-        (first_length start.before.before.before.before.before) (second_length start.before.before.before.before.before)
+    (first_length start.before.before.before.before.before) (second_length start.before.before.before.before.before)
     (omega arith) c.if-counts-a.true) ∙ at.loop-g.invariant.1)
 
 add_g : tie.Need-overflow_add-g invariant_loop decreases_loop
@@ -99,7 +99,7 @@ loop_again c =
       ap (λ (j : ℕ). same_numbers (drop j (take x.d (first start.before.before.before.before.before)))
           (drop j (take x.d (second start.before.before.before.before.before)))) (add-one g)
           ∙ sym (same_later (first start.before.before.before.before.before) (second start.before.before.before.before.before) g x.d
-              (first_length start.before.before.before.before.before) (second_length start.before.before.before.before.before)
+          (first_length start.before.before.before.before.before) (second_length start.before.before.before.before.before)
           (omega arith) c.if-counts-a.false) ∙ at.loop-g.invariant.1,
     )
 
@@ -110,7 +110,7 @@ returns_2 c =
     let x = start.args in
     both start.before.before
     (sym (same_end (first start.before.before) (second start.before.before) at.loop-g.g x.d (first_length start.before.before)
-        (second_length start.before.before)
+    (second_length start.before.before)
     (omega arith)) ∙ at.loop-g.invariant.1)
 
 pub same_counts_spec : {M : Type 1} → statement M

@@ -69,7 +69,7 @@ returns c =
     let told = done in
     let a = told.args in
     let e = ran_by a.shape a.table.now a.ballots.now a.tape.now a.wires.now a.board.now none
-        (no_reason (in_accepted_from_after_slice_known_in_accepted_3_1 told)) in
+    (no_reason (in_accepted_from_after_slice_known_in_accepted_3_1 told)) in
     let kept = done.run.auto.wires in
     same_result
     (told.test_run-answer.ensures ∙ ap (λ (o : Option Reason). outcome o

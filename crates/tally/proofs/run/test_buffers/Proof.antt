@@ -108,7 +108,7 @@ returns_4 c =
     let start = told in
     let a = start.args in
     sym (lent_by a.inputs a.outputs (size (start_from_then_not_has_length_3 start)) a.tape.now a.wires.now
-        a.board.now true Nowhere
+    a.board.now true Nowhere
     true false (tape_long told.before.before.before.before.before.before) (tape_bits told.before.before.before.before)
     (wires_long c.before.before) (sym c.has_length-3.ensures ∙ c.if-not-has_length-3.true))
 
@@ -119,7 +119,7 @@ returns_5 c =
     let start = told in
     let a = start.args in
     sym (lent_by a.inputs a.outputs (size (start_from_else_not_has_length_3 start)) a.tape.now a.wires.now
-        a.board.now true Nowhere
+    a.board.now true Nowhere
     true true (tape_long told.before.before.before.before.before.before) (tape_bits told.before.before.before.before)
     (wires_long c.before.before) (sym c.has_length-3.ensures ∙ c.if-not-has_length-3.false))
 

@@ -121,7 +121,7 @@ lent_answer c =
     let a = told.args in
     by_lent a.shape a.table.now a.ballots.now a.tape.now a.wires.now a.board.now
     (passed told.before.before.before.before).reasons (size told.before.before.before.before) (refused_for c.test_buffers.result)
-        (passed told.before.before.before.before).size (no_reason passes.before.before)
+    (passed told.before.before.before.before).size (no_reason passes.before.before)
     (sym (c.test_buffers.ensures ∙ ap (λ (i : ℕ). first_of
     (buffer_reasons i a.shape.candidates (size told.before.before.before.before) a.tape.now a.wires.now a.board.now))
     c.ballot_bytes-inputs.ensures))
@@ -133,7 +133,7 @@ returns_3 c =
     let start = lent in
     let r = reason_of c.in-Refused-test_buffers.reason in
     refuses (start_from_in_refused_test_buffers start) r (lent_answer lent.before
-        ∙ ap refused_for c.in-Refused-test_buffers.is)
+    ∙ ap refused_for c.in-Refused-test_buffers.is)
 
 returns_4 : tie.Need-returns-in-Accepted-test_buffers
 unfolding test_outcome refused_for

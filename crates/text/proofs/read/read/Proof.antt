@@ -202,7 +202,7 @@ returns_7 c =
     let e = read_accepted a.shape text a.output.now
     (numbers_good a.shape text a.output.now (limits (else_not_is_within_limits_from_after_slice_known_2_1 c))
     (enough (else_lines_shape_from_after_slice_known_2_1 c))
-        (few (else_lines_gt_most_gates_from_after_slice_known_2_1 c))
+    (few (else_lines_gt_most_gates_from_after_slice_known_2_1 c))
     (gates_all c.before.before.before.before.before.before.before.before) (gates_good c.before.before.before.before.before)
     (fits c.before.before.before.before)) in
     same_text (

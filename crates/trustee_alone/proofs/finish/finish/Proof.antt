@@ -103,7 +103,7 @@ returns_3 c =
     (outcome_none (first_of (finish_reasons a.shape a.table.now a.wires.now))
     (size_of (gates_of a.table.now)) _ why
     (size_is _ _ a.table.now (facts known.before.before.before.before.before.before.before).gates_are
-        (facts known.before.before.before.before.before.before.before).conditional_are))
+    (facts known.before.before.before.before.before.before.before).conditional_are))
     (c.empty.ensures
     ∙ left_new (first_of (finish_reasons a.shape a.table.now a.wires.now))
     (replicate (length a.wires.now) 0) a.wires.now why)

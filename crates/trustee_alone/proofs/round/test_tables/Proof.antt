@@ -207,7 +207,7 @@ returns_7 c =
     a.levels.now a.triples.now a.heard.now a.wires.now a.published.now))
     (depths_of a.inputs (gates_of a.table.now)) (reason_at 202 0)
     (pass _ 16 _ (trustee (else_not_is_trustee_from_then_heard_conditional c))
-        ∙ pass _ 17 _ (fits c.before.before.before.before.before.before.before)
+    ∙ pass _ 17 _ (fits c.before.before.before.before.before.before.before)
     ∙ pass _ 18 _ (bits c.before.before.before.before.before) ∙ pass _ 200 _ (same c.before.before).0
     ∙ pass _ 201 _ (early c.before)
     ∙ fail _ 202 [] (and_first_fails _ _
@@ -227,7 +227,7 @@ returns_8 c =
     a.triples.now a.heard.now a.wires.now a.published.now))
     (depths_of a.inputs (gates_of a.table.now)) (reason_at 202 0)
     (pass _ 16 _ (trustee (else_not_is_trustee_from_then_not_only_bits_2 c))
-        ∙ pass _ 17 _ (fits (else_not_tables_fit_from_then_not_only_bits_2 c))
+    ∙ pass _ 17 _ (fits (else_not_tables_fit_from_then_not_only_bits_2 c))
     ∙ pass _ 18 _ (bits c.before.before.before.before.before.before.before) ∙ pass _ 200 _ (same c.before.before.before.before).0
     ∙ pass _ 201 _ (early c.before.before.before)
     ∙ fail _ 202 [] (and_both _ _ false (long c.before.before)
@@ -243,7 +243,7 @@ returns_9 c =
     a.triples.now a.heard.now a.wires.now a.published.now))
     (depths_of a.inputs (gates_of a.table.now)) _
     (pass _ 16 _ (trustee (else_not_is_trustee_from_else_not_only_bits_2 c))
-        ∙ pass _ 17 _ (fits (else_not_tables_fit_from_else_not_only_bits_2 c))
+    ∙ pass _ 17 _ (fits (else_not_tables_fit_from_else_not_only_bits_2 c))
     ∙ pass _ 18 _ (bits c.before.before.before.before.before.before.before) ∙ pass _ 200 _ (same c.before.before.before.before).0
     ∙ pass _ 201 _ (early c.before.before.before)
     ∙ pass _ 202 [] (and_both _ _ true (long c.before.before)

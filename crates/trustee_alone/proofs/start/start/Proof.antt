@@ -206,7 +206,7 @@ returns_3 c =
     (first_of (start_reasons a.shape a.table.now a.t a.p a.shares.now a.triples.now a.wires.now
     a.published.now)) (size_of (gates_of a.table.now)) _ why
     (size_is _ _ a.table.now (facts (in_accepted_from_after_slice_known_5_1 known)).gates_are
-        (facts (in_accepted_from_after_slice_known_5_1 known)).conditional_are))
+    (facts (in_accepted_from_after_slice_known_5_1 known)).conditional_are))
     (copied a.shares.now c.empty.new.bytes _ c.copy.ensures
     ∙ ap (λ (z : List ℕ). take (length a.shares.now) a.shares.now ++ drop (length a.shares.now) z)
     c.empty.ensures

@@ -78,8 +78,12 @@ add_copy_pieces c = omega (arith, small c.before.before.before.before.before)
 
 copy_pieces_requires : tie.Need-copy_pieces-requires
 copy_pieces_requires c κs =
-    record { source_length = c.requires.ballot_length; source_fits = omega arith; target_length = wires_length c.before.before.before.before.before.before;
-        target_fits = omega arith }
+    record {
+      source_length = c.requires.ballot_length;
+      source_fits = omega arith;
+      target_length = wires_length c.before.before.before.before.before.before;
+      target_fits = omega arith;
+    }
 
 run_gates_requires : tie.Need-run_gates-requires
 run_gates_requires c κs =
@@ -97,7 +101,7 @@ run_gates_requires c κs =
           a.wires.now
           a.published.now (a.inputs + length a.table.now / 4) (2 * a.conditional + a.k) a.conditional
           c.requires.conditional_is (size_is (start_from_after_run_gates_arg_2_1 c)) c.requires.enough refl
-              c.requires.ballot_length (wires_length (start_from_after_run_gates_arg_2_1 c))
+          c.requires.ballot_length (wires_length (start_from_after_run_gates_arg_2_1 c))
           c.requires.published_length _ c.copy_pieces.ensures;
       triples_length = r.triples_length;
       published_length = r.published_length;
@@ -119,9 +123,9 @@ copy_pieces_requires_2 c κs =
           (dealing (start_from_after_copy_pieces_arg_2_1 c)) a.wires.now
           a.published.now (a.inputs + length a.table.now / 4) (2 * a.conditional + a.k) a.conditional
           c.requires.conditional_is
-              (size_is (start_from_after_copy_pieces_arg_2_1 c))
-              c.requires.enough refl c.requires.ballot_length
-              (wires_length (start_from_after_copy_pieces_arg_2_1 c))
+          (size_is (start_from_after_copy_pieces_arg_2_1 c))
+          c.requires.enough refl c.requires.ballot_length
+          (wires_length (start_from_after_copy_pieces_arg_2_1 c))
           c.requires.published_length _ c.copy_pieces.ensures _ _ c.run_gates.ensures.parts
           c.run_gates.ensures.shown;
       source_fits =
@@ -131,9 +135,9 @@ copy_pieces_requires_2 c κs =
           (dealing (start_from_after_copy_pieces_arg_2_1 c)) a.wires.now
           a.published.now (a.inputs + length a.table.now / 4) (2 * a.conditional + a.k) a.conditional
           c.requires.conditional_is
-              (size_is (start_from_after_copy_pieces_arg_2_1 c))
-              c.requires.enough refl c.requires.ballot_length
-              (wires_length (start_from_after_copy_pieces_arg_2_1 c))
+          (size_is (start_from_after_copy_pieces_arg_2_1 c))
+          c.requires.enough refl c.requires.ballot_length
+          (wires_length (start_from_after_copy_pieces_arg_2_1 c))
           c.requires.published_length _ c.copy_pieces.ensures _ _ c.run_gates.ensures.parts
           c.run_gates.ensures.shown;
       target_fits = omega arith;
@@ -153,14 +157,14 @@ returns c =
           (dealing (start_from_after_slice_known_6_1 c)) a.wires.now
           a.published.now (a.inputs + length a.table.now / 4) (2 * a.conditional + a.k) a.conditional
           c.requires.conditional_is
-              (size_is (start_from_after_slice_known_6_1 c)) c.requires.enough refl c.requires.ballot_length (wires_length (start_from_after_slice_known_6_1 c))
+          (size_is (start_from_after_slice_known_6_1 c)) c.requires.enough refl c.requires.ballot_length (wires_length (start_from_after_slice_known_6_1 c))
           c.requires.published_length _ c.copy_pieces.ensures _ _ c.run_gates.ensures.parts
           c.run_gates.ensures.shown;
       shown = all_published a.t a.inputs (gates_of a.table.now) a.k
           (dealing (start_from_after_slice_known_6_1 c)) a.wires.now
           a.published.now (a.inputs + length a.table.now / 4) (2 * a.conditional + a.k) a.conditional
           c.requires.conditional_is
-              (size_is (start_from_after_slice_known_6_1 c)) c.requires.enough refl c.requires.ballot_length (wires_length (start_from_after_slice_known_6_1 c))
+          (size_is (start_from_after_slice_known_6_1 c)) c.requires.enough refl c.requires.ballot_length (wires_length (start_from_after_slice_known_6_1 c))
           c.requires.published_length _ c.copy_pieces.ensures _ _ c.run_gates.ensures.parts
           c.run_gates.ensures.shown _ c.copy_pieces-2.ensures;
     }

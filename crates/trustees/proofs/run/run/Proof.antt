@@ -95,7 +95,7 @@ returns c =
     let told = ap outcome_of c.in_default.is in
     let e = result_by (call start.before.before.before.before.before.before.before.before) (some r)
     (outcome_refused (first_of (trustees_reasons (call start.before.before.before.before.before.before.before.before)))
-        (size_of (gates_of (call start.before.before.before.before.before.before.before.before).table)) r
+    (size_of (gates_of (call start.before.before.before.before.before.before.before.before).table)) r
     (sym c.test-answer.ensures ∙ told)) in
     same_result _ _ (told ∙ sym (ap (λ (q : TrusteesResult). q.answer) e)) (sym (ap (λ (q : TrusteesResult). q.closing) e))
     (sym (ap (λ (q : TrusteesResult). q.wire_parts) e)) (sym (ap (λ (q : TrusteesResult). q.published) e))
@@ -136,15 +136,15 @@ returns_2 c =
     let done = opened in
     let told = done in
     let of = call
-        (start_from_after_slice_known_5_1 told) in
+    (start_from_after_slice_known_5_1 told) in
     let e = result_by of none (no_reason (in_accepted_from_after_slice_known_5_1 told)) in
     same_result _ _
     (sym (ap outcome_of told.in-Accepted.is) ∙ told.test-answer.ensures
     ∙ ap (λ (o : Option Reason). outcome o (size_of (gates_of of.table)))
-        (no_reason (in_accepted_from_after_slice_known_5_1 told))
+    (no_reason (in_accepted_from_after_slice_known_5_1 told))
     ∙ sym (ap (λ (q : TrusteesResult). q.answer) e))
     (opened.open_closing-closing.ensures ∙ opened_closing of (size (in_accepted_from_after_slice_known_5_1 told))
-        (ready (in_accepted_from_after_slice_known_5_1 told)) _ done.evaluate.ensures.shown
+    (ready (in_accepted_from_after_slice_known_5_1 told)) _ done.evaluate.ensures.shown
     ∙ sym (ap (λ (q : TrusteesResult). q.closing) e))
     (emptied.empty.ensures ∙ ap (λ (n : ℕ). replicate n 0) done.evaluate.auto.wires
     ∙ sym (ap (λ (q : TrusteesResult). q.wire_parts) e))

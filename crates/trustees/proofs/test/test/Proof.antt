@@ -95,7 +95,7 @@ unfolding size
 parts_answer c =
     let told = c in
     by_parts (call (start_from_after_test_parts told)) (passed told.before.before.before).reasons
-        (size told.before.before.before) (refused_for c.test_parts.result) (passed told.before.before.before).size
+    (size told.before.before.before) (refused_for c.test_parts.result) (passed told.before.before.before).size
     (no_reason c.before) (sym c.test_parts.ensures)
 
 test_requires : tie.Need-test-answer-requires
@@ -115,7 +115,7 @@ returns c =
     let r = reason_of c.in_default.field-0 in
     let e = ap outcome_of c.in_default.is in
     e ∙ refuses start.before.before.before.before.before.before.before.before r
-        (by_test (call start.before.before.before.before.before.before.before.before) r (sym c.test-answer.ensures ∙ e))
+    (by_test (call start.before.before.before.before.before.before.before.before) r (sym c.test-answer.ensures ∙ e))
 
 test_requires_2 : tie.Need-test-requires
 test_requires_2 c κs = true_T (within_limits (call c.before.before.before.before.before.before.before.before).shape) (passed c).within
@@ -154,7 +154,7 @@ returns_3 c =
     let parts = c in
     let r = reason_of c.in-Refused-test_parts.reason in
     refuses (start_from_in_refused_test_parts parts) r (parts_answer parts.before
-        ∙ ap refused_for c.in-Refused-test_parts.is)
+    ∙ ap refused_for c.in-Refused-test_parts.is)
 
 returns_4 : tie.Need-returns-in-Accepted-test_parts
 unfolding test_outcome refused_for
@@ -164,8 +164,8 @@ returns_4 c =
     let none_applies = parts_answer parts.before ∙ ap refused_for c.in-Accepted-test_parts.is in
     sym (ap outcome_of told.in-Accepted.is) ∙ told.test-answer.ensures
     ∙ ap (λ (o : Option Reason).
-        outcome o (size_of (gates_of (call (start_from_in_accepted_test_parts told)).table)))
-        ((passed told.before.before.before.before).reasons ∙ sym none_applies)
+    outcome o (size_of (gates_of (call (start_from_in_accepted_test_parts told)).table)))
+    ((passed told.before.before.before.before).reasons ∙ sym none_applies)
 
 pub test_spec : {M : Type 1} → statement M
 test_spec =

@@ -58,7 +58,7 @@ trustees c = sym c.are_trustees.ensures ∙ c.if-not-are_trustees.false
 
 fits : (c : tie.Else-not-tables_fit) → let s = c in
     tables_fit (length s.args.ballots.now) s.args.outputs (size (start_from_else_not_tables_fit s)) s.args.t
-        (lent (start_from_else_not_tables_fit s)) ≡ true
+    (lent (start_from_else_not_tables_fit s)) ≡ true
 fits c = sym c.tables_fit.ensures ∙ c.if-not-tables_fit.false
 
 -- the answer, from the outcomes of the three tests
@@ -92,7 +92,7 @@ is_dealt_well_requires : tie.Need-is_dealt_well-requires
 is_dealt_well_requires c κs =
     let s = c in
     let l = tables_fit_lem (length s.args.ballots.now) s.args.outputs (size (start_from_else_not_tables_fit s)) s.args.t
-        (lent (start_from_else_not_tables_fit s)) (fits c) in
+    (lent (start_from_else_not_tables_fit s)) (fits c) in
     record { conditional_most = s.requires.conditional_most; ballot_length = l.ballot_length; dealer_length = l.dealer_length }
 
 returns_3 : tie.Need-returns-then-not-is_dealt_well
@@ -100,7 +100,7 @@ unfolding refused_for reason_of part_found unless first_of
 returns_3 c =
     let second = c in
     sym (by (start_from_then_not_is_dealt_well second) true true false (trustees second.before.before.before.before)
-        (fits second.before.before)
+    (fits second.before.before)
     (sym c.is_dealt_well.ensures ∙ c.if-not-is_dealt_well.true))
 
 returns_4 : tie.Need-returns
@@ -108,7 +108,7 @@ unfolding refused_for reason_of part_found unless first_of
 returns_4 c =
     let second = c in
     sym (by (start_from_else_not_is_dealt_well second) true true true (trustees second.before.before.before.before)
-        (fits second.before.before)
+    (fits second.before.before)
     (sym c.is_dealt_well.ensures ∙ c.if-not-is_dealt_well.false))
 
 pub test_parts_spec : {M : Type 1} → statement M

@@ -27,7 +27,7 @@ joined2 : (c : tie.Joined-self-le-MOST_CANDIDATES) → c.if-self-le-MOST_CANDIDA
 joined2 c =
     ⊎_elim (λ w. and_taken _ _ _ (sym (joined1 c.before) ∙ w.if-self-le-MOST_CANDIDATES.true-raw) w.t-5-is)
     (λ w. and_left _ _ _ (sym (joined1 c.before) ∙ w.if-self-le-MOST_CANDIDATES.false-raw) (w.t-5-is ∙ joined1 c.before))
-        c.if-self-le-MOST_CANDIDATES.branch-raw
+    c.if-self-le-MOST_CANDIDATES.branch-raw
 
 joined3 : (c : tie.Joined-self-ge-LEAST_GRADES) → c.if-self-ge-LEAST_GRADES.t-4 ≡ d_tests c.args.self
 joined3 c =

@@ -25,7 +25,7 @@ unfolding is_ranking
 joined2 c =
     ⊎_elim (λ w. and_taken _ _ _ (sym (joined1 c.before) ∙ w.if-self-le-MOST_CANDIDATES.true-raw) w.t-4-is)
     (λ w. and_left _ _ _ (sym (joined1 c.before) ∙ w.if-self-le-MOST_CANDIDATES.false-raw) (w.t-4-is ∙ joined1 c.before))
-        c.if-self-le-MOST_CANDIDATES.branch-raw
+    c.if-self-le-MOST_CANDIDATES.branch-raw
 
 joined3 : (c : tie.Joined-self-eq0) → c.if-self-eq0.t-3
     ≡ (k_tests c.args.self && is_ranking
