@@ -20,16 +20,6 @@ use Rattle.trustees.proofs.Sums.{Ready, call_ready, opened_closing}
 use Rattle.trustees.proofs.run.run.Statement.{statement}
 use Rattle.trustees.proofs.run.run.Tie as tie
 
--- The stages of the function, seen from later ones.
-abbrev after_wires_1_from_after_slice_known_5_1 : tie.After-slice_known-5-1 → tie.After-wires-1
-after_wires_1_from_after_slice_known_5_1 c = c.before.before.before.before.before.before.before.before
-
-abbrev in_accepted_from_after_slice_known_5_1 : tie.After-slice_known-5-1 → tie.In-Accepted
-in_accepted_from_after_slice_known_5_1 c = (after_wires_1_from_after_slice_known_5_1 c).before.before.before.before
-
-abbrev start_from_after_slice_known_5_1 : tie.After-slice_known-5-1 → tie.Start
-start_from_after_slice_known_5_1 c = (in_accepted_from_after_slice_known_5_1 c).before.before.before.before.before.before.before.before
-
 -- This call, from its arguments at the start.
 abbrev call : tie.Start → Call
 call s =
@@ -46,30 +36,33 @@ call s =
       };
     }
 
+-- The start, seen from where the tests have passed.
+abbrev started : tie.In-Accepted → tie.Start
+started c = c.before.before.before.before.before.before.before.before
+
 abbrev size : tie.In-Accepted → Size
 size c = record { gates = c.in-Accepted.gates; conditional = c.in-Accepted.conditional }
 
 -- if the tests pass, no reason applies
-no_reason : (c : tie.In-Accepted) → first_of (trustees_reasons (call c.before.before.before.before.before.before.before.before)) ≡ none
+no_reason : (c : tie.In-Accepted) → first_of (trustees_reasons (call (started c))) ≡ none
 unfolding outcome_of
 no_reason c =
-    let of = call c.before.before.before.before.before.before.before.before in
+    let of = call (started c) in
     outcome_accepted (first_of (trustees_reasons of)) (size_of (gates_of of.table)) (size c)
     (sym c.test-answer.ensures ∙ ap outcome_of c.in-Accepted.is)
 
 -- if the tests pass, the answer is the list's own size
-is_size : (c : tie.In-Accepted) → size c ≡ size_of (gates_of (call c.before.before.before.before.before.before.before.before).table)
+is_size : (c : tie.In-Accepted) → size c ≡ size_of (gates_of (call (started c)).table)
 unfolding outcome_of outcome
 is_size c =
-    let own = size_of (gates_of (call c.before.before.before.before.before.before.before.before).table) in
+    let own = size_of (gates_of (call (started c)).table) in
     let e : accepted (size c) ≡ accepted own =
     sym (ap outcome_of c.in-Accepted.is) ∙ c.test-answer.ensures
     ∙ ap (λ (o : Option Reason). outcome o own) (no_reason c) in
     cc
 
-ready : (c : tie.In-Accepted) → Ready (call c.before.before.before.before.before.before.before.before) (size c)
-ready c = call_ready (call c.before.before.before.before.before.before.before.before) (size c) (is_size c)
-    (call_passed (call c.before.before.before.before.before.before.before.before) (no_reason c))
+ready : (c : tie.In-Accepted) → Ready (call (started c)) (size c)
+ready c = call_ready (call (started c)) (size c) (is_size c) (call_passed (call (started c)) (no_reason c))
 
 test_requires : tie.Need-test-answer-requires
 test_requires c κs = search rules
@@ -89,13 +82,11 @@ same_length_2 c = search rules
 returns : tie.Need-returns-in_default
 unfolding outcome_of trustees_result_after eight_bytes
 returns c =
-    let lending = c in
-    let start = lending in
+    let start = c.before.before.before.before.before.before.before.before in
     let r = reason_of c.in_default.field-0 in
     let told = ap outcome_of c.in_default.is in
-    let e = result_by (call start.before.before.before.before.before.before.before.before) (some r)
-    (outcome_refused (first_of (trustees_reasons (call start.before.before.before.before.before.before.before.before)))
-    (size_of (gates_of (call start.before.before.before.before.before.before.before.before).table)) r
+    let e = result_by (call start) (some r)
+    (outcome_refused (first_of (trustees_reasons (call start))) (size_of (gates_of (call start).table)) r
     (sym c.test-answer.ensures ∙ told)) in
     same_result _ _ (told ∙ sym (ap (λ (q : TrusteesResult). q.answer) e)) (sym (ap (λ (q : TrusteesResult). q.closing) e))
     (sym (ap (λ (q : TrusteesResult). q.wire_parts) e)) (sym (ap (λ (q : TrusteesResult). q.published) e))
@@ -111,12 +102,11 @@ add_open_closing c = omega (arith, (ready c.before.before.before.before.before.b
 
 open_closing_requires : tie.Need-open_closing-closing-requires
 open_closing_requires c κs =
-    let done = c in
-    let known = ready done.before.before.before.before.before.before.before in
+    let known = ready c.before.before.before.before.before.before.before in
     record {
       k_most = known.k_most;
       closing_in = omega arith;
-      published_length = done.evaluate.auto.published ∙ known.published_length;
+      published_length = c.evaluate.auto.published ∙ known.published_length;
     }
 
 empty_requires : tie.Need-empty-requires
@@ -131,22 +121,18 @@ same_length_4 c = search rules
 returns_2 : tie.Need-returns
 unfolding outcome trustees_result_after
 returns_2 c =
-    let emptied = c in
-    let opened = emptied in
-    let done = opened in
-    let told = done in
-    let of = call
-    (start_from_after_slice_known_5_1 told) in
-    let e = result_by of none (no_reason (in_accepted_from_after_slice_known_5_1 told)) in
+    let opened = c.before.before.before.before in
+    let done = opened.before.before.before.before.before in
+    let told = done.before.before.before in
+    let of = call (started told) in
+    let e = result_by of none (no_reason told) in
     same_result _ _
     (sym (ap outcome_of told.in-Accepted.is) ∙ told.test-answer.ensures
-    ∙ ap (λ (o : Option Reason). outcome o (size_of (gates_of of.table)))
-    (no_reason (in_accepted_from_after_slice_known_5_1 told))
+    ∙ ap (λ (o : Option Reason). outcome o (size_of (gates_of of.table))) (no_reason told)
     ∙ sym (ap (λ (q : TrusteesResult). q.answer) e))
-    (opened.open_closing-closing.ensures ∙ opened_closing of (size (in_accepted_from_after_slice_known_5_1 told))
-    (ready (in_accepted_from_after_slice_known_5_1 told)) _ done.evaluate.ensures.shown
+    (opened.open_closing-closing.ensures ∙ opened_closing of (size told) (ready told) _ done.evaluate.ensures.shown
     ∙ sym (ap (λ (q : TrusteesResult). q.closing) e))
-    (emptied.empty.ensures ∙ ap (λ (n : ℕ). replicate n 0) done.evaluate.auto.wires
+    (c.empty.ensures ∙ ap (λ (n : ℕ). replicate n 0) done.evaluate.auto.wires
     ∙ sym (ap (λ (q : TrusteesResult). q.wire_parts) e))
     (done.evaluate.ensures.shown ∙ sym (ap (λ (q : TrusteesResult). q.published) e))
 

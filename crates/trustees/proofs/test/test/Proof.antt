@@ -17,37 +17,6 @@ use Rattle.trustees.proofs.Reasons.{by_test, by_ballots, by_parts, small_sizes}
 use Rattle.trustees.proofs.test.test.Statement.{statement}
 use Rattle.trustees.proofs.test.test.Tie as tie
 
--- The stages of the function, seen from later ones.
-abbrev after_shared_slice_known_2_1_from_in_default_test : tie.In_default-test → tie.After-shared_slice_known-2-1
-after_shared_slice_known_2_1_from_in_default_test c = c.before.before.before.before.before.before.before.before
-
-abbrev start_from_in_default_test : tie.In_default-test → tie.Start
-start_from_in_default_test c = (after_shared_slice_known_2_1_from_in_default_test c).before.before
-
-abbrev after_shared_slice_known_3_1_from_after_test_parts : tie.After-test_parts → tie.After-shared_slice_known-3-1
-after_shared_slice_known_3_1_from_after_test_parts c = c.before.before.before.before.before.before.before.before
-
-abbrev start_from_after_test_parts : tie.After-test_parts → tie.Start
-start_from_after_test_parts c = (after_shared_slice_known_3_1_from_after_test_parts c).before.before.before
-
-abbrev after_shared_slice_known_2_1_from_in_refused : tie.In-Refused → tie.After-shared_slice_known-2-1
-after_shared_slice_known_2_1_from_in_refused c = c.before.before.before.before.before.before.before.before
-
-abbrev start_from_in_refused : tie.In-Refused → tie.Start
-start_from_in_refused c = (after_shared_slice_known_2_1_from_in_refused c).before.before
-
-abbrev after_shared_slice_known_4_1_from_in_refused_test_parts : tie.In-Refused-test_parts → tie.After-shared_slice_known-4-1
-after_shared_slice_known_4_1_from_in_refused_test_parts c = c.before.before.before.before.before.before.before.before
-
-abbrev start_from_in_refused_test_parts : tie.In-Refused-test_parts → tie.Start
-start_from_in_refused_test_parts c = (after_shared_slice_known_4_1_from_in_refused_test_parts c).before.before.before.before
-
-abbrev after_shared_slice_known_4_1_from_in_accepted_test_parts : tie.In-Accepted-test_parts → tie.After-shared_slice_known-4-1
-after_shared_slice_known_4_1_from_in_accepted_test_parts c = c.before.before.before.before.before.before.before.before
-
-abbrev start_from_in_accepted_test_parts : tie.In-Accepted-test_parts → tie.Start
-start_from_in_accepted_test_parts c = (after_shared_slice_known_4_1_from_in_accepted_test_parts c).before.before.before.before
-
 -- This call, from its arguments at the start.
 abbrev call : tie.Start → Call
 call s =
@@ -64,6 +33,13 @@ call s =
       };
     }
 
+-- The stages of the function: the list passes its test; the ballots pass theirs; the parts are tested.
+abbrev started : tie.In-Accepted → tie.Start
+started c = c.before.before.before.before.before.before.before.before
+
+abbrev list_passed : tie.In_default-test → tie.In-Accepted
+list_passed c = c.before.before
+
 -- the first reason decides the answer
 refuses : (s : tie.Start) (r : Reason) → first_of (trustees_reasons (call s)) ≡ some r
     → refused r ≡ outcome (first_of (trustees_reasons (call s))) (size_of (gates_of (call s).table))
@@ -74,28 +50,26 @@ refuses s r e = sym (ap (λ (o : Option Reason). outcome o (size_of (gates_of (c
 size : tie.In-Accepted → Size
 size c = record { gates = c.in-Accepted.gates; conditional = c.in-Accepted.conditional }
 
-passed : (c : tie.In-Accepted) → TestPassed (call c.before.before.before.before.before.before.before.before).shape
-    (call c.before.before.before.before.before.before.before.before).table (size c)
+passed : (c : tie.In-Accepted) → TestPassed (call (started c)).shape (call (started c)).table (size c)
 unfolding outcome_of size
 passed c =
-    let of = call c.before.before.before.before.before.before.before.before in
+    let of = call (started c) in
     test_passed of.shape of.table (size c)
     (sym c.test-answer.ensures ∙ ap outcome_of c.in-Accepted.is)
 
 -- no reason of the ballots applies
-no_reason : (c : tie.In_default-test) → let of = call (start_from_in_default_test c) in
+no_reason : (c : tie.In_default-test) → let of = call (started (list_passed c)) in
     first_of (ballot_reasons of.shape of.ballots) ≡ none
 unfolding refused_for
 no_reason c = sym c.test.ensures ∙ ap refused_for c.in_default-test.is
 
 -- if the tests before have passed, the tests 16 to 18 decide
 parts_answer : (c : tie.After-test_parts)
-    → first_of (trustees_reasons (call (start_from_after_test_parts c))) ≡ refused_for c.test_parts.result
+    → first_of (trustees_reasons (call (started (list_passed c.before)))) ≡ refused_for c.test_parts.result
 unfolding size
 parts_answer c =
-    let told = c in
-    by_parts (call (start_from_after_test_parts told)) (passed told.before.before.before).reasons
-    (size told.before.before.before) (refused_for c.test_parts.result) (passed told.before.before.before).size
+    let told = list_passed c.before in
+    by_parts (call (started told)) (passed told).reasons (size told) (refused_for c.test_parts.result) (passed told).size
     (no_reason c.before) (sym c.test_parts.ensures)
 
 test_requires : tie.Need-test-answer-requires
@@ -110,15 +84,13 @@ enum_told c = search rules
 returns : tie.Need-returns-in_default
 unfolding outcome_of
 returns c =
-    let lending = c in
-    let start = lending in
+    let start = c.before.before.before.before.before.before.before.before in
     let r = reason_of c.in_default.field-0 in
     let e = ap outcome_of c.in_default.is in
-    e ∙ refuses start.before.before.before.before.before.before.before.before r
-    (by_test (call start.before.before.before.before.before.before.before.before) r (sym c.test-answer.ensures ∙ e))
+    e ∙ refuses start r (by_test (call start) r (sym c.test-answer.ensures ∙ e))
 
 test_requires_2 : tie.Need-test-requires
-test_requires_2 c κs = true_T (within_limits (call c.before.before.before.before.before.before.before.before).shape) (passed c).within
+test_requires_2 c κs = true_T (within_limits (call (started c)).shape) (passed c).within
 
 enum_known_reason : tie.Need-enum_known-reason
 enum_known_reason c = search rules
@@ -126,10 +98,10 @@ enum_known_reason c = search rules
 returns_2 : tie.Need-returns-in-Refused
 unfolding outcome_of refused_for
 returns_2 c =
-    let told = c in
+    let told = c.before.before in
     let r = reason_of c.in-Refused.reason in
-    refuses (start_from_in_refused told) r
-    (by_ballots (call (start_from_in_refused told)) (passed told.before.before).reasons r
+    refuses (started told) r
+    (by_ballots (call (started told)) (passed told).reasons r
     (sym c.test.ensures ∙ ap refused_for c.in-Refused.is))
 
 enum_told_2 : tie.Need-enum_told-in_default-test
@@ -138,9 +110,9 @@ enum_told_2 c = search rules
 test_parts_requires : tie.Need-test_parts-requires
 unfolding size
 test_parts_requires c κs =
-    let told = c in
-    let of = call (start_from_in_default_test told) in
-    small_sizes of.shape of.table of.ballots (size told.before.before) (passed told.before.before) (no_reason c)
+    let told = list_passed c in
+    let of = call (started told) in
+    small_sizes of.shape of.table of.ballots (size told) (passed told) (no_reason c)
 
 enum_known_reason_2 : tie.Need-enum_known-reason-in-Refused-test_parts
 enum_known_reason_2 c = search rules
@@ -151,21 +123,19 @@ enum_told_3 c = search rules
 returns_3 : tie.Need-returns-in-Refused-test_parts
 unfolding outcome_of refused_for
 returns_3 c =
-    let parts = c in
+    let parts = c.before in
     let r = reason_of c.in-Refused-test_parts.reason in
-    refuses (start_from_in_refused_test_parts parts) r (parts_answer parts.before
-    ∙ ap refused_for c.in-Refused-test_parts.is)
+    refuses (started (list_passed parts.before)) r (parts_answer parts ∙ ap refused_for c.in-Refused-test_parts.is)
 
 returns_4 : tie.Need-returns-in-Accepted-test_parts
 unfolding test_outcome refused_for
 returns_4 c =
-    let parts = c in
-    let told = parts in
-    let none_applies = parts_answer parts.before ∙ ap refused_for c.in-Accepted-test_parts.is in
+    let parts = c.before in
+    let told = list_passed parts.before in
+    let none_applies = parts_answer parts ∙ ap refused_for c.in-Accepted-test_parts.is in
     sym (ap outcome_of told.in-Accepted.is) ∙ told.test-answer.ensures
-    ∙ ap (λ (o : Option Reason).
-    outcome o (size_of (gates_of (call (start_from_in_accepted_test_parts told)).table)))
-    ((passed told.before.before.before.before).reasons ∙ sym none_applies)
+    ∙ ap (λ (o : Option Reason). outcome o (size_of (gates_of (call (started told)).table)))
+    ((passed told).reasons ∙ sym none_applies)
 
 pub test_spec : {M : Type 1} → statement M
 test_spec =

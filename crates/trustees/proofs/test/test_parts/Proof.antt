@@ -15,31 +15,6 @@ use Rattle.trustees.proofs.Reasons.{part_found, part_by, tables_fit_lem, trustee
 use Rattle.trustees.proofs.test.test_parts.Statement.{statement}
 use Rattle.trustees.proofs.test.test_parts.Tie as tie
 
--- The stages of the function, seen from later ones.
-abbrev after_shared_slice_known_1_from_else_not_tables_fit : tie.Else-not-tables_fit → tie.After-shared_slice_known-1
-after_shared_slice_known_1_from_else_not_tables_fit c = c.before.before.before.before.before.before.before.before
-
-abbrev start_from_else_not_tables_fit : tie.Else-not-tables_fit → tie.Start
-start_from_else_not_tables_fit c = (after_shared_slice_known_1_from_else_not_tables_fit c).before
-
-abbrev after_shared_slice_known_1_from_then_not_tables_fit : tie.Then-not-tables_fit → tie.After-shared_slice_known-1
-after_shared_slice_known_1_from_then_not_tables_fit c = c.before.before.before.before.before.before.before.before
-
-abbrev start_from_then_not_tables_fit : tie.Then-not-tables_fit → tie.Start
-start_from_then_not_tables_fit c = (after_shared_slice_known_1_from_then_not_tables_fit c).before
-
-abbrev after_shared_slice_known_3_1_from_then_not_is_dealt_well : tie.Then-not-is_dealt_well → tie.After-shared_slice_known-3-1
-after_shared_slice_known_3_1_from_then_not_is_dealt_well c = c.before.before.before.before.before.before.before.before
-
-abbrev start_from_then_not_is_dealt_well : tie.Then-not-is_dealt_well → tie.Start
-start_from_then_not_is_dealt_well c = (after_shared_slice_known_3_1_from_then_not_is_dealt_well c).before.before.before
-
-abbrev after_shared_slice_known_3_1_from_else_not_is_dealt_well : tie.Else-not-is_dealt_well → tie.After-shared_slice_known-3-1
-after_shared_slice_known_3_1_from_else_not_is_dealt_well c = c.before.before.before.before.before.before.before.before
-
-abbrev start_from_else_not_is_dealt_well : tie.Else-not-is_dealt_well → tie.Start
-start_from_else_not_is_dealt_well c = (after_shared_slice_known_3_1_from_else_not_is_dealt_well c).before.before.before
-
 abbrev size : tie.Start → Size
 size s = record { gates = s.args.gates; conditional = s.args.conditional }
 
@@ -52,13 +27,19 @@ lent s =
       published = a.published.now;
     }
 
+-- The stages: t is within its limits; the tables fit; the dealing was tested.
+abbrev started : tie.Else-not-are_trustees → tie.Start
+started c = c.before.before.before.before.before.before.before
+
+abbrev counted : tie.Else-not-tables_fit → tie.Else-not-are_trustees
+counted c = c.before.before
+
 -- the outcomes of the tests
 trustees : (c : tie.Else-not-are_trustees) → (leb 2 c.args.t && leb c.args.t 5) ≡ true
 trustees c = sym c.are_trustees.ensures ∙ c.if-not-are_trustees.false
 
-fits : (c : tie.Else-not-tables_fit) → let s = c in
-    tables_fit (length s.args.ballots.now) s.args.outputs (size (start_from_else_not_tables_fit s)) s.args.t
-    (lent (start_from_else_not_tables_fit s)) ≡ true
+fits : (c : tie.Else-not-tables_fit) → let s = started (counted c) in
+    tables_fit (length s.args.ballots.now) s.args.outputs (size s) s.args.t (lent s) ≡ true
 fits c = sym c.tables_fit.ensures ∙ c.if-not-tables_fit.false
 
 -- the answer, from the outcomes of the three tests
@@ -74,8 +55,8 @@ are_trustees_requires c κs = search rules
 returns : tie.Need-returns-then-not-are_trustees
 unfolding refused_for reason_of part_found unless first_of
 returns c =
-    let s = c in
-    sym (by s.before.before.before.before.before.before.before false _ _ (sym c.are_trustees.ensures ∙ c.if-not-are_trustees.true) refl refl)
+    let s = c.before.before.before.before.before.before.before in
+    sym (by s false _ _ (sym c.are_trustees.ensures ∙ c.if-not-are_trustees.true) refl refl)
 
 tables_fit_requires : tie.Need-tables_fit-requires
 tables_fit_requires c κs =
@@ -84,31 +65,28 @@ tables_fit_requires c κs =
 returns_2 : tie.Need-returns-then-not-tables_fit
 unfolding refused_for reason_of part_found unless first_of
 returns_2 c =
-    let first = c in
-    sym (by (start_from_then_not_tables_fit first) true false _ (trustees first.before.before)
+    let first = c.before.before in
+    sym (by (started first) true false _ (trustees first)
     (sym c.tables_fit.ensures ∙ c.if-not-tables_fit.true) refl)
 
 is_dealt_well_requires : tie.Need-is_dealt_well-requires
 is_dealt_well_requires c κs =
-    let s = c in
-    let l = tables_fit_lem (length s.args.ballots.now) s.args.outputs (size (start_from_else_not_tables_fit s)) s.args.t
-    (lent (start_from_else_not_tables_fit s)) (fits c) in
+    let s = started (counted c) in
+    let l = tables_fit_lem (length s.args.ballots.now) s.args.outputs (size s) s.args.t (lent s) (fits c) in
     record { conditional_most = s.requires.conditional_most; ballot_length = l.ballot_length; dealer_length = l.dealer_length }
 
 returns_3 : tie.Need-returns-then-not-is_dealt_well
 unfolding refused_for reason_of part_found unless first_of
 returns_3 c =
-    let second = c in
-    sym (by (start_from_then_not_is_dealt_well second) true true false (trustees second.before.before.before.before)
-    (fits second.before.before)
+    let second = c.before.before in
+    sym (by (started (counted second)) true true false (trustees (counted second)) (fits second)
     (sym c.is_dealt_well.ensures ∙ c.if-not-is_dealt_well.true))
 
 returns_4 : tie.Need-returns
 unfolding refused_for reason_of part_found unless first_of
 returns_4 c =
-    let second = c in
-    sym (by (start_from_else_not_is_dealt_well second) true true true (trustees second.before.before.before.before)
-    (fits second.before.before)
+    let second = c.before.before in
+    sym (by (started (counted second)) true true true (trustees (counted second)) (fits second)
     (sym c.is_dealt_well.ensures ∙ c.if-not-is_dealt_well.false))
 
 pub test_parts_spec : {M : Type 1} → statement M
