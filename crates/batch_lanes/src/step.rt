@@ -60,10 +60,8 @@ pub fn step(
 {
     let marks = kind::CONDITIONAL;
     let mut next = shown;
-    let mut g = from;
-    while g < to {
+    for g in from..to {
         next = run_gate(&marks, table, g, inputs + g, tape, next, wires, board);
-        g += 1;
     }
     next
 }
@@ -75,7 +73,7 @@ fn close(outputs: usize, wires: &[u64], shown: usize, board: &mut [u64])
         ++ drop (length wires.now - outputs) wires.now }
 {
     let first = wires.len() - outputs;
-    basics::table::copy_words(&wires[first..], &mut board[shown..]);
+    board[shown..].copy_from_slice(&wires[first..]);
 }
 
 // Evaluates a whole list for 64 juries: in each lane, the wires and the board of that lane's inputs and tape.
@@ -91,7 +89,7 @@ pub fn run(
     ensures { RunDone inputs.now table.now outputs tape.now wires.new
         board.new }
 {
-    basics::table::copy_words(inputs, wires);
+    wires[..inputs.len()].copy_from_slice(inputs);
     let shown = step(
         inputs.len(),
         table,

@@ -1,41 +1,37 @@
 -- `batch_lanes::step::run` meets its contract: copying the inputs, running the gates and copying the closing words
 -- leave in each lane the wires and the board of the whole list.
 -- Assumes nothing.
-use borrow.Author.Rules.{rules}
+use Rattle.std.proofs.Common.{◌≡◌, ℕ, List, ◌++◌, length, drop, ap}
 use Rattle.batch_lanes.proofs.RunLaws.{step_ready, can_close, final_wires, final_board}
-use Rattle.batch_lanes.proofs.step.run.Statement.{statement}
-use Rattle.batch_lanes.proofs.step.run.Tie as tie
+use Rattle.batch_lanes.proofs.step.run.Goals as goal
+use Rattle.batch_lanes.proofs.step.run.Goals.{After-copy_from_slice}
 
-copy_words_requires : tie.Need-copy_words-requires
-copy_words_requires c κs = search rules
+-- the wire table begins with the inputs
+copied : (c : After-copy_from_slice) → let a = c.args in
+    c.copy_from_slice.new.self ++ drop (length a.inputs.now) a.wires.now ≡ a.inputs.now ++ drop (length a.inputs.now) a.wires.now
+copied c = let a = c.args in
+    ap (λ (l : List ℕ). l ++ drop (length a.inputs.now) a.wires.now) c.copy_from_slice.ensures.after
 
-step_requires : tie.Need-step-shown-requires
-step_requires c κs =
+pub step-shown-requires : goal.step-shown-requires
+step-shown-requires c =
     let a = c.args in
     step_ready a.inputs.now a.table.now a.outputs a.tape.now a.wires.now a.board.now c.requires
-    _ c.copy_words.ensures
+    _ (copied (goal.at.step-shown-requires c).After-copy_from_slice)
 
-close_requires : tie.Need-close-requires
-close_requires c κs =
+pub close-requires : goal.close-requires
+close-requires c =
     let a = c.args in
     let r = c.step-shown in
     let q = can_close a.inputs.now a.table.now a.outputs a.tape.now a.wires.now a.board.now
-    c.requires _ c.copy_words.ensures
-    r.result r.new.wires r.new.board r.ensures.shown_is
-    r.auto.wires r.auto.board in
+    c.requires _ (copied (goal.at.close-requires c).After-copy_from_slice)
+    r.result r.new.wires r.new.board r.ensures.shown_is r.auto.wires r.auto.board in
     record { enough = q.0; room = q.1 }
 
-same_length : tie.Need-shape_of-wires
-same_length c = search rules
-
-same_length_2 : tie.Need-shape_of-board
-same_length_2 c = search rules
-
-returns : tie.Need-returns
+pub returns : goal.returns
 returns c =
     let a = c.args in
     let r = c.step-shown in
-    let f = c.copy_words.ensures in
+    let f = copied (goal.at.returns c).After-copy_from_slice in
     record {
       wires_are = final_wires a.inputs.now a.table.now a.outputs a.tape.now a.wires.now
           a.board.now c.requires _ f r.result _ _ r.ensures.shown_is r.auto.wires
@@ -44,6 +40,3 @@ returns c =
           a.board.now c.requires _ f r.result _ _ r.ensures.shown_is r.auto.wires
           r.auto.board r.ensures.wires_are r.ensures.board_is _ c.close.ensures;
     }
-
-pub run_spec : {M : Type 1} → statement M
-run_spec = tie.close (tie.spec copy_words_requires step_requires close_requires same_length same_length_2 returns)
