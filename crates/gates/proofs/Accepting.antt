@@ -1,6 +1,7 @@
 -- A list of good gates is accepted if it is neither too short nor too long. Also what the test answers for a table
 -- that ends in part of a gate, or has too many gates.
 -- Assumes nothing.
+use Rattle.std.specs.Prelude.{None, Err}
 use mathlib.Core.Path.{◌≡◌, ◌∙◌, refl, sym, ap, subst}
 use mathlib.Core.Bool.{true, false}
 use mathlib.Core.List.{List}
@@ -14,17 +15,17 @@ use Rattle.gates.specs.Open.Kind.{operands_of, conditional_of}
 use Rattle.gates.specs.Open.Gate.{Gate, gates_of, numbers_of}
 use Rattle.gates.specs.Open.Board.{conditionals, conditional_count}
 use Rattle.gates.specs.Open.Test.{most_gates, first_bad, judged, tested}
-use Rattle.gates.specs.declared.place.Place.TheVariants.{Nowhere}
-use Rattle.gates.specs.declared.list.ListCheck.TheVariants.{Accepted, PartOfAGate, TooManyGates}
+use Rattle.gates.specs.declared.list.ListFault.TheVariants.{PartOfAGate, TooManyGates}
+use Rattle.gates.specs.Open.Test.{accepted}
 use Rattle.gates.proofs.Laws.{AllGood, good_none, none_bad, length_numbers, read_whole}
 
 pub good_list_accepted : (inputs k : ℕ) (gs : List Gate) → AllGood inputs gs → k ≤ length gs → length gs ≤ 1048576
-    → tested inputs k (numbers_of gs) ≡ Accepted (length gs) (conditional_count gs)
+    → tested inputs k (numbers_of gs) ≡ accepted (length gs) (conditional_count gs)
 unfolding tested judged
 good_list_accepted inputs k gs good enough few =
     let n = length_numbers gs in
     let ns = numbers_of gs in
-    let found : first_bad inputs 0 (gates_of ns) ≡ Nowhere = ap (first_bad inputs 0) (read_whole gs)
+    let found : first_bad inputs 0 (gates_of ns) ≡ None = ap (first_bad inputs 0) (read_whole gs)
     ∙ none_bad inputs 0 gs (subst (λ (m : ℕ). AllGood m gs) (sym (add-zero inputs)) good) in
     rw (
       eq-eqb (length ns % 4) 0 (omega arith),
@@ -53,13 +54,13 @@ unfolding zeros
 zeros_length n = length-replicate n _
 
 -- a table that ends in part of a gate
-pub part_of_a_gate : (inputs k : ℕ) (table : List ℕ) → eqb (length table % 4) 0 ≡ false → tested inputs k table ≡ PartOfAGate
+pub part_of_a_gate : (inputs k : ℕ) (table : List ℕ) → eqb (length table % 4) 0 ≡ false → tested inputs k table ≡ (Err PartOfAGate)
 unfolding tested
 part_of_a_gate inputs k table e = rw e
 
 -- a list of too many gates
 pub too_many : (inputs k : ℕ) (table : List ℕ) → eqb (length table % 4) 0 ≡ true → k ≤ most_gates → 4 * most_gates < length table
-    → tested inputs k table ≡ TooManyGates
+    → tested inputs k table ≡ (Err TooManyGates)
 unfolding tested
 too_many inputs k table e few long =
     let whole = eqb-true (length table % 4) 0 e in

@@ -1,5 +1,6 @@
 -- An accepted evaluation leaves the wires and the board that the definitions name.
 -- Assumes nothing.
+use Rattle.std.specs.Prelude.{None}
 use mathlib.Core.Path.{◌≡◌, ◌∙◌, sym, ap}
 use mathlib.Core.List.{List, [], ◌∷◌, ◌++◌, zip_with, append-nil}
 use Prim.Native.Nat.{ℕ, suc, ◌+◌, ◌-◌, ◌≤◌, min}
@@ -12,7 +13,6 @@ use Rattle.gates.specs.Open.Wires.{wires_of, outputs_of}
 use Rattle.gates.specs.Open.Board.{conditionals, conditional_count, shown_bit, shown_bits, board_of}
 use Rattle.gates.specs.Open.Test.{first_bad}
 use Rattle.gates.specs.Open.Step.{range_of, step_wires, step_board, StepReady, CloseReady}
-use Rattle.gates.specs.declared.place.Place.TheVariants.{Nowhere}
 use Rattle.gates.proofs.WireLaws.{length_wires}
 
 pub length_zip : {A B C : Type 0} (f : A → B → C) (xs : List A) (ys : List B) → length (zip_with f xs ys) ≡ min (length xs) (length ys)
@@ -40,7 +40,7 @@ module _ (i : ℕ) (t : List ℕ) (gates k : ℕ) (tape ws board : List ℕ) (e 
       rw (add-zero i, end, whole_range t gates e) (append-nil (wires_of (take i ws) (gates_of t)))
 
   -- what the two calls leave, in order: wire table, board and count of the step, then the closed board
-  module _ (enough : k ≤ gates) (good : first_bad i 0 (gates_of t) ≡ Nowhere)
+  module _ (enough : k ≤ gates) (good : first_bad i 0 (gates_of t) ≡ None)
       (lt : length tape ≡ conditional_count (gates_of t)) (lb : length board ≡ conditional_count (gates_of t) + k) where
     count_range : conditional_count (range_of t 0 gates) ≡ conditional_count (gates_of t)
     count_range = ap conditional_count (whole_range t gates e)

@@ -1,5 +1,6 @@
 -- Demand 3: a mask that is applied twice cancels, so the second tape is the first board masked by the second wires.
 -- Assumes nothing.
+use Rattle.std.specs.Prelude.{Some, None}
 use mathlib.Core.Path.{◌≡◌, ◌∙◌, refl, sym, ap}
 use mathlib.Core.Bool.{Bool, true, false, cond}
 use mathlib.Core.List.{List, [], ◌∷◌, ◌++◌, zip_with}
@@ -14,13 +15,12 @@ use Rattle.gates.specs.Open.Wires.{wire, wires_of, outputs_of}
 use Rattle.gates.specs.Open.Board.{conditionals, conditional_count, shown_bit, shown_bits, board_of, Bits, MaskTape}
 use Rattle.gates.specs.Test.{first_above_one}
 use Rattle.gates.specs.Hiding.{ExactlyOne, Finished, BoardHidesInputs}
-use Rattle.gates.specs.declared.place.Place.TheVariants.{At, Nowhere}
 use Rattle.gates.proofs.Finishing.{length_shown}
 use Rattle.gates.proofs.WireLaws.{length_wires}
 use Rattle.gates.proofs.Laws.{length_outputs}
 
 -- a search for bytes above 1 finds nothing exactly if all are bits
-pub none_above : (i : ℕ) (xs : List ℕ) → Bits xs → first_above_one i xs ≡ Nowhere
+pub none_above : (i : ℕ) (xs : List ℕ) → Bits xs → first_above_one i xs ≡ None
 unfolding first_above_one
 none_above i [] b = refl
 none_above i (x ∷ xs) b = rw (le-ltb 1 x (b 0)) (none_above (suc i) xs (λ (j : ℕ). b (suc j)))
@@ -39,13 +39,13 @@ bits_take (suc n) (x ∷ xs) b (suc i) = bits_take n xs (λ (j : ℕ). b (suc j)
 pub bits_drop : (n : ℕ) (xs : List ℕ) → Bits xs → Bits (drop n xs)
 bits_drop n xs b i = omega (arith, get_or-drop n xs i 0, b (n + i))
 
-pub all_bits : (i : ℕ) (xs : List ℕ) → first_above_one i xs ≡ Nowhere → Bits xs
+pub all_bits : (i : ℕ) (xs : List ℕ) → first_above_one i xs ≡ None → Bits xs
 unfolding first_above_one
 all_bits i [] e = λ j. omega arith
 all_bits i (x ∷ xs) e = go (ltb 1 x) refl (λ q. all_bits (suc i) xs q) e
   where
-    go : (t : Bool) → ltb 1 x ≡ t → (first_above_one (suc i) xs ≡ Nowhere → Bits xs)
-        → cond t (At i) (first_above_one (suc i) xs) ≡ Nowhere → Bits (x ∷ xs)
+    go : (t : Bool) → ltb 1 x ≡ t → (first_above_one (suc i) xs ≡ None → Bits xs)
+        → cond t (Some i) (first_above_one (suc i) xs) ≡ None → Bits (x ∷ xs)
     go true p rest q = let z : ◌≡◌ {A = ℕ} 0 1 = cc in absurd (omega arith)
     go false p rest q = bits_cons x xs (ltb-false 1 x p) (rest q)
 

@@ -1,6 +1,7 @@
 -- Laws of kinds, good lists, wires and tables. With the other files of proofs/ they are what the layers above use:
 -- those unfold none of the definitions of this one.
 -- Assumes nothing.
+use Rattle.std.specs.Prelude.{None}
 use mathlib.Core.Path.{◌≡◌, ◌∙◌, refl, sym, ap, subst}
 use mathlib.Core.Bool.{Bool, true, false, cond, ◌&&◌}
 use mathlib.Core.List.{List, [], ◌∷◌, ◌++◌, append-nil}
@@ -15,7 +16,6 @@ use Rattle.gates.specs.Open.Gate.{Gate, gates_of, numbers_of}
 use Rattle.gates.specs.Open.Wires.{wire, value, wires_of, outputs_of}
 use Rattle.gates.specs.Open.Board.{Bits}
 use Rattle.gates.specs.Open.Test.{good_operand, good_gate, first_bad}
-use Rattle.gates.specs.declared.place.Place.TheVariants.{Nowhere}
 use Rattle.gates.proofs.KindLaws.{each_kind}
 use Rattle.gates.proofs.Goodness.{good_gate_lem}
 use Rattle.gates.proofs.Stepping.{first_good}
@@ -127,14 +127,14 @@ good_append n [] hs p q = subst (λ (m : ℕ). AllGood m hs) (add-zero n) q
 good_append n (g ∷ gs) hs p q = (p.0, good_append (suc n) gs hs p.1 (subst (λ (m : ℕ). AllGood m hs) (omega arith) q))
 
 -- the test finds no bad gate in such a list
-pub none_bad : (inputs g : ℕ) (gs : List Gate) → AllGood (inputs + g) gs → first_bad inputs g gs ≡ Nowhere
+pub none_bad : (inputs g : ℕ) (gs : List Gate) → AllGood (inputs + g) gs → first_bad inputs g gs ≡ None
 unfolding first_bad
 none_bad inputs g [] p = refl
 none_bad inputs g (x ∷ xs) p =
     rw (T_true (good_gate (inputs + g) x) p.0)
     (none_bad inputs (suc g) xs (subst (λ (m : ℕ). AllGood m xs) (sym (add-suc inputs g)) p.1))
 
-pub all_good : (inputs g : ℕ) (gs : List Gate) → first_bad inputs g gs ≡ Nowhere → AllGood (inputs + g) gs
+pub all_good : (inputs g : ℕ) (gs : List Gate) → first_bad inputs g gs ≡ None → AllGood (inputs + g) gs
 all_good inputs g [] e = tt
 all_good inputs g (x ∷ xs) e =
     let p = first_good inputs g x xs e in

@@ -1,5 +1,6 @@
 -- The wire table and the board after the first m gates of a list, and the step from there to more gates.
 -- Assumes nothing.
+use Rattle.std.specs.Prelude.{None}
 use mathlib.Core.Path.{◌≡◌, ◌∙◌, refl, sym, ap, subst}
 use mathlib.Core.Bool.{Bool, true, false, cond}
 use mathlib.Core.List.{List, [], ◌∷◌, ◌++◌, zip_with, append-nil}
@@ -14,7 +15,6 @@ use Rattle.gates.specs.Open.Wires.{wire, wires_of, outputs_of}
 use Rattle.gates.specs.Open.Board.{conditionals, conditional_count, shown_bit, shown_bits, board_of}
 use Rattle.gates.specs.Open.Test.{first_bad}
 use Rattle.gates.specs.Open.Step.{range_of, step_wires, step_board, StepReady, RunReady, CloseReady}
-use Rattle.gates.specs.declared.place.Place.TheVariants.{Nowhere}
 use Rattle.gates.proofs.Goodness.{good_gate_lem}
 use Rattle.gates.proofs.Counting.{count_append}
 use Rattle.gates.proofs.WireLaws.{length_wires, wires_append, wires_keep}
@@ -41,7 +41,7 @@ good_drop n (suc m) (g ∷ gs) p =
     subst (λ (i : ℕ). AllGood i (drop m gs)) {x = suc n + m} {y = n + suc m} (omega arith)
     (good_drop (suc n) m gs p.1)
 
-range_all_good : (inputs : ℕ) (t : List ℕ) (from to : ℕ) → first_bad inputs 0 (gates_of t) ≡ Nowhere
+range_all_good : (inputs : ℕ) (t : List ℕ) (from to : ℕ) → first_bad inputs 0 (gates_of t) ≡ None
     → AllGood (inputs + from) (range_of t from to)
 unfolding range_of
 range_all_good inputs t from to e =

@@ -1,5 +1,6 @@
 -- Tables and lists read gate by gate: what the layers above use. They unfold none of the gate layer's definitions.
 -- Assumes nothing.
+use Rattle.std.specs.Prelude.{Some, None}
 use mathlib.Core.Path.{◌≡◌, ◌∙◌, refl, sym, ap}
 use mathlib.Core.Bool.{Bool, true, false, cond, ◌&&◌}
 use mathlib.Core.List.{List, [], ◌∷◌}
@@ -11,7 +12,6 @@ use borrow.Author.Tests.{ltb-true, lt-ltb, eq-eqb}
 use Rattle.gates.specs.Open.Kind.{kind_count, operands_of}
 use Rattle.gates.specs.Open.Gate.{Gate, gates_of, numbers_of, gate_at}
 use Rattle.gates.specs.Open.Test.{good_operand, good_gate, first_bad}
-use Rattle.gates.specs.declared.place.Place.TheVariants.{At, Nowhere}
 use Rattle.gates.proofs.Goodness.{and_left, and_right, good_gate_lem}
 
 -- gate g by its four numbers
@@ -34,12 +34,12 @@ whole_table (k ∷ a ∷ b ∷ []) h = absurd (omega arith)
 whole_table (k ∷ a ∷ b ∷ c ∷ t) h = ap (λ (l : List ℕ). k ∷ a ∷ b ∷ c ∷ l) (whole_table t (omega arith))
 
 -- the first bad gate, gate by gate
-pub first_bad_nil : (inputs g : ℕ) → first_bad inputs g [] ≡ Nowhere
+pub first_bad_nil : (inputs g : ℕ) → first_bad inputs g [] ≡ None
 unfolding first_bad
 first_bad_nil inputs g = refl
 
 pub first_bad_cons : (inputs g : ℕ) (x : Gate) (xs : List Gate) → first_bad inputs g (x ∷ xs)
-    ≡ cond (good_gate (inputs + g) x) (first_bad inputs (suc g) xs) (At g)
+    ≡ cond (good_gate (inputs + g) x) (first_bad inputs (suc g) xs) (Some g)
 unfolding first_bad
 first_bad_cons inputs g x xs = refl
 

@@ -1,6 +1,7 @@
 -- One turn of the evaluating step: evaluating a gate and then the rest leaves what evaluating all that was left
 -- would.
 -- Assumes nothing.
+use Rattle.std.specs.Prelude.{Some, None}
 use mathlib.Core.Path.{◌≡◌, ◌∙◌, refl, sym, ap}
 use mathlib.Core.Bool.{Bool, true, false, cond, false≢true}
 use mathlib.Core.List.{List, [], ◌∷◌, ◌++◌, zip_with}
@@ -16,7 +17,6 @@ use Rattle.gates.specs.Open.Wires.{wire, value, wires_of}
 use Rattle.gates.specs.Open.Board.{conditionals, conditional_count, shown_bit, shown_bits}
 use Rattle.gates.specs.Open.Test.{good_gate, first_bad}
 use Rattle.gates.specs.Open.Step.{range_of, step_wires, GateReady}
-use Rattle.gates.specs.declared.place.Place.TheVariants.{At, Nowhere}
 use Rattle.gates.proofs.KindLaws.{each_kind}
 use Rattle.gates.proofs.Table.{gates_from, length_gates}
 use Rattle.gates.proofs.Counting.{count_nil, count_one, count_append}
@@ -32,12 +32,12 @@ range_from t g to h l =
     rw (e, gates_from t g)
 
 -- if no gate is bad, the first is good and none after it is bad
-pub first_good : (inputs g : ℕ) (x : Gate) (xs : List Gate) → first_bad inputs g (x ∷ xs) ≡ Nowhere
-    → T (good_gate (inputs + g) x) × (first_bad inputs (suc g) xs ≡ Nowhere)
+pub first_good : (inputs g : ℕ) (x : Gate) (xs : List Gate) → first_bad inputs g (x ∷ xs) ≡ None
+    → T (good_gate (inputs + g) x) × (first_bad inputs (suc g) xs ≡ None)
 unfolding first_bad
 first_good inputs g x xs e = go (good_gate (inputs + g) x) e
   where
-    go : (t : Bool) → cond t (first_bad inputs (suc g) xs) (At g) ≡ Nowhere → T t × (first_bad inputs (suc g) xs ≡ Nowhere)
+    go : (t : Bool) → cond t (first_bad inputs (suc g) xs) (Some g) ≡ None → T t × (first_bad inputs (suc g) xs ≡ None)
     go true p = (tt, p)
     go false p = let z : ◌≡◌ {A = ℕ} 0 1 = cc in absurd (omega arith)
 
@@ -111,7 +111,7 @@ pub record Left (inputs : ℕ) (t : List ℕ) (to : ℕ) (tape : List ℕ) (wire
   pub wires_left : step_wires inputs t g to ws ≡ final
   pub board_left : sets board next (shown_bits final (range_of t g to) (drop next tape)) ≡ final_board
   pub count_left : next + conditional_count (range_of t g to) ≡ total
-  pub good_left : first_bad inputs g (range_of t g to) ≡ Nowhere
+  pub good_left : first_bad inputs g (range_of t g to) ≡ None
   pub wires_length : length ws ≡ wires_size
   pub board_length : length board ≡ board_size
 
@@ -120,7 +120,7 @@ module _ (inputs : ℕ) (t : List ℕ) (to : ℕ) (tape : List ℕ) (wires_size 
     (in_board : total ≤ board_size) where
   first_of_left : (ws board : List ℕ) (next g : ℕ)
       → Left inputs t to tape wires_size board_size total final final_board ws board next g → g < to
-      → T (good_gate (inputs + g) (gate_at t g)) × (first_bad inputs (suc g) (range_of t (suc g) to) ≡ Nowhere)
+      → T (good_gate (inputs + g) (gate_at t g)) × (first_bad inputs (suc g) (range_of t (suc g) to) ≡ None)
   first_of_left ws board next g left h =
       first_good inputs g (gate_at t g) (range_of t (suc g) to) (sym (ap (first_bad inputs g) (range_from t g to h in_table)) ∙ left.good_left)
 

@@ -7,13 +7,13 @@ use Rattle.gates.specs.Open.Gate.{gates_of}
 use Rattle.gates.specs.Open.Wires.{wire, value, wires_of, outputs_of}
 use Rattle.gates.specs.Open.Board.{conditionals, conditional_count, shown_bit, shown_bits, board_of}
 use Rattle.gates.specs.Open.Test.{good_operand, good_gate, first_bad, judged, tested}
-use Rattle.gates.specs.declared.list.ListCheck.TheVariants.{Accepted}
+use Rattle.gates.specs.Open.Test.{accepted}
 
 unfoldable pub one_gate : List ℕ
 one_gate = 4 ∷ 0 ∷ 1 ∷ 0 ∷ []
 
 -- The list is accepted for two inputs and one output, with G = 1 and C = 1.
-pub one_gate_tested : tested 2 1 one_gate ≡ Accepted 1 1
+pub one_gate_tested : tested 2 1 one_gate ≡ accepted 1 1
 unfolding one_gate tested judged first_bad good_gate good_operand conditional_count conditionals gates_of conditional_of
     operands_of
 one_gate_tested = refl
@@ -56,7 +56,7 @@ second_wires = refl
 unfoldable pub free_gate_first : List ℕ
 free_gate_first = 6 ∷ 0 ∷ 1 ∷ 0 ∷ 4 ∷ 0 ∷ 2 ∷ 0 ∷ []
 
-pub free_gate_tested : tested 2 1 free_gate_first ≡ Accepted 2 1
+pub free_gate_tested : tested 2 1 free_gate_first ≡ accepted 2 1
 unfolding free_gate_first tested judged first_bad good_gate good_operand conditional_count conditionals gates_of
     conditional_of
     operands_of

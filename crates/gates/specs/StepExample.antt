@@ -8,14 +8,14 @@ use Rattle.gates.specs.Open.Wires.{wire, value, wires_of, outputs_of}
 use Rattle.gates.specs.Open.Board.{conditionals, conditional_count, shown_bit, shown_bits}
 use Rattle.gates.specs.Open.Test.{good_operand, good_gate, first_bad, judged, tested}
 use Rattle.gates.specs.Open.Step.{range_of, step_wires, step_board}
-use Rattle.gates.specs.declared.list.ListCheck.TheVariants.{Accepted}
+use Rattle.gates.specs.Open.Test.{accepted}
 use Rattle.gates.specs.HidingExample.{free_gate_first}
 
 -- The two gates of `free_gate_first`, then the conjunction of wires 1 and 3.
 unfoldable pub three_gates : List ℕ
 three_gates = 6 ∷ 0 ∷ 1 ∷ 0 ∷ 4 ∷ 0 ∷ 2 ∷ 0 ∷ 4 ∷ 1 ∷ 3 ∷ 0 ∷ []
 
-pub three_gates_tested : tested 2 1 three_gates ≡ Accepted 3 2
+pub three_gates_tested : tested 2 1 three_gates ≡ accepted 3 2
 unfolding three_gates tested judged first_bad good_gate good_operand conditional_count conditionals gates_of
     conditional_of
     operands_of

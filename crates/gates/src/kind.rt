@@ -33,13 +33,6 @@ pub const OPERANDS: OperandCounts = [0, 0, 1, 1, 2, 2, 2, 3];
 // The conditional mark of each kind.
 pub const CONDITIONAL: ConditionalMarks = [false, false, false, false, true, true, false, true];
 
-// The result of a gate: its value, or a refusal if its kind is above 7.
-#[derive(Drop)]
-pub enum GateValue {
-    Value(u8),
-    NoSuchKind,
-}
-
 // The number of operands that a kind uses. The caller lends `OPERANDS`, so that a loop builds this array only once.
 pub fn operands(counts: &OperandCounts, kind: u32) -> u32
     requires { counts.now ≡ operand_counts }
@@ -72,20 +65,21 @@ pub fn mark(marks: &ConditionalMarks, kind: u32) -> usize
     if conditional(marks, kind) { 1 } else { 0 }
 }
 
-// The value of a gate from the values of its operands. The only match on a kind in this crate.
-pub fn apply(kind: u32, a: u8, b: u8, c: u8) -> GateValue
+// The value of a gate from the values of its operands, `None` for a kind above 7. The only match on a kind in this
+// crate.
+pub fn apply(kind: u32, a: u8, b: u8, c: u8) -> Option<u8>
     ensures { result ≡ applied kind a b c }
 {
     match kind {
-        0 => GateValue::Value(0),
-        1 => GateValue::Value(1),
-        2 => GateValue::Value(a),
-        3 => GateValue::Value(if a == 0 { 1 } else { 0 }),
-        4 => GateValue::Value(if a < b { a } else { b }),
-        5 => GateValue::Value(if a < b { b } else { a }),
-        6 => GateValue::Value(if a == b { 0 } else { 1 }),
-        7 => GateValue::Value(if a == 0 { c } else { b }),
-        8..=4294967295 => GateValue::NoSuchKind,
+        0 => Some(0),
+        1 => Some(1),
+        2 => Some(a),
+        3 => Some(if a == 0 { 1 } else { 0 }),
+        4 => Some(if a < b { a } else { b }),
+        5 => Some(if a < b { b } else { a }),
+        6 => Some(if a == b { 0 } else { 1 }),
+        7 => Some(if a == 0 { c } else { b }),
+        8..=4294967295 => None,
     }
 }
 
@@ -93,8 +87,5 @@ pub fn apply(kind: u32, a: u8, b: u8, c: u8) -> GateValue
 pub(crate) fn value(kind: u32, a: u8, b: u8, c: u8) -> u8
     ensures { result ≡ value_of kind a b c }
 {
-    match apply(kind, a, b, c) {
-        GateValue::Value(v) => v,
-        GateValue::NoSuchKind => 0,
-    }
+    apply(kind, a, b, c).unwrap_or(0)
 }

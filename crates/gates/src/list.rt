@@ -1,13 +1,13 @@
 // The test of a gate list, the own one or a stranger's.
-ghost use Rattle.std.specs.Prelude.{◌≡◌, ◌&&◌, ℕ, ◌+◌, ◌<◌, ltb, eqb, length};
+ghost use Rattle.std.specs.Prelude.{◌≡◌, ℕ, ◌+◌, ◌<◌, ltb, eqb, length};
 ghost use Rattle.gates.specs.Gate.{gates_of};
 ghost use Rattle.gates.specs.Board.{conditional_count};
 ghost use Rattle.gates.specs.Limits.{operand_limit, table_gate_limit};
-ghost use Rattle.gates.specs.Test.{good_gate, first_bad, judged, tested};
+ghost use Rattle.gates.specs.Test.{good_operand, good_gate, first_bad, judged, tested};
 ghost use Rattle.gates.specs.inner.Test.{TestReady};
 
 use crate::kind;
-use crate::kind::{GateValue, OperandCounts};
+use crate::kind::OperandCounts;
 
 // The most gates that a list may have: 2^20.
 pub const MOST_GATES: usize = 1048576;
@@ -15,27 +15,31 @@ pub const MOST_GATES: usize = 1048576;
 // 2^32, which no 32-bit operand reaches.
 const OPERAND_LIMIT: usize = 4294967296;
 
-// The answer of a test: the list's own G and C, or what is wrong with it.
-#[derive(Drop)]
-pub enum ListCheck {
-    Accepted { gates: usize, conditional: usize },
+// A list's own size: its G gates, and the C of them that are conditional.
+#[derive(Clone, Copy)]
+pub struct ListSize {
+    pub gates: usize,
+    pub conditional: usize,
+}
+
+// What is wrong with a list. A bad gate is named by its place, counted from 0.
+#[derive(Clone, Copy)]
+pub enum ListFault {
     PartOfAGate,
     TooFewGates,
     TooManyGates,
     BadGate(usize),
 }
 
-// Whether these operands, which the kind does not use, are all 0.
-fn are_zero(a: u32, b: u32, c: u32) -> bool
-    ensures { result ≡ (eqb a 0 && eqb b 0 && eqb c 0) }
+// Whether an operand is good: one that its kind uses names a wire before `own`, any other is 0.
+fn is_good_operand(used: bool, own: usize, operand: u32) -> bool
+    ensures { result ≡ good_operand used own operand }
 {
-    if a != 0 {
-        return false;
+    if used {
+        (operand as usize) < own
+    } else {
+        operand == 0
     }
-    if b != 0 {
-        return false;
-    }
-    c == 0
 }
 
 // The bound on gate g's operands: its own wire, inputs + g. From 2^32 inputs on that sum could wrap; 2^32 is then a
@@ -64,32 +68,23 @@ fn gate_is_good(
     requires { TestReady g counts.now }
     ensures { result ≡ good_gate (inputs + g) (record { kind = kind; a = a; b = b; c = c }) }
 {
-    // Whether the kind is known: only the match in `apply` says that. The operands do not matter here.
-    let GateValue::Value(_) = kind::apply(kind, 0, 0, 0) else {
+    // Only the match in `apply` says whether the kind is known. The operands do not matter here.
+    if kind::apply(kind, 0, 0, 0).is_none() {
         return false;
-    };
+    }
     let count = kind::operands(counts, kind);
     let own = own_wire(inputs, g);
-    if count == 0 {
-        return are_zero(a, b, c);
-    }
-    if own <= a as usize {
+    if !is_good_operand(0 < count, own, a) {
         return false;
     }
-    if count == 1 {
-        return are_zero(0, b, c);
-    }
-    if own <= b as usize {
+    if !is_good_operand(1 < count, own, b) {
         return false;
     }
-    if count == 2 {
-        return c == 0;
-    }
-    (c as usize) < own
+    is_good_operand(2 < count, own, c)
 }
 
 // Tests the gates of a table in order, and counts the conditional ones.
-fn test_gates(inputs: usize, table: &[u32]) -> ListCheck
+fn test_gates(inputs: usize, table: &[u32]) -> Result<ListSize, ListFault>
     ensures { result ≡ judged (first_bad inputs 0 (gates_of table.now)) (length (gates_of table.now))
         (conditional_count (gates_of table.now)) }
 {
@@ -97,8 +92,7 @@ fn test_gates(inputs: usize, table: &[u32]) -> ListCheck
     let counts = kind::OPERANDS;
     let marks = kind::CONDITIONAL;
     let mut conditional: usize = 0;
-    let mut g: usize = 0;
-    while g < gates {
+    for g in 0..gates {
         let at = 4 * g;
         let kind = table[at];
         if !gate_is_good(
@@ -110,27 +104,26 @@ fn test_gates(inputs: usize, table: &[u32]) -> ListCheck
             table[at + 2],
             table[at + 3],
         ) {
-            return ListCheck::BadGate(g);
+            return Err(ListFault::BadGate(g));
         }
         conditional += kind::mark(&marks, kind);
-        g += 1;
     }
-    ListCheck::Accepted { gates, conditional }
+    Ok(ListSize { gates, conditional })
 }
 
 // Tests a list for a given number of inputs and of outputs.
-pub fn test(inputs: usize, outputs: usize, table: &[u32]) -> ListCheck
+pub fn test(inputs: usize, outputs: usize, table: &[u32]) -> Result<ListSize, ListFault>
     ensures { result ≡ tested inputs outputs table.now }
 {
     if table.len() % 4 != 0 {
-        return ListCheck::PartOfAGate;
+        return Err(ListFault::PartOfAGate);
     }
     let gates = table.len() / 4;
     if gates < outputs {
-        return ListCheck::TooFewGates;
+        return Err(ListFault::TooFewGates);
     }
     if MOST_GATES < gates {
-        return ListCheck::TooManyGates;
+        return Err(ListFault::TooManyGates);
     }
     test_gates(inputs, table)
 }

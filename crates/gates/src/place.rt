@@ -2,23 +2,14 @@
 ghost use Rattle.std.specs.Prelude.{◌≡◌};
 ghost use Rattle.gates.specs.Test.{first_above_one};
 
-// The first place, counted from 0, or nowhere.
-#[derive(Drop)]
-pub enum Place {
-    At(usize),
-    Nowhere,
-}
-
-// The first byte that is neither 0 nor 1.
-pub fn first_above_one(bytes: &[u8]) -> Place
+// The place, counted from 0, of the first byte that is neither 0 nor 1.
+pub fn first_above_one(bytes: &[u8]) -> Option<usize>
     ensures { result ≡ first_above_one 0 bytes.now }
 {
-    let mut i = 0;
-    while i < bytes.len() {
-        if 1 < bytes[i] {
-            return Place::At(i);
+    for (i, byte) in bytes.iter().enumerate() {
+        if 1 < *byte {
+            return Some(i);
         }
-        i += 1;
     }
-    Place::Nowhere
+    None
 }

@@ -65,10 +65,8 @@ pub fn step(
 {
     let marks = kind::CONDITIONAL;
     let mut next = shown;
-    let mut g = from;
-    while g < to {
+    for g in from..to {
         next = run_gate(&marks, table, g, inputs + g, tape, next, wires, board);
-        g += 1;
     }
     next
 }
@@ -79,7 +77,7 @@ pub fn close(outputs: usize, wires: &[u8], shown: usize, board: &mut [u8])
     ensures { board.new ≡ take shown board.old ++ outputs_of outputs wires.now }
 {
     let first = wires.len() - outputs;
-    basics::byte::copy(&wires[first..], &mut board[shown..]);
+    board[shown..].copy_from_slice(&wires[first..]);
 }
 
 // Evaluates a list whose inputs are already at the front of the wire table: all gates, then the outputs at the end
@@ -113,6 +111,6 @@ pub fn run(
     ensures { Evaluated inputs.now table.now outputs tape.now wires.new
         board.new }
 {
-    basics::byte::copy(inputs, wires);
+    wires[..inputs.len()].copy_from_slice(inputs);
     finish(inputs.len(), table, outputs, tape, wires, board);
 }

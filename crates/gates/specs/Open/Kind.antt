@@ -1,7 +1,5 @@
 -- The eight kinds of gates as [kinds] has them, with the marks of request 2.6 [free-xor].
-use Rattle.std.specs.Prelude.{Bool, true, false, cond, List, [], ◌∷◌, ℕ, ◌-◌, min, max, ltb, eqb, get_or}
-use Rattle.gates.specs.declared.kind.GateValue.{GateValue}
-use Rattle.gates.specs.declared.kind.GateValue.TheVariants.{Value, NoSuchKind}
+use Rattle.std.specs.Prelude.{Bool, true, false, cond, List, [], ◌∷◌, ℕ, ◌-◌, min, max, ltb, eqb, get_or, Option, Some, None}
 
 -- How many kinds there are: 0 to 7.
 abbrev pub kind_count : ℕ
@@ -37,5 +35,5 @@ value_of kind a b c =
     get_or (0 ∷ 1 ∷ a ∷ (1 - a) ∷ min a b ∷ max a b ∷ differ a b ∷ chosen a b c ∷ []) kind 0
 
 -- The value of a known kind, or the refusal of an unknown one.
-unfoldable pub applied : ℕ → ℕ → ℕ → ℕ → GateValue
-applied kind a b c = cond (ltb kind kind_count) (Value (value_of kind a b c)) NoSuchKind
+unfoldable pub applied : ℕ → ℕ → ℕ → ℕ → Option ℕ
+applied kind a b c = cond (ltb kind kind_count) (Some (value_of kind a b c)) None

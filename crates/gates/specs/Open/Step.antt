@@ -1,12 +1,11 @@
 -- The evaluating step: it evaluates a range of a list's gates, after the wires and shown bits of earlier gates.
-use Rattle.std.specs.Prelude.{◌≡◌, cond, List, [], ◌∷◌, ◌++◌, ℕ, ◌+◌, ◌-◌, ◌*◌, ◌≤◌, ◌<◌, T, length, get_or, take, drop, set}
+use Rattle.std.specs.Prelude.{◌≡◌, cond, List, [], ◌∷◌, ◌++◌, ℕ, ◌+◌, ◌-◌, ◌*◌, ◌≤◌, ◌<◌, T, length, get_or, take, drop, set, None}
 use Rattle.std.proofs.lemmas.List.Edits.{sets}
 use Rattle.gates.specs.Open.Kind.{conditional_of}
 use Rattle.gates.specs.Open.Gate.{Gate, gates_of, gate_at}
 use Rattle.gates.specs.Open.Wires.{wires_of, value}
 use Rattle.gates.specs.Open.Board.{conditional_count, shown_bit, shown_bits, board_of}
 use Rattle.gates.specs.Open.Test.{good_gate, first_bad}
-use Rattle.gates.specs.declared.place.Place.TheVariants.{Nowhere}
 
 -- Gates from..to of a table; gate `to` is not included.
 unfoldable pub range_of : List ℕ → ℕ → ℕ → List Gate
@@ -18,7 +17,7 @@ pub record StepReady (inputs : ℕ) (table : List ℕ) (from to : ℕ) (tape : L
     0 where
   pub order : from ≤ to
   pub in_table : to ≤ length (gates_of table)
-  pub good : first_bad inputs from (range_of table from to) ≡ Nowhere
+  pub good : first_bad inputs from (range_of table from to) ≡ None
   pub in_wires : inputs + to ≤ length ws
   pub in_tape : shown + conditional_count (range_of table from to) ≤ length tape
   pub in_board : shown + conditional_count (range_of table from to) ≤ length board
@@ -37,7 +36,7 @@ step_board inputs table from to tape shown ws board =
 -- of list, tape, wire table and board establish.
 pub record FinishReady (inputs : ℕ) (table : List ℕ) (k : ℕ) (tape ws board : List ℕ) : Type 0 where
   pub enough : k ≤ length (gates_of table)
-  pub good : first_bad inputs 0 (gates_of table) ≡ Nowhere
+  pub good : first_bad inputs 0 (gates_of table) ≡ None
   pub tape_length : length tape ≡ conditional_count (gates_of table)
   pub wires_length : length ws ≡ inputs + length (gates_of table)
   pub board_length : length board ≡ conditional_count (gates_of table) + k

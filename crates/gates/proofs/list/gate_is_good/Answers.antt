@@ -1,0 +1,61 @@
+-- `gates::list::gate_is_good` meets its contract: it makes the tests of the definition, and `own_wire`'s bound is as
+-- good for a 32-bit operand as the gate's own wire.
+-- Assumes nothing.
+use mathlib.Core.Path.{◌≡◌, ◌∙◌, refl, sym, ap}
+use mathlib.Core.Bool.{Bool, true, false, ◌&&◌, not}
+use Prim.Native.Nat.{ℕ, ◌+◌}
+use lib.Dec.{ltb}
+use Rattle.std.specs.Prelude.{Option}
+use Rattle.std.specs.Option.{is_some}
+use Rattle.gates.specs.Open.Kind.{kind_count, operands_of, applied}
+use Rattle.gates.specs.Open.Test.{good_operand, good_gate}
+use Rattle.gates.proofs.Applying.{some_known}
+use Rattle.gates.proofs.list.gate_is_good.Goals as goal
+
+-- the test of a gate from the tests of its parts
+parts : (own kind a b c count : ℕ) (k x y z : Bool) → ltb kind kind_count ≡ k → count ≡ operands_of kind
+    → x ≡ good_operand (ltb 0 count) own a → y ≡ good_operand (ltb 1 count) own b
+    → z ≡ good_operand (ltb 2 count) own c
+    → (k && x && y && z) ≡ good_gate own (record { kind = kind; a = a; b = b; c = c })
+unfolding good_gate
+parts own kind a b c count k x y z ek ec ex ey ez = rw (← ec, ek, ← ex, ← ey, ← ez)
+
+-- whether the kind is known, from the answer of `apply`
+known : (kind : ℕ) (v : Option ℕ) (unknown t : Bool) → is_some v ≡ not unknown → v ≡ applied kind 0 0 0 → unknown ≡ t
+    → ltb kind kind_count ≡ not t
+known kind v unknown t s e u = sym (some_known kind 0 0 0) ∙ ap is_some (sym e) ∙ s ∙ ap not u
+
+-- a bound that tests an operand as `own` does, and a test by it
+as_own : (used : Bool) (bound own x : ℕ) (r t : Bool) → ltb x bound ≡ ltb x own → r ≡ good_operand used bound x
+    → r ≡ t → t ≡ good_operand used own x
+unfolding good_operand
+as_own true bound own x r t e p q = sym q ∙ p ∙ e
+as_own false bound own x r t e p q = sym q ∙ p
+
+pub returns-then-is_none : goal.returns-then-is_none
+returns-then-is_none c = let a = c.args in
+    parts (a.inputs + a.g) a.kind a.a a.b a.c _ false _ _ _
+    (known a.kind _ _ true c.is_none.ensures c.apply.ensures c.if-is_none.true) refl refl refl refl
+
+pub returns-then-not-is_good_operand : goal.returns-then-not-is_good_operand
+returns-then-not-is_good_operand c = let a = c.args in
+    parts (a.inputs + a.g) a.kind a.a a.b a.c c.operands-count.result true false _ _
+    (known a.kind _ _ false c.is_none.ensures c.apply.ensures c.if-is_none.false) c.operands-count.ensures
+    (as_own _ _ _ a.a _ false (c.own_wire-own.ensures a.a c.ranges.a.fits) c.is_good_operand.ensures c.if-not-is_good_operand.true)
+    refl refl
+
+pub returns-then-not-is_good_operand-2 : goal.returns-then-not-is_good_operand-2
+returns-then-not-is_good_operand-2 c = let a = c.args in
+    parts (a.inputs + a.g) a.kind a.a a.b a.c c.operands-count.result true true false _
+    (known a.kind _ _ false c.is_none.ensures c.apply.ensures c.if-is_none.false) c.operands-count.ensures
+    (as_own _ _ _ a.a _ true (c.own_wire-own.ensures a.a c.ranges.a.fits) c.is_good_operand.ensures c.if-not-is_good_operand.false)
+    (as_own _ _ _ a.b _ false (c.own_wire-own.ensures a.b c.ranges.b.fits) c.is_good_operand-2.ensures c.if-not-is_good_operand-2.true)
+    refl
+
+pub returns : goal.returns
+returns c = let a = c.args in
+    parts (a.inputs + a.g) a.kind a.a a.b a.c c.operands-count.result true true true c.is_good_operand-3.result
+    (known a.kind _ _ false c.is_none.ensures c.apply.ensures c.if-is_none.false) c.operands-count.ensures
+    (as_own _ _ _ a.a _ true (c.own_wire-own.ensures a.a c.ranges.a.fits) c.is_good_operand.ensures c.if-not-is_good_operand.false)
+    (as_own _ _ _ a.b _ true (c.own_wire-own.ensures a.b c.ranges.b.fits) c.is_good_operand-2.ensures c.if-not-is_good_operand-2.false)
+    (as_own _ _ _ a.c _ c.is_good_operand-3.result (c.own_wire-own.ensures a.c c.ranges.c.fits) c.is_good_operand-3.ensures refl)
