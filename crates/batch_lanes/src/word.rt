@@ -1,5 +1,5 @@
 // One word holds a bit for each of 64 juries, lowest first.
-ghost use Rattle.std.specs.Prelude.{◌≡◌, ℕ, ◌+◌, ◌<◌, eqb, length};
+ghost use Rattle.std.specs.Prelude.{◌≡◌, ℕ, ◌<◌};
 ghost use Rattle.gates.specs.Kind.{value_of, kind_count};
 ghost use Rattle.batch_lanes.specs.Lane.{lane_count, lane};
 
@@ -21,16 +21,5 @@ pub fn value(kind: u32, a: u64, b: u64, c: u64) -> u64
         6 => a ^ b,
         7 => c ^ (a & (b ^ c)),
         8..=4294967295 => 0,
-    }
-}
-
-// Whether there are first + second words. The sum is never computed, because it could wrap.
-pub fn has_length(words: &[u64], first: usize, second: usize) -> bool
-    ensures { result ≡ eqb (length words.now) (first + second) }
-{
-    if first <= words.len() {
-        words.len() - first == second
-    } else {
-        false
     }
 }
