@@ -5,7 +5,7 @@ ghost use Rattle.std.specs.Prelude.{◌≡◌, ◌++◌, ◌≤◌, length, drop
 pub fn wide(byte: u8) -> usize
     ensures { result ≡ byte }
 {
-    byte as usize
+    usize::from(byte)
 }
 
 // Copies bytes to the front of a slice, which keeps its bytes after them.
@@ -13,9 +13,5 @@ pub fn copy(from: &[u8], to: &mut [u8])
     requires { length from.now ≤ length to.old }
     ensures { to.new ≡ from.now ++ drop (length from.now) to.old }
 {
-    let mut i = 0;
-    while i < from.len() {
-        to[i] = from[i];
-        i += 1;
-    }
+    to[..from.len()].copy_from_slice(from);
 }
