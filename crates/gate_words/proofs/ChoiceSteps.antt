@@ -1,14 +1,16 @@
 -- Blocks with one gate for each digit, as a first digit and the rest; and their lengths.
 -- Assumes nothing.
-use mathlib.Core.Path.{◌≡◌, ◌∙◌, refl, sym, ap}
+use mathlib.Core.Path.{◌≡◌, refl, sym, ap}
 use mathlib.Core.List.{[], ◌∷◌, ◌++◌}
 use Prim.Native.Nat.{ℕ, zero, suc, ◌+◌, ◌-◌, ◌<◌, ◌≤◌}
 use native.Mathlib.Nat.{add-zero}
 use native.Mathlib.Omega.{arith}
 use lib.ListN.{length}
+use Rattle.gates.specs.Kind.{operands_of}
+use Rattle.gate_words.specs.declared.writer.Writer.{Writer}
+use Rattle.gate_words.specs.inner.Ready.{WiresReady, ChainReady}
 use Rattle.gate_words.specs.Gates.{gate, and_of, mux_of}
 use Rattle.gate_words.specs.Choice.{choose, masked, chain_of, chain_end}
-use Rattle.basics.proofs.Arithmetic.{count_down}
 
 -- after one digit, one less is left
 pub left_one : (i n : ℕ) → i < n → n - i ≡ suc (n - (i + 1))
@@ -41,11 +43,10 @@ unfolding chain_of
 length_chain kind n s at d zero = refl
 length_chain kind n s at d (suc m) = ap suc (length_chain kind (n + 1) n (at + d) d m)
 
-pub chain_step : (kind n s at d m : ℕ) → 0 < m → chain_of kind n s at d m ≡ (gate kind s at 0 ∷ []) ++ chain_of kind (n + 1) n (at + d) d (m - 1)
-chain_step kind n s at d m h = ap (chain_of kind n s at d) (count_down m h) ∙ first (m - 1)
-  where
-    first : (m : ℕ) → chain_of kind n s at d (suc m) ≡ (gate kind s at 0 ∷ []) ++ chain_of kind (n + 1) n (at + d) d m
-    first m = unfold chain_of in refl
+pub chain_step : (kind n s at d i m : ℕ) → i < m → chain_of kind n s at d (m - i) ≡ (gate kind s at 0 ∷ [])
+    ++ chain_of kind (n + 1) n (at + d) d (m - (i + 1))
+unfolding chain_of
+chain_step kind n s at d i m h = rw (left_one i m h)
 
 -- after the last digit, nothing is left
 pub choose_none : (f x y i n : ℕ) → n ≤ i → choose f x y (n - i) ≡ []
@@ -56,9 +57,14 @@ pub masked_none : (f x i n : ℕ) → n ≤ i → masked f x (n - i) ≡ []
 unfolding masked
 masked_none f x i n h = let e : n - i ≡ 0 = omega arith in rw e
 
-pub chain_none : (kind n s at d m : ℕ) → m ≤ 0 → chain_of kind n s at d m ≡ []
+pub chain_none : (kind n s at d i m : ℕ) → m ≤ i → chain_of kind n s at d (m - i) ≡ []
 unfolding chain_of
-chain_none kind n s at d m h = let e : m ≡ 0 = omega arith in rw e
+chain_none kind n s at d i m h = let e : m - i ≡ 0 = omega arith in rw e
+
+-- a kind with two operands can be chained
+pub chain_ready : (w : Writer) (kind first stride count : ℕ) → operands_of kind ≡ 2 → WiresReady w count first stride count
+    → ChainReady w kind first stride count
+chain_ready w kind first stride count e r = record { room = r.room; below = r.below; near = r.near; two = e }
 
 -- a chain ends where the chain after its first gate ends
 pub chain_next : (n s m : ℕ) → chain_end (n + 1) n m ≡ chain_end n s (suc m)

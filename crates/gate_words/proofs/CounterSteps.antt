@@ -11,15 +11,14 @@ use Rattle.gate_words.specs.Adder.{full_adder, half_adder, increment}
 use Rattle.gate_words.specs.Gates.{gate}
 use Rattle.gate_words.specs.Word.{Below}
 use Rattle.gate_words.specs.Counter.{level, adders, level_sum, count_levels, count_digits_as, count_digits, counter, count_size, Countable}
+use Rattle.gate_words.proofs.ChoiceSteps.{left_one}
 use Rattle.gate_words.proofs.WordSteps.{length_full, length_half, length_increment}
-use Rattle.basics.proofs.Arithmetic.{count_down}
 
-pub level_two : (n s at d e m : ℕ) → 1 < m → level n s at d e m ≡ full_adder n s at (at + d)
-    ++ level (n + 3) (n + 1) (at + d + d) d e (m - 2)
+-- after i adders: the next one, and the rest of the level
+pub level_two : (n s at d e i m : ℕ) → i < m / 2 → level n s at d e (m - 2 * i) ≡ full_adder n s at (at + d)
+    ++ level (n + 3) (n + 1) (at + d + d) d e (m - 2 * (i + 1))
 unfolding level
-level_two n s at d e zero h = absurd (omega arith)
-level_two n s at d e (suc zero) h = absurd (omega arith)
-level_two n s at d e (suc (suc m)) h = let p : suc (suc m) - 2 ≡ m = omega arith in rw p
+level_two n s at d e i m h = let p : m - 2 * i ≡ suc (suc (m - 2 * (i + 1))) = omega arith in rw p
 
 pub level_one : (n s at d e m : ℕ) → m ≡ 1 → level n s at d e m ≡ half_adder n s at e ++ []
 level_one n s at d e m h = ap (level n s at d e) h ∙ one ∙ sym (append-nil (half_adder n s at e))
@@ -51,49 +50,40 @@ length_level n s at d e (suc (suc m)) h =
       length_level (n + 3) (n + 1) (at + d + d) d e m h,
     )
 
--- no level is left
-nothing : (r : ℕ) → r ≤ 0 → r ≡ 0
-nothing r h = omega arith
-
--- the first level of a counter, and the others
-pub count_step : (n at d m x r : ℕ) → 0 < r
-    → count_levels n at d m x r ≡ level n at (at + d) d (x % 2) (m - 1)
-    ++ count_levels (n + 3 * adders (m - 1) (x % 2)) (n + 2) 3 (adders (m - 1) (x % 2)) (x / 2) (r - 1)
-count_step n at d m x r h = ap (count_levels n at d m x) (count_down r h) ∙ first (r - 1)
-  where
-    first : (r : ℕ) → count_levels n at d m x (suc r) ≡ level n at (at + d) d (x % 2) (m - 1)
-        ++ count_levels (n + 3 * adders (m - 1) (x % 2)) (n + 2) 3 (adders (m - 1) (x % 2)) (x / 2) r
-    first r = unfold count_levels in refl
-
-pub count_none : (n at d m x r : ℕ) → r ≤ 0 → count_levels n at d m x r ≡ []
+-- after i levels: the next one, and the others; after the last one, nothing
+pub count_step : (n at d m x i r : ℕ) → i < r
+    → count_levels n at d m x (r - i) ≡ level n at (at + d) d (x % 2) (m - 1)
+    ++ count_levels (n + 3 * adders (m - 1) (x % 2)) (n + 2) 3 (adders (m - 1) (x % 2)) (x / 2) (r - (i + 1))
 unfolding count_levels
-count_none n at d m x r h = rw (nothing r h)
+count_step n at d m x i r h = rw (left_one i r h)
 
-pub digits_step : (low top n at m x r : ℕ) → 0 < r
-    → count_digits_as low top n at m x r
+pub count_none : (n at d m x i r : ℕ) → r ≤ i → count_levels n at d m x (r - i) ≡ []
+unfolding count_levels
+count_none n at d m x i r h = let e : r - i ≡ 0 = omega arith in rw e
+
+pub digits_step : (low top n at m x i r : ℕ) → i < r
+    → count_digits_as low top n at m x (r - i)
     ≡ (gate low (level_sum n at (m - 1) (x % 2)) 0 0 ∷ [])
-    ++ count_digits_as low top (n + 3 * adders (m - 1) (x % 2)) (n + 2) (adders (m - 1) (x % 2)) (x / 2) (r - 1)
-digits_step low top n at m x r h = ap (count_digits_as low top n at m x) (count_down r h) ∙ first (r - 1)
-  where
-    first : (r : ℕ) → count_digits_as low top n at m x (suc r)
-        ≡ (gate low (level_sum n at (m - 1) (x % 2)) 0 0 ∷ [])
-        ++ count_digits_as low top (n + 3 * adders (m - 1) (x % 2)) (n + 2) (adders (m - 1) (x % 2)) (x / 2) r
-    first r = unfold count_digits_as in refl
-
-pub digits_last : (low top n at m x r : ℕ) → r ≤ 0 → count_digits_as low top n at m x r ≡ (gate top at 0 0 ∷ []) ++ []
+    ++ count_digits_as low top (n + 3 * adders (m - 1) (x % 2)) (n + 2) (adders (m - 1) (x % 2)) (x / 2) (r - (i + 1))
 unfolding count_digits_as
-digits_last low top n at m x r h = rw (nothing r h)
+digits_step low top n at m x i r h = rw (left_one i r h)
 
-pub count_size_step : (m x r : ℕ) → 0 < r → count_size m x r ≡ 3 * adders (m - 1) (x % 2)
-    + count_size (adders (m - 1) (x % 2)) (x / 2) (r - 1)
-count_size_step m x r h = ap (count_size m x) (count_down r h) ∙ first (r - 1)
-  where
-    first : (r : ℕ) → count_size m x (suc r) ≡ 3 * adders (m - 1) (x % 2) + count_size (adders (m - 1) (x % 2)) (x / 2) r
-    first r = unfold count_size in refl
+pub digits_last : (low top n at m x i r : ℕ) → r ≤ i → count_digits_as low top n at m x (r - i) ≡ (gate top at 0 0 ∷ []) ++ []
+unfolding count_digits_as
+digits_last low top n at m x i r h = let e : r - i ≡ 0 = omega arith in rw e
 
-pub countable_step : (m x r : ℕ) → 0 < r → Countable m x r → (0 < m) × Countable (adders (m - 1) (x % 2)) (x / 2) (r - 1)
-countable_step m x zero h c = absurd (omega arith)
-countable_step m x (suc r) h c = let e : suc r - 1 ≡ r = omega arith in (c.0, rw e c.1)
+pub count_size_step : (m x i r : ℕ) → i < r → count_size m x (r - i) ≡ 3 * adders (m - 1) (x % 2)
+    + count_size (adders (m - 1) (x % 2)) (x / 2) (r - (i + 1))
+unfolding count_size
+count_size_step m x i r h = rw (left_one i r h)
+
+pub count_size_none : (m x i r : ℕ) → r ≤ i → count_size m x (r - i) ≡ 0
+unfolding count_size
+count_size_none m x i r h = let e : r - i ≡ 0 = omega arith in rw e
+
+pub countable_step : (m x i r : ℕ) → i < r → Countable m x (r - i)
+    → (0 < m) × Countable (adders (m - 1) (x % 2)) (x / 2) (r - (i + 1))
+countable_step m x i r h c = rw (left_one i r h) at c
 
 pub length_count : (n at d m x r : ℕ) → length (count_levels n at d m x r) ≡ count_size m x r
 unfolding count_levels count_size

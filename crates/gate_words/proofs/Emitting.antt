@@ -9,9 +9,9 @@ use Rattle.gates.specs.Gate.{Gate}
 use Rattle.gates.proofs.Laws.{operand_counts_lem}
 use Rattle.gate_words.specs.Gates.{gate, constant, copy_of, not_of, and_of, or_of, xor_of, mux_of}
 use Rattle.gate_words.specs.Emitted.{emitted}
-use Rattle.gate_words.specs.Writing.{Wrote}
+use Rattle.gate_words.specs.Writing.{Room, Wrote}
 use Rattle.gate_words.specs.declared.writer.Writer.{Writer}
-use Rattle.gate_words.proofs.Writing.{wrote_both, wrote_as}
+use Rattle.gate_words.proofs.Writing.{wrote_both, wrote_as, room_after}
 
 none_used : (kind a b c : ℕ) → operands_of kind ≡ 0 → emitted kind a b c ≡ gate kind 0 0 0
 unfolding emitted
@@ -63,6 +63,16 @@ module _ (w : Writer) (t t₁ : List ℕ) (w₁ : Writer) (a b c : ℕ) where
   pub mux_wrote : Wrote w t (emitted 7 a b c ∷ []) t₁ w₁ → Wrote w t (mux_of a b c ∷ []) t₁ w₁
   mux_wrote = wrote_as w t (emitted 7 a b c ∷ []) (mux_of a b c ∷ []) t₁ w₁
       (ap (λ (g : Gate). g ∷ []) (three_used 7 a b c operand_counts_lem.7))
+
+-- room for the second and for the third of three gates
+pub room_second : (w : Writer) (t : List ℕ) (g₁ : Gate) (t₁ : List ℕ) (w₁ : Writer)
+    → Wrote w t (g₁ ∷ []) t₁ w₁ → Room w 3 → Room w₁ 1
+room_second w t g₁ t₁ w₁ a r = room_after w t (g₁ ∷ []) t₁ w₁ 1 3 a (omega arith) r
+
+pub room_third : (w : Writer) (t : List ℕ) (g₁ : Gate) (t₁ : List ℕ) (w₁ : Writer) (g₂ : Gate) (t₂ : List ℕ) (w₂ : Writer)
+    → Wrote w t (g₁ ∷ []) t₁ w₁ → Wrote w₁ t₁ (g₂ ∷ []) t₂ w₂ → Room w 3 → Room w₂ 1
+room_third w t g₁ t₁ w₁ g₂ t₂ w₂ a b r =
+    room_after w₁ t₁ (g₂ ∷ []) t₂ w₂ 1 2 b (omega arith) (room_after w t (g₁ ∷ []) t₁ w₁ 2 3 a (omega arith) r)
 
 -- three gates, one after the other
 pub wrote_three : (w : Writer) (t : List ℕ) (g₁ : Gate) (t₁ : List ℕ) (w₁ : Writer) (g₂ : Gate) (t₂ : List ℕ)

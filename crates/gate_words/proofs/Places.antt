@@ -1,7 +1,7 @@
 -- Wires that exist already.
 -- Assumes nothing.
 use mathlib.Core.Path.{◌≡◌}
-use Prim.Native.Nat.{ℕ, zero, suc, ◌+◌, ◌-◌, ◌<◌, ◌≤◌}
+use Prim.Native.Nat.{ℕ, zero, suc, ◌+◌, ◌-◌, ◌*◌, ◌/◌, ◌<◌, ◌≤◌}
 use native.Mathlib.Omega.{arith}
 use Rattle.gate_words.specs.Word.{Below}
 
@@ -19,8 +19,10 @@ pub below_rest : (n at d m : ℕ) → 0 < m → Below n at d m → Below n (at +
 below_rest n at d zero h b = absurd (omega arith)
 below_rest n at d (suc m) h b = let e : suc m - 1 ≡ m = omega arith in rw e b.1
 
--- the first two, and those after them
-pub below_two : (n at d m : ℕ) → 1 < m → Below n at d m → (at + d < n) × Below n (at + d + d) d (m - 2)
-below_two n at d zero h b = absurd (omega arith)
-below_two n at d (suc zero) h b = absurd (omega arith)
-below_two n at d (suc (suc m)) h b = let e : suc (suc m) - 2 ≡ m = omega arith in (b.1.0, rw e b.1.1)
+pub below_next : (n at d i m : ℕ) → i < m → Below n at d (m - i) → Below n (at + d) d (m - (i + 1))
+below_next n at d i m h b = let e : m - i ≡ suc (m - (i + 1)) = omega arith in (rw e at b).1
+
+-- the first two after i pairs, and those after them
+pub below_two : (n at d i m : ℕ) → i < m / 2 → Below n at d (m - 2 * i)
+    → (at + d < n) × Below n (at + d + d) d (m - 2 * (i + 1))
+below_two n at d i m h b = let e : m - 2 * i ≡ suc (suc (m - 2 * (i + 1))) = omega arith in (rw e at b).1

@@ -1,6 +1,6 @@
 -- Every block is a well-formed list: its operands are earlier wires if the operands that it was given are.
 -- Assumes nothing.
-use mathlib.Core.Path.{◌≡◌, refl, sym, ap, subst}
+use mathlib.Core.Path.{◌≡◌, refl, sym, subst}
 use mathlib.Core.Bool.{Bool, true, false, cond}
 use mathlib.Core.List.{List, [], ◌∷◌, ◌++◌}
 use Prim.Native.Nat.{ℕ, zero, suc, ◌+◌, ◌-◌, ◌*◌, ◌/◌, ◌%◌, ◌≤◌, ◌<◌}
@@ -22,7 +22,7 @@ use Rattle.gate_words.specs.Counter.{level, adders, level_sum, count_levels, cou
 use Rattle.gate_words.proofs.Places.{below_more, below_first}
 use Rattle.gate_words.proofs.Emitting.{bit_none_used}
 use Rattle.gate_words.proofs.WordSteps.{length_full}
-use Rattle.gate_words.proofs.CounterSteps.{length_level, length_count, below_carries, count_size_step, suc_not_zero}
+use Rattle.gate_words.proofs.CounterSteps.{length_level, length_count, below_carries, suc_not_zero}
 
 pub good_constant : (n v : ℕ) → T (good_gate n (constant v))
 good_constant n v = good_none n (v % 2) (omega arith) (bit_none_used (v % 2) (omega arith))
@@ -186,13 +186,10 @@ countable_some m x (suc r) k = k.0
 pub count_digits_good : (low top n at m x r q : ℕ) → low < kind_count → operands_of low ≡ 1 → top < kind_count → operands_of top ≡ 1
     → at < q → n + count_size m x r ≤ q → Countable m x r
     → AllGood q (count_digits_as low top n at m x r)
-unfolding count_digits_as
+unfolding count_digits_as count_size
 count_digits_good low top n at m x zero q l₁ l₂ t₁ t₂ ha h k = (good_one q top at t₁ t₂ ha, tt)
 count_digits_good low top n at m x (suc r) q l₁ l₂ t₁ t₂ ha h k =
-    let t = adders (m - 1) (x % 2) in
-    let size = count_size_step m x (suc r) (omega arith) in
-    let down : suc r - 1 ≡ r = omega arith in
-    let rest = ap (count_size t (x / 2)) down in (
+    let t = adders (m - 1) (x % 2) in (
       good_one q low (level_sum n at (m - 1) (x % 2)) l₁ l₂ (sum_below n at (m - 1) (x % 2) q ha (omega arith)),
       count_digits_good low top (n + 3 * t) (n + 2) t (x / 2) r (suc q) l₁ l₂ t₁ t₂
           (omega (arith, countable_some t (x / 2) r k.1)) (omega arith) k.1,

@@ -7,7 +7,6 @@ use Prim.Native.Nat.{ℕ, zero, suc, ◌+◌, ◌-◌, ◌*◌, ◌/◌, ◌%◌
 use native.Mathlib.Nat.{add-zero, zero-mul, suc-mul, pow-succ'}
 use native.Mathlib.Omega.{arith}
 use lib.ListN.{length}
-use Rattle.basics.proofs.Arithmetic.{count_down}
 use Rattle.gates.proofs.Laws.{Holds, AllGood, holds_append}
 use Rattle.gate_words.specs.Gates.{copy_of, not_of, xor_of}
 use Rattle.gate_words.specs.Word.{ones_at, number, Below}
@@ -17,6 +16,7 @@ use Rattle.gate_words.proofs.Numbers.{Binary, number_none, number_more, ones_non
 use Rattle.gate_words.proofs.GateValues.{holds_first, holds_rest, copy_is, not_is, xor_is}
 use Rattle.gate_words.proofs.CounterSteps.{length_level}
 use Rattle.gate_words.proofs.CounterLaws.{level_law}
+use Rattle.gate_words.proofs.ChoiceSteps.{left_one}
 use Rattle.gate_words.proofs.Places.{below_more}
 use Rattle.gate_words.proofs.PointsBack.{good_xor}
 
@@ -26,15 +26,14 @@ length_rows x dx y dy zero = refl
 length_rows x dx y dy (suc m) = ap suc (length_rows (x + dx) dx (y + dy) dy m)
 
 -- the first sum, and the others
-pub rows_step : (x dx y dy m : ℕ) → 0 < m → xor_rows x dx y dy m ≡ (xor_of x y ∷ []) ++ xor_rows (x + dx) dx (y + dy) dy (m - 1)
-rows_step x dx y dy m h = ap (xor_rows x dx y dy) (count_down m h) ∙ first (m - 1)
-  where
-    first : (m : ℕ) → xor_rows x dx y dy (suc m) ≡ (xor_of x y ∷ []) ++ xor_rows (x + dx) dx (y + dy) dy m
-    first m = unfold xor_rows in refl
-
-pub rows_none : (x dx y dy m : ℕ) → m ≤ 0 → xor_rows x dx y dy m ≡ []
+pub rows_step : (x dx y dy i m : ℕ) → i < m → xor_rows x dx y dy (m - i) ≡ (xor_of x y ∷ [])
+    ++ xor_rows (x + dx) dx (y + dy) dy (m - (i + 1))
 unfolding xor_rows
-rows_none x dx y dy m h = let e : m ≡ 0 = omega arith in rw e
+rows_step x dx y dy i m h = rw (left_one i m h)
+
+pub rows_none : (x dx y dy i m : ℕ) → m ≤ i → xor_rows x dx y dy (m - i) ≡ []
+unfolding xor_rows
+rows_none x dx y dy i m h = let e : m - i ≡ 0 = omega arith in rw e
 
 pub rows_good : (n x dx y dy m : ℕ) → Below n x dx m → Below n y dy m → AllGood n (xor_rows x dx y dy m)
 unfolding xor_rows

@@ -4,10 +4,9 @@ use mathlib.Core.Path.{◌≡◌, ◌∙◌, refl, sym, ap}
 use mathlib.Core.Bool.{Bool, true, false, cond}
 use mathlib.Core.List.{List, [], ◌∷◌, ◌++◌}
 use Prim.Native.Nat.{ℕ, ◌+◌, ◌*◌, ◌≤◌, ◌<◌}
-use native.Mathlib.Numerals.{add-one, add-two, add-three}
 use native.Mathlib.Omega.{arith}
 use lib.Dec.{ltb}
-use lib.ListN.{length, set, length-append}
+use lib.ListN.{length, length-append}
 use lib.Seq.{sets, length-sets}
 use borrow.Author.Tests.{lt-ltb}
 use Rattle.gates.specs.Kind.{operands_of, conditional_of}
@@ -68,11 +67,6 @@ room_after w t gs t₁ w₁ m n a h r =
 -- the table keeps its length
 pub wrote_long : (w : Writer) (t : List ℕ) (gs : List Gate) (t₁ : List ℕ) (w₁ : Writer) → Wrote w t gs t₁ w₁ → length t₁ ≡ length t
 wrote_long w t gs t₁ w₁ a = a.long
-
--- four numbers stored one after the other
-pub sets_four : (t : List ℕ) (at k a b c : ℕ) → sets t at (k ∷ a ∷ b ∷ c ∷ [])
-    ≡ set (set (set (set t at k) (at + 1) a) (at + 2) b) (at + 3) c
-sets_four t at k a b c = rw (add-one at, add-two at, add-three at)
 
 -- the length stays, whether or not the store is made
 kept_long : (done : Bool) (t : List ℕ) (i : ℕ) (vs : List ℕ) → length (cond done (sets t i vs) t) ≡ length t

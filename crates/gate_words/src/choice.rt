@@ -24,10 +24,8 @@ impl Writer {
         ensures { Wrote self table.old (choose f x y digits) table.new result }
     {
         let mut w = self;
-        let mut i: u32 = 0;
-        while i < digits {
+        for i in 0..digits {
             w = w.emit(table, kind::CHOICE, f, x + i, y + i);
-            i += 1;
         }
         w
     }
@@ -38,10 +36,8 @@ impl Writer {
         ensures { Wrote self table.old (masked f x digits) table.new result }
     {
         let mut w = self;
-        let mut i: u32 = 0;
-        while i < digits {
+        for i in 0..digits {
             w = w.emit(table, kind::AND, f, x + i, 0);
-            i += 1;
         }
         w
     }
@@ -62,13 +58,11 @@ impl Writer {
         let mut w = self;
         let mut last = s;
         let mut at = first;
-        let mut left = count;
-        while 0 < left {
+        for _ in 0..count {
             let n = w.wire;
             w = w.emit(table, kind, last, at, 0);
             last = n;
             at += stride;
-            left -= 1;
         }
         w
     }

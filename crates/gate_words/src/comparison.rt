@@ -47,13 +47,11 @@ impl Writer {
         let mut w = self;
         let mut above = up;
         let mut below = down;
-        let mut i: u32 = 0;
-        while i < digits {
+        for i in 0..digits {
             let n = w.wire;
             w = w.compare_next(table, x + i, y + i, above, below);
             above = n + 1;
             below = n + 2;
-            i += 1;
         }
         w
     }
@@ -64,10 +62,8 @@ impl Writer {
         ensures { Wrote self table.old (differences x y digits) table.new result }
     {
         let mut w = self;
-        let mut i: u32 = 0;
-        while i < digits {
+        for i in 0..digits {
             w = w.emit(table, kind::XOR, x + i, y + i, 0);
-            i += 1;
         }
         w
     }
@@ -80,12 +76,10 @@ impl Writer {
     {
         let mut w = self;
         let mut last = s;
-        let mut i: u32 = 0;
-        while i < digits {
+        for i in 0..digits {
             let n = w.wire;
             w = w.emit(table, kind::CHOICE, differ + i, x + i, last);
             last = n;
-            i += 1;
         }
         w
     }

@@ -15,12 +15,10 @@ impl Writer {
         let mut w = self;
         let mut first = x;
         let mut second = y;
-        let mut left = count;
-        while 0 < left {
+        for _ in 0..count {
             w = w.emit(table, kind::XOR, first, second, 0);
             first += dx;
             second += dy;
-            left -= 1;
         }
         w
     }

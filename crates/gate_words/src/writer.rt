@@ -1,5 +1,6 @@
 // The list writer [forms]: a value that says where the next gate goes. Each writing step takes one and returns the
-// next.
+// next. It does not hold the table, which each step is lent: then a step's clause is about plain values, and a writer
+// is copied to remember a place.
 ghost use Rattle.std.specs.Prelude.{◌≡◌, cond, ltb, ◌+◌, ◌*◌, ◌<◌, length, ◌∷◌, []};
 ghost use Rattle.std.proofs.lemmas.List.Edits.{sets};
 ghost use Rattle.gate_words.specs.Limits.{writer_limit};
@@ -31,10 +32,7 @@ fn store(table: &mut [u32], at: usize, kind: u32, a: u32, b: u32, c: u32)
         table.old }
 {
     if at + 3 < table.len() {
-        table[at] = kind;
-        table[at + 1] = a;
-        table[at + 2] = b;
-        table[at + 3] = c;
+        table[at..at + 4].copy_from_slice(&[kind, a, b, c]);
     }
 }
 

@@ -1,0 +1,8 @@
+-- `gate_words::writer::Writer::all_of` meets its contract: it is `chain` at kind 4.
+-- Assumes nothing.
+use Rattle.gates.proofs.Laws.{operand_counts_lem}
+use Rattle.gate_words.proofs.ChoiceSteps.{chain_ready}
+use Rattle.gate_words.proofs.writer.Writer.all_of.Goals as goal
+
+pub chain-requires : goal.chain-requires
+chain-requires c = chain_ready _ _ _ _ _ operand_counts_lem.4 c.requires
