@@ -11,8 +11,8 @@ use lib.Dec.{eqb}
 use lib.ListN.{length, get_or, take, drop, length-take}
 use lib.Seq.{drop-cons, get_or-take, get_or-drop}
 use borrow.Author.Tests.{eq-eqb, ne_eqb}
-use Rattle.gates.specs.declared.place.Place.{Place}
-use Rattle.gates.specs.declared.place.Place.TheVariants.{At, Nowhere}
+use Rattle.std.specs.Prelude.{Some, None}
+use Rattle.std.specs.Prelude as prelude
 use Rattle.gates.specs.Test.{first_above_one}
 use Rattle.jury.specs.declared.shape.Shape.{Shape}
 use Rattle.jury.specs.Shape.{is_ranking, ballot_bytes}
@@ -55,28 +55,28 @@ rows_step d row rows xs h = ap (λ (n : ℕ). rows_of d n xs) {x = rows - row} {
 
 bad_step : (d row rows : ℕ) (xs : List ℕ) → row < rows →
     first_bad_row row (rows_of d (rows - row) xs)
-    ≡ cond (eqb (ones (take d xs)) 1) (first_bad_row (suc row) (rows_of d (rows - suc row) (drop d xs))) (At row)
+    ≡ cond (eqb (ones (take d xs)) 1) (first_bad_row (suc row) (rows_of d (rows - suc row) (drop d xs))) (Some row)
 unfolding first_bad_row
 bad_step d row rows xs h = ap (first_bad_row row) (rows_step d row rows xs h)
 
 pub bad_here : (d row rows : ℕ) (xs : List ℕ) → row < rows → (ones (take d xs) ≡ 1 → ⊥)
-    → first_bad_row row (rows_of d (rows - row) xs) ≡ At row
+    → first_bad_row row (rows_of d (rows - row) xs) ≡ Some row
 bad_here d row rows xs h e =
     bad_step d row rows xs h
-    ∙ ap (λ (t : Bool). cond t (first_bad_row (suc row) (rows_of d (rows - suc row) (drop d xs))) (At row)) (ne_eqb (ones (take d xs)) 1 e)
+    ∙ ap (λ (t : Bool). cond t (first_bad_row (suc row) (rows_of d (rows - suc row) (drop d xs))) (Some row)) (ne_eqb (ones (take d xs)) 1 e)
 
 pub bad_later : (d row rows : ℕ) (xs : List ℕ) → row < rows → ones (take d xs) ≡ 1 →
     first_bad_row row (rows_of d (rows - row) xs) ≡ first_bad_row (suc row) (rows_of d (rows - suc row) (drop d xs))
 bad_later d row rows xs h e =
     bad_step d row rows xs h
-    ∙ ap (λ (t : Bool). cond t (first_bad_row (suc row) (rows_of d (rows - suc row) (drop d xs))) (At row)) (eq-eqb (ones (take d xs)) 1 e)
+    ∙ ap (λ (t : Bool). cond t (first_bad_row (suc row) (rows_of d (rows - suc row) (drop d xs))) (Some row)) (eq-eqb (ones (take d xs)) 1 e)
 
-pub bad_end : (d row rows : ℕ) (xs : List ℕ) → rows ≤ row → first_bad_row row (rows_of d (rows - row) xs) ≡ Nowhere
+pub bad_end : (d row rows : ℕ) (xs : List ℕ) → rows ≤ row → first_bad_row row (rows_of d (rows - row) xs) ≡ None
 unfolding first_bad_row rows_of
 bad_end d row rows xs h = ap (λ (n : ℕ). first_bad_row row (rows_of d n xs)) {x = rows - row} {y = 0} (omega arith)
 
 -- the answer of the tests of ballots, from the outcomes of test 4, of test 5, and of those of the shape's kind
-unfoldable pub judged : Bool → Place → Option Reason → Option Reason
+unfoldable pub judged : Bool → prelude.Option ℕ → Option Reason → Option Reason
 judged size byte kind = first_of (unless size 4 ∷ found_at 5 byte ∷ kind ∷ [])
 
 first_last : (os : List (Option Reason)) → first_of os ≡ first_of (first_of os ∷ [])
@@ -91,7 +91,7 @@ first_both none none os = first_last os
 first_both none (some r) os = refl
 first_both (some r) p os = refl
 
-pub judged_by : (s : Shape) (xs : List ℕ) (size : Bool) (byte : Place) (kind : Option Reason) →
+pub judged_by : (s : Shape) (xs : List ℕ) (size : Bool) (byte : prelude.Option ℕ) (kind : Option Reason) →
     eqb (length xs) (ballot_bytes s) ≡ size → first_above_one 0 xs ≡ byte → first_of (ballot_kind_reasons s xs) ≡ kind →
     first_of (ballot_reasons s xs) ≡ judged size byte kind
 unfolding judged ballot_reasons
@@ -99,7 +99,7 @@ judged_by s xs size byte kind e₁ e₂ e₃ =
     first_both (unless (eqb (length xs) (ballot_bytes s)) 4) (found_at 5 (first_above_one 0 xs))
     (ballot_kind_reasons s xs)
     ∙ ap (λ (t : Bool). judged t (first_above_one 0 xs) (first_of (ballot_kind_reasons s xs))) e₁
-    ∙ ap (λ (p : Place). judged size p (first_of (ballot_kind_reasons s xs))) e₂
+    ∙ ap (λ (p : prelude.Option ℕ). judged size p (first_of (ballot_kind_reasons s xs))) e₂
     ∙ ap (λ (o : Option Reason). judged size byte o) e₃
 
 pub graded_reasons_lem : (s : Shape) (xs : List ℕ) → is_ranking s ≡ false → ballot_kind_reasons s xs ≡ graded_reasons s xs
@@ -110,7 +110,7 @@ pub ranked_reasons_lem : (s : Shape) (xs : List ℕ) → is_ranking s ≡ true �
 unfolding ballot_kind_reasons
 ranked_reasons_lem s xs e = ap (λ (t : Bool). cond t (ranked_reasons s xs) (graded_reasons s xs)) e
 
-pub judged_kind : (kind : Option Reason) → judged true Nowhere kind ≡ kind
+pub judged_kind : (kind : Option Reason) → judged true None kind ≡ kind
 unfolding judged unless found_at first_of
 judged_kind none = refl
 judged_kind (some r) = refl

@@ -2,23 +2,18 @@
 -- Assumes nothing.
 use mathlib.Core.Path.{◌≡◌, refl, sym, ap}
 use mathlib.Core.Bool.{Bool, true, false, cond}
-use Prim.Native.Nat.{ℕ}
-use native.Mathlib.Omega.{arith}
+use Rattle.std.specs.Prelude.{Result, Ok, Err}
 use Rattle.jury.specs.declared.shape.Shape.{Shape}
-use Rattle.jury.specs.declared.shape.ShapeResult.{ShapeResult}
-use Rattle.jury.specs.declared.shape.ShapeResult.TheVariants.{Within, Outside}
-
--- the shape in an answer; if the answer has none, s
-held : Shape → ShapeResult → Shape
-held s (Within x) = x
-held s Outside = s
+use Rattle.jury.specs.declared.reason.Refusal.{Refusal}
+use Rattle.jury.specs.declared.reason.Refusal.TheVariants as refused
 
 -- an accepted shape is the one that was requested
-pub shape_is : (b : Bool) (s x : Shape) → cond b (Within s) Outside ≡ Within x → x ≡ s
-unfolding held
-shape_is true s x e = sym (ap (held s) e)
-shape_is false s x e = let z : ◌≡◌ {A = ℕ} 0 1 = cc in absurd (omega arith)
+pub shape_is : (b : Bool) (s x : Shape) → cond b (Ok s) (Err refused.Shape) ≡ Ok x → x ≡ s
+shape_is true s x e = cc
+shape_is false s x e = cc
 
-pub outside_is : (b : Bool) (s : Shape) → cond b (Within s) Outside ≡ Outside → b ≡ false
-outside_is true s e = let z : ◌≡◌ {A = ℕ} 0 1 = cc in absurd (omega arith)
-outside_is false s e = refl
+-- a refused one is outside the limits, and the refusal is that of shapes
+pub outside_is : (b : Bool) (s : Shape) (r : Refusal) → cond b (Ok s) (Err refused.Shape) ≡ Err r
+    → (b ≡ false) × (r ≡ refused.Shape)
+outside_is true s r e = absurd cc
+outside_is false s r e = (refl, cc)

@@ -6,8 +6,7 @@ use mathlib.Core.Logic.{◌↔◌}
 use mathlib.Core.List.{List}
 use Prim.Native.Nat.{ℕ, ◌<◌}
 use native.Mathlib.Omega.{arith}
-use Rattle.gates.specs.declared.place.Place.{Place}
-use Rattle.gates.specs.declared.place.Place.TheVariants.{At, Nowhere}
+use Rattle.std.specs.Prelude.{Option, Some, None}
 use Rattle.jury.specs.Rankings.{before, not_asymmetric_at, not_asymmetric_in_row, not_asymmetric_in_ballot, first_not_asymmetric, neither_after_nor_before, not_weak_order_after, not_weak_order, first_not_weak_order}
 use Rattle.jury.specs.WeakOrder.{StrictWeakOrder}
 use Rattle.basics.proofs.Flags.{and_both, and_first_fails, and_second_fails}
@@ -19,18 +18,18 @@ module _ (k : ℕ) (xs : List ℕ) (b : ℕ) where
   abbrev NoClash : Type 0
   NoClash = (i j : ℕ) → i < k → j < k → before k xs b i j ≡ true → before k xs b j i ≡ false
 
-  clash_free : not_asymmetric_in_ballot k xs b ≡ Nowhere → NoClash
+  clash_free : not_asymmetric_in_ballot k xs b ≡ None → NoClash
   unfolding not_asymmetric_in_ballot not_asymmetric_in_row
   clash_free e i j hi hj f =
       either (before k xs b j i)
       (λ g.
-      let here : not_asymmetric_at k xs b i j ≡ Nowhere =
+      let here : not_asymmetric_at k xs b i j ≡ None =
       none_first (not_asymmetric_at k xs b i) k (none_first (not_asymmetric_in_row k xs b) k e i hi) j hj in
       let found = clash_here k xs b i j f g in
       let z : ◌≡◌ {A = ℕ} 0 1 = cc in absurd (omega arith))
       (λ g. g)
 
-  free_clash : NoClash → not_asymmetric_in_ballot k xs b ≡ Nowhere
+  free_clash : NoClash → not_asymmetric_in_ballot k xs b ≡ None
   unfolding not_asymmetric_in_ballot not_asymmetric_in_row
   free_clash h =
       first_none (not_asymmetric_in_row k xs b) k
@@ -81,25 +80,25 @@ module _ (k : ℕ) (xs : List ℕ) (b : ℕ) where
     negatively_transitive = g;
   }
 
-  gap_found : Bool → Place
-  gap_found t = cond t (At b) Nowhere
+  gap_found : Bool → Option ℕ
+  gap_found t = cond t (Some b) None
 
-  not_found : (t : Bool) → gap_found t ≡ Nowhere → t ≡ false
+  not_found : (t : Bool) → gap_found t ≡ None → t ≡ false
   unfolding gap_found
   not_found true e = let z : ◌≡◌ {A = ℕ} 0 1 = cc in absurd (omega arith)
   not_found false e = refl
 
 -- the tests pass exactly if every ballot is a strict weak order
 pub passes_orders : (k n : ℕ) (xs : List ℕ) →
-    ((first_not_asymmetric k n xs ≡ Nowhere) × (first_not_weak_order k n xs ≡ Nowhere)) ↔ ((b : ℕ) → b < n → StrictWeakOrder k (before k xs b))
+    ((first_not_asymmetric k n xs ≡ None) × (first_not_weak_order k n xs ≡ None)) ↔ ((b : ℕ) → b < n → StrictWeakOrder k (before k xs b))
 unfolding first_not_asymmetric first_not_weak_order gap_found
 passes_orders k n xs = (
   λ p b h.
       order_of k xs b (clash_free k xs b (none_first (not_asymmetric_in_ballot k xs) n p.0 b h))
-      (gap_free k xs b (not_found k xs b (not_weak_order k xs b) (none_first (λ b. cond (not_weak_order k xs b) (At b) Nowhere) n p.1 b h))),
+      (gap_free k xs b (not_found k xs b (not_weak_order k xs b) (none_first (λ b. cond (not_weak_order k xs b) (Some b) None) n p.1 b h))),
   λ orders. (
     first_none (not_asymmetric_in_ballot k xs) n (λ b h. free_clash k xs b (orders b h).asymmetric),
-    first_none (λ b. cond (not_weak_order k xs b) (At b) Nowhere) n
-        (λ b h. ap (λ (t : Bool). cond t (At b) Nowhere) (free_gap k xs b (orders b h).negatively_transitive)),
+    first_none (λ b. cond (not_weak_order k xs b) (Some b) None) n
+        (λ b h. ap (λ (t : Bool). cond t (Some b) None) (free_gap k xs b (orders b h).negatively_transitive)),
   ),
 )

@@ -8,8 +8,7 @@ use Prim.Native.Nat.{ℕ, zero, suc, ◌+◌, ◌*◌, ◌≤◌, ◌<◌}
 use native.Mathlib.Nat.{mul-le-mul}
 use native.Mathlib.Numerals.{add-one}
 use native.Mathlib.Omega.{arith}
-use Rattle.gates.specs.declared.place.Place.{Place}
-use Rattle.gates.specs.declared.place.Place.TheVariants.{At, Nowhere}
+use Rattle.std.specs.Prelude.{Option, Some, None}
 use Rattle.jury.specs.Rankings.{rank_place, before, or_else, first_over, not_asymmetric_at}
 use Rattle.basics.specs.Below.{some_below}
 use Rattle.basics.proofs.Cases.{below_or_not}
@@ -17,36 +16,36 @@ use Rattle.basics.proofs.Flags.{or_first, or_second}
 use Rattle.basics.proofs.Arithmetic.{row_within}
 
 -- if the searches below i and search i find nothing, those below i + 1 find nothing
-pub first_later : (found : ℕ → Place) (i : ℕ) → first_over i found ≡ Nowhere → found i ≡ Nowhere → first_over (i + 1) found ≡ Nowhere
+pub first_later : (found : ℕ → Option ℕ) (i : ℕ) → first_over i found ≡ None → found i ≡ None → first_over (i + 1) found ≡ None
 unfolding first_over or_else
-first_later found i none here = ap (λ (m : ℕ). first_over m found) (add-one i) ∙ ap (λ (r : Place). or_else r (found i)) none ∙ here
+first_later found i none here = ap (λ (m : ℕ). first_over m found) (add-one i) ∙ ap (λ (r : Option ℕ). or_else r (found i)) none ∙ here
 
 -- the first search that finds a place decides
-pub first_here : (found : ℕ → Place) (m i place : ℕ) → i < m → first_over i found ≡ Nowhere → found i ≡ At place
-    → first_over m found ≡ At place
+pub first_here : (found : ℕ → Option ℕ) (m i place : ℕ) → i < m → first_over i found ≡ None → found i ≡ Some place
+    → first_over m found ≡ Some place
 unfolding first_over or_else
 first_here found zero i place h none here = absurd (omega arith)
 first_here found (suc m) i place h none here =
-    ⊎_elim (λ l. ap (λ (r : Place). or_else r (found m)) (first_here found m i place l none here))
-    (λ l. let e : m ≡ i = omega arith in rw e (ap (λ (r : Place). or_else r (found i)) none ∙ here)) (below_or_not i m)
+    ⊎_elim (λ l. ap (λ (r : Option ℕ). or_else r (found m)) (first_here found m i place l none here))
+    (λ l. let e : m ≡ i = omega arith in rw e (ap (λ (r : Option ℕ). or_else r (found i)) none ∙ here)) (below_or_not i m)
 
 -- the whole search finds nothing exactly if no single search finds anything
-pub first_none : (found : ℕ → Place) (m : ℕ) → ((i : ℕ) → i < m → found i ≡ Nowhere) → first_over m found ≡ Nowhere
+pub first_none : (found : ℕ → Option ℕ) (m : ℕ) → ((i : ℕ) → i < m → found i ≡ None) → first_over m found ≡ None
 unfolding first_over or_else
 first_none found zero h = refl
-first_none found (suc m) h = ap (λ (r : Place). or_else r (found m)) (first_none found m (λ i l. h i (omega arith))) ∙ h m (omega arith)
+first_none found (suc m) h = ap (λ (r : Option ℕ). or_else r (found m)) (first_none found m (λ i l. h i (omega arith))) ∙ h m (omega arith)
 
-or_else_first : (p q : Place) → or_else p q ≡ Nowhere → p ≡ Nowhere
+or_else_first : (p q : Option ℕ) → or_else p q ≡ None → p ≡ None
 unfolding or_else
-or_else_first (At place) q e = e
-or_else_first Nowhere q e = refl
+or_else_first (Some place) q e = e
+or_else_first None q e = refl
 
-or_else_second : (p q : Place) → or_else p q ≡ Nowhere → q ≡ Nowhere
+or_else_second : (p q : Option ℕ) → or_else p q ≡ None → q ≡ None
 unfolding or_else
-or_else_second (At place) q e = let z : ◌≡◌ {A = ℕ} 0 1 = cc in absurd (omega arith)
-or_else_second Nowhere q e = e
+or_else_second (Some place) q e = let z : ◌≡◌ {A = ℕ} 0 1 = cc in absurd (omega arith)
+or_else_second None q e = e
 
-pub none_first : (found : ℕ → Place) (m : ℕ) → first_over m found ≡ Nowhere → (i : ℕ) → i < m → found i ≡ Nowhere
+pub none_first : (found : ℕ → Option ℕ) (m : ℕ) → first_over m found ≡ None → (i : ℕ) → i < m → found i ≡ None
 unfolding first_over
 none_first found zero e i h = absurd (omega arith)
 none_first found (suc m) e i h =
@@ -108,15 +107,15 @@ ballot_within k n b h = mul-le-mul {n₁ = (b + 1) * k} {m₁ = k} {n₂ = n * k
 
 -- a byte that is 1 together with its opposite is found; any other byte is not
 pub clash_here : (k : ℕ) (xs : List ℕ) (b i j : ℕ) → before k xs b i j ≡ true → before k xs b j i ≡ true
-    → not_asymmetric_at k xs b i j ≡ At (rank_place k b i j)
+    → not_asymmetric_at k xs b i j ≡ Some (rank_place k b i j)
 unfolding not_asymmetric_at
 clash_here k xs b i j e f = rw (e, f)
 
-pub clash_not_forth : (k : ℕ) (xs : List ℕ) (b i j : ℕ) → before k xs b i j ≡ false → not_asymmetric_at k xs b i j ≡ Nowhere
+pub clash_not_forth : (k : ℕ) (xs : List ℕ) (b i j : ℕ) → before k xs b i j ≡ false → not_asymmetric_at k xs b i j ≡ None
 unfolding not_asymmetric_at
 clash_not_forth k xs b i j e = rw e
 
 pub clash_not_back : (k : ℕ) (xs : List ℕ) (b i j : ℕ) → before k xs b i j ≡ true → before k xs b j i ≡ false
-    → not_asymmetric_at k xs b i j ≡ Nowhere
+    → not_asymmetric_at k xs b i j ≡ None
 unfolding not_asymmetric_at
 clash_not_back k xs b i j e f = rw (e, f)

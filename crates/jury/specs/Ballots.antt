@@ -1,8 +1,7 @@
 -- Ballots, and the tests that they have to pass.
-use Rattle.std.specs.Prelude.{cond, List, [], ◌∷◌, ℕ, zero, suc, ◌*◌, eqb, length, take, drop}
+use Rattle.std.specs.Prelude.{cond, List, [], ◌∷◌, ℕ, zero, suc, ◌*◌, eqb, length, take, drop, Some, None}
+use Rattle.std.specs.Prelude as prelude
 use Rattle.std.proofs.Math.Option.{Option}
-use Rattle.gates.specs.declared.place.Place.{Place}
-use Rattle.gates.specs.declared.place.Place.TheVariants.{At, Nowhere}
 use Rattle.gates.specs.Test.{first_above_one}
 use Rattle.jury.specs.declared.shape.Shape.{Shape}
 use Rattle.jury.specs.Shape.{is_ranking, ballot_bytes}
@@ -25,9 +24,9 @@ abbrev pub ballots_in : Shape → List ℕ → List (List ℕ)
 ballots_in s xs = rows_of (s.candidates * s.grades) s.ballots xs
 
 -- The place of the first row that has no 1 or several. The first of these rows has place i.
-unfoldable pub first_bad_row : ℕ → List (List ℕ) → Place
-first_bad_row i [] = Nowhere
-first_bad_row i (row ∷ rows) = cond (eqb (ones row) 1) (first_bad_row (suc i) rows) (At i)
+unfoldable pub first_bad_row : ℕ → List (List ℕ) → prelude.Option ℕ
+first_bad_row i [] = None
+first_bad_row i (row ∷ rows) = cond (eqb (ones row) 1) (first_bad_row (suc i) rows) (Some i)
 
 -- The reasons of graded ballots: only 6.
 unfoldable pub graded_reasons : Shape → List ℕ → List (Option Reason)

@@ -1,16 +1,13 @@
 -- The reasons for which a call is refused, by their numbers, and the order of tests [order].
-use Rattle.std.specs.Prelude.{Bool, true, false, List, [], ◌∷◌, ℕ}
+use Rattle.std.specs.Prelude.{Bool, true, false, List, [], ◌∷◌, ℕ, Some, None, Result, Ok, Err}
+use Rattle.std.specs.Prelude as prelude
 use Rattle.std.proofs.Math.Option.{Option, none, some}
-use Rattle.gates.specs.declared.place.Place.{Place}
-use Rattle.gates.specs.declared.place.Place.TheVariants.{At, Nowhere}
-use Rattle.gates.specs.declared.list.ListCheck.{ListCheck}
-use Rattle.gates.specs.declared.list.ListCheck.TheVariants as tested
+use Rattle.gates.specs.declared.list.ListSize.{ListSize}
+use Rattle.gates.specs.declared.list.ListFault.{ListFault}
+use Rattle.gates.specs.declared.list.ListFault.TheVariants.{PartOfAGate, TooFewGates, TooManyGates, BadGate}
 use Rattle.jury.specs.declared.reason.Refusal.{Refusal}
 use Rattle.jury.specs.declared.reason.Refusal.TheVariants.{Shape, Table, Gate, BallotsLength, BallotByte, BallotRow, NotAsymmetric, NotWeakOrder, TapeLength, TapeByte, WiresLength, BoardLength, Urn, Juror, FullUrn, Trustees, PartTables, Dealing, Juries, GatesPerRound}
-use Rattle.jury.specs.declared.shape.ShapeResult.{ShapeResult}
-use Rattle.jury.specs.declared.shape.ShapeResult.TheVariants.{Within, Outside}
-use Rattle.jury.specs.declared.reason.Verdict.{Verdict}
-use Rattle.jury.specs.declared.reason.Verdict.TheVariants.{Accepted, Refused}
+use Rattle.jury.specs.declared.shape.Shape as shape
 
 -- A reason: its number and its place.
 pub record Reason : Type 0 where
@@ -44,15 +41,15 @@ reason_of Dealing = reason_at 18 0
 reason_of Juries = reason_at 19 0
 reason_of GatesPerRound = reason_at 20 0
 
--- The reason of a verdict, if it is a refusal.
-unfoldable pub refused_for : Verdict → Option Reason
-refused_for Accepted = none
-refused_for (Refused r) = some (reason_of r)
+-- The reason of a test's outcome, if it is a refusal.
+unfoldable pub refused_for : Result (Unit {0}) Refusal → Option Reason
+refused_for (Ok u) = none
+refused_for (Err r) = some (reason_of r)
 
--- The reason for which the constructor of shapes refuses: 1, or none if it does not refuse.
-unfoldable pub shaped_for : ShapeResult → Option Reason
-shaped_for (Within s) = none
-shaped_for Outside = some (reason_at 1 0)
+-- The reason for which the constructor of shapes refuses, or none if it does not refuse.
+unfoldable pub shaped_for : Result shape.Shape Refusal → Option Reason
+shaped_for (Ok s) = none
+shaped_for (Err r) = some (reason_of r)
 
 -- No reason if the test passes; else the reason with this number. It has no place, so its place is 0.
 unfoldable pub unless : Bool → ℕ → Option Reason
@@ -60,18 +57,22 @@ unless true number = none
 unless false number = some (reason_at number 0)
 
 -- No reason if a search found nothing; else the reason with this number, at the place that was found.
-unfoldable pub found_at : ℕ → Place → Option Reason
-found_at number Nowhere = none
-found_at number (At place) = some (reason_at number place)
+unfoldable pub found_at : ℕ → prelude.Option ℕ → Option Reason
+found_at number None = none
+found_at number (Some place) = some (reason_at number place)
+
+-- The refusal for each thing that can be wrong with a gate list.
+unfoldable pub refusal_of : ListFault → Refusal
+refusal_of PartOfAGate = Table
+refusal_of TooFewGates = Table
+refusal_of TooManyGates = Table
+refusal_of (BadGate g) = Gate g
 
 -- The reason [order] for each answer of the gate layer's test: 2 if the table has no whole number of gates, or too
 -- few or too many gates; 3 at the first bad gate.
-unfoldable pub list_reason : ListCheck → Option Reason
-list_reason (tested.Accepted gates conditional) = none
-list_reason tested.PartOfAGate = some (reason_at 2 0)
-list_reason tested.TooFewGates = some (reason_at 2 0)
-list_reason tested.TooManyGates = some (reason_at 2 0)
-list_reason (tested.BadGate g) = some (reason_at 3 g)
+unfoldable pub list_reason : Result ListSize ListFault → Option Reason
+list_reason (Ok size) = none
+list_reason (Err fault) = some (reason_of (refusal_of fault))
 
 -- The first reason that applies, from the outcomes of the tests in their order.
 unfoldable pub first_of : List (Option Reason) → Option Reason

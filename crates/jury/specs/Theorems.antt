@@ -1,8 +1,7 @@
 -- What holds for widths, the tests of ballots, and counts, as statements; proofs/Theorems.antt has a proof of each.
-use Rattle.std.specs.Prelude.{◌≡◌, true, ◌↔◌, ℕ, suc, ◌/◌, ◌<◌, take}
+use Rattle.std.specs.Prelude.{◌≡◌, true, ◌↔◌, ℕ, suc, ◌/◌, ◌<◌, take, None}
 use Rattle.std.proofs.Math.Option.{none}
 use mathlib.Core.List.{List, ◌∷◌, Perm}
-use Rattle.gates.specs.declared.place.Place.TheVariants.{Nowhere}
 use Rattle.jury.specs.declared.shape.Shape.{Shape}
 use Rattle.jury.specs.Shape.{within_limits, graded_limits, ballot_bytes}
 use Rattle.jury.specs.Width.{width_of}
@@ -28,7 +27,7 @@ pub record TestsAccept : Type 0 where
   pub grades : (s : Shape) (xs : List ℕ) → graded_limits s ≡ true → AcceptedBallots s xs ↔ GradedBallots s xs
   -- neither 11 nor 12 finds a fault exactly if every ranking is a strict weak order
   pub rankings : (k n : ℕ) (xs : List ℕ)
-      → ((first_not_asymmetric k n xs ≡ Nowhere) × (first_not_weak_order k n xs ≡ Nowhere))
+      → ((first_not_asymmetric k n xs ≡ None) × (first_not_weak_order k n xs ≡ None))
       ↔ ((b : ℕ) → b < n → StrictWeakOrder k (before k xs b))
 
 -- Grade counts of accepted ballots.

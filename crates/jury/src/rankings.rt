@@ -2,69 +2,57 @@
 ghost use Rattle.std.specs.Prelude.{◌≡◌, ◌+◌, ◌*◌, ◌≤◌, ◌<◌, length};
 ghost use Rattle.jury.specs.Rankings as spec;
 
-use gates::place::Place;
-
 // Reason 11: the first byte, through all ballots, that is 1 and whose opposite is 1 too.
-pub fn first_not_asymmetric(ballots: &[u8], k: usize, n: usize) -> Place
+pub fn first_not_asymmetric(ballots: &[u8], k: usize, n: usize) -> Option<usize>
     requires { length ballots.now ≡ n * k * k }
     ensures { result ≡ spec.first_not_asymmetric k n ballots.now }
 {
-    let mut b = 0;
-    while b < n {
-        match not_asymmetric_in_ballot(ballots, k, b) {
-            Place::At(place) => return Place::At(place),
-            Place::Nowhere => {}
+    for b in 0..n {
+        if let Some(place) = not_asymmetric_in_ballot(ballots, k, b) {
+            return Some(place);
         }
-        b += 1;
     }
-    Place::Nowhere
+    None
 }
 
 // Reason 11 in ballot b only.
-fn not_asymmetric_in_ballot(ballots: &[u8], k: usize, b: usize) -> Place
+fn not_asymmetric_in_ballot(ballots: &[u8], k: usize, b: usize) -> Option<usize>
     requires { (b + 1) * k * k ≤ length ballots.now }
     ensures { result ≡ spec.not_asymmetric_in_ballot k ballots.now b }
 {
-    let mut i = 0;
-    while i < k {
-        match not_asymmetric_in_row(ballots, k, b, i) {
-            Place::At(place) => return Place::At(place),
-            Place::Nowhere => {}
+    for i in 0..k {
+        if let Some(place) = not_asymmetric_in_row(ballots, k, b, i) {
+            return Some(place);
         }
-        i += 1;
     }
-    Place::Nowhere
+    None
 }
 
 // Reason 11 in row i of ballot b only.
-fn not_asymmetric_in_row(ballots: &[u8], k: usize, b: usize, i: usize) -> Place
+fn not_asymmetric_in_row(ballots: &[u8], k: usize, b: usize, i: usize) -> Option<usize>
     requires { ((b + 1) * k * k ≤ length ballots.now) × (i < k) }
     ensures { result ≡ spec.not_asymmetric_in_row k ballots.now b i }
 {
-    let mut j = 0;
-    while j < k {
+    for j in 0..k {
         if is_before(ballots, k, b, i, j) && is_before(ballots, k, b, j, i) {
-            return Place::At((b * k + i) * k + j);
+            return Some((b * k + i) * k + j);
         }
-        j += 1;
     }
-    Place::Nowhere
+    None
 }
 
 // Reason 12: the first ballot in which some i is before some j, and a third candidate is not after i and not before
 // j.
-pub fn first_not_weak_order(ballots: &[u8], k: usize, n: usize) -> Place
+pub fn first_not_weak_order(ballots: &[u8], k: usize, n: usize) -> Option<usize>
     requires { length ballots.now ≡ n * k * k }
     ensures { result ≡ spec.first_not_weak_order k n ballots.now }
 {
-    let mut b = 0;
-    while b < n {
+    for b in 0..n {
         if not_weak_order(ballots, k, b) {
-            return Place::At(b);
+            return Some(b);
         }
-        b += 1;
     }
-    Place::Nowhere
+    None
 }
 
 // Whether reason 12 applies to ballot b.

@@ -1,6 +1,8 @@
 // The reasons for which a call is refused [order].
 ghost use Rattle.std.specs.Prelude.{◌≡◌};
-ghost use Rattle.jury.specs.Reason.{reason_of};
+ghost use Rattle.jury.specs.Reason.{reason_of, refusal_of};
+
+use gates::list::ListFault;
 
 // First the reasons of a run, in the order of its tests; then those of the urn (13 to 15), of the trustees (16 to
 // 18) and of the dispatcher (19, 20). If a case holds a number, that is the place.
@@ -28,15 +30,21 @@ pub enum Refusal {
     GatesPerRound,
 }
 
-// The outcome of a test: it passed, or the reason why not.
-#[derive(Clone, Copy)]
-pub enum Verdict {
-    Accepted,
-    Refused(Refusal),
+impl From<ListFault> for Refusal {
+    ghost from_gives = { λ fault refusal. refusal ≡ refusal_of fault };
+
+    #[tactic(auto, unfolding(crate::specs::Reason::refusal_of))]
+    fn from(fault: ListFault) -> Refusal {
+        match fault {
+            ListFault::PartOfAGate | ListFault::TooFewGates | ListFault::TooManyGates => Refusal::Table,
+            ListFault::BadGate(g) => Refusal::Gate(g),
+        }
+    }
 }
 
 impl Refusal {
     // The number of a reason [order].
+    #[tactic(auto, unfolding(crate::specs::Reason::reason_of, crate::specs::Reason::reason_at))]
     pub fn number(self) -> usize
         ensures { result ≡ (reason_of self).number }
     {
@@ -65,30 +73,18 @@ impl Refusal {
     }
 
     // The place of a reason, 0 if it has none.
+    #[tactic(auto, unfolding(crate::specs::Reason::reason_of, crate::specs::Reason::reason_at))]
     pub fn place(self) -> usize
         ensures { result ≡ (reason_of self).place }
     {
         match self {
-            Refusal::Gate(g) => g,
-            Refusal::BallotByte(i) => i,
-            Refusal::BallotRow(r) => r,
-            Refusal::NotAsymmetric(i) => i,
-            Refusal::NotWeakOrder(b) => b,
-            Refusal::TapeByte(i) => i,
-            Refusal::Shape => 0,
-            Refusal::Table => 0,
-            Refusal::BallotsLength => 0,
-            Refusal::TapeLength => 0,
-            Refusal::WiresLength => 0,
-            Refusal::BoardLength => 0,
-            Refusal::Urn => 0,
-            Refusal::Juror => 0,
-            Refusal::FullUrn => 0,
-            Refusal::Trustees => 0,
-            Refusal::PartTables => 0,
-            Refusal::Dealing => 0,
-            Refusal::Juries => 0,
-            Refusal::GatesPerRound => 0,
+            Refusal::Gate(place)
+            | Refusal::BallotByte(place)
+            | Refusal::BallotRow(place)
+            | Refusal::NotAsymmetric(place)
+            | Refusal::NotWeakOrder(place)
+            | Refusal::TapeByte(place) => place,
+            _ => 0,
         }
     }
 }

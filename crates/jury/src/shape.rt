@@ -5,6 +5,8 @@ ghost use Rattle.jury.specs.Shape.{is_ranking, graded_limits, ranked_limits, wit
 ghost use Rattle.jury.specs.Shaped.{Shaped};
 ghost use Rattle.jury.specs.Shape as spec;
 
+use crate::reason::Refusal;
+
 // A candidate is a blend. The fields can also hold numbers outside the limits [limits], so that a call can refuse
 // them.
 #[derive(Clone, Copy)]
@@ -16,13 +18,6 @@ pub struct Shape {
 
 // The closing bytes of a jury: one for each candidate, 0 past the last.
 pub type ClosingBytes = [u8; Shape::MOST_CANDIDATES];
-
-// What the constructor answers.
-#[derive(Clone, Copy)]
-pub enum ShapeResult {
-    Within(Shape),
-    Outside,
-}
 
 impl Shape {
     pub const LEAST_CANDIDATES: usize = 1;
@@ -37,8 +32,8 @@ impl Shape {
 
     pub const MOST_BALLOTS: usize = 255;
 
-    // The shape with these numbers, or `Outside` if one of them is outside its limits.
-    pub fn new(candidates: usize, grades: usize, ballots: usize) -> ShapeResult
+    // The shape with these numbers, or the refusal if one of them is outside its limits.
+    pub fn new(candidates: usize, grades: usize, ballots: usize) -> Result<Shape, Refusal>
         ensures { Shaped (record { candidates = candidates; grades = grades; ballots = ballots }) result }
     {
         let shape = Shape {
@@ -47,9 +42,9 @@ impl Shape {
             ballots,
         };
         if shape.is_within_limits() {
-            ShapeResult::Within(shape)
+            Ok(shape)
         } else {
-            ShapeResult::Outside
+            Err(Refusal::Shape)
         }
     }
 
