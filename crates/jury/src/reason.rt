@@ -1,6 +1,6 @@
 // The reasons for which a call is refused [order].
 ghost use Rattle.std.specs.Prelude.{◌≡◌};
-ghost use Rattle.jury.specs.Reason.{reason_of, refusal_of};
+ghost use Rattle.jury.specs.Reason.{Reason, reason_of, refusal_of};
 
 use gates::list::ListFault;
 
@@ -42,12 +42,25 @@ impl From<ListFault> for Refusal {
     }
 }
 
-impl Refusal {
-    // The number of a reason [order].
+// A refusal, of this crate or of one above it, has a number, and a place that is 0 if there is none.
+pub trait Numbered: Copy {
+    // What is told of a refusal.
+    ghost told: { Self → Reason };
+
+    // The number of the reason.
+    fn number(self) -> usize
+        ensures { result ≡ (told self).number };
+
+    // The place of the reason, 0 if it has none.
+    fn place(self) -> usize
+        ensures { result ≡ (told self).place };
+}
+
+impl Numbered for Refusal {
+    ghost told = { reason_of };
+
     #[tactic(auto, unfolding(crate::specs::Reason::reason_of, crate::specs::Reason::reason_at))]
-    pub fn number(self) -> usize
-        ensures { result ≡ (reason_of self).number }
-    {
+    fn number(self) -> usize {
         match self {
             Refusal::Shape => 1,
             Refusal::Table => 2,
@@ -72,11 +85,8 @@ impl Refusal {
         }
     }
 
-    // The place of a reason, 0 if it has none.
     #[tactic(auto, unfolding(crate::specs::Reason::reason_of, crate::specs::Reason::reason_at))]
-    pub fn place(self) -> usize
-        ensures { result ≡ (reason_of self).place }
-    {
+    fn place(self) -> usize {
         match self {
             Refusal::Gate(place)
             | Refusal::BallotByte(place)
