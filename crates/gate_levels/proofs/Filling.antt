@@ -14,7 +14,7 @@ use borrow.Author.Tests.{ltb-false}
 use Rattle.gates.specs.Kind.{conditional_of}
 use Rattle.gates.specs.Gate.{Gate, gates_of, gate_at}
 use Rattle.gates.specs.Test.{first_bad}
-use Rattle.gates.specs.declared.place.Place.TheVariants.{Nowhere}
+use Rattle.std.specs.Prelude.{Some, None}
 use Rattle.gates.proofs.Table.{length_gates, gates_from}
 use Rattle.gates.proofs.Reading.{gate_numbers}
 use Rattle.gates.proofs.Counting.{mark_at_most_one}
@@ -22,7 +22,6 @@ use Rattle.gates.proofs.Laws.{AllGood, all_good}
 use Rattle.gate_levels.specs.Levels.{wire_level, gate_level, levels_from, levels_of, rounds_of}
 use Rattle.gate_levels.specs.inner.Filling.{LevelReady}
 use Rattle.gate_levels.specs.Compared.{compared}
-use Rattle.gate_levels.specs.declared.level.Compared.TheVariants.{Own, Other}
 use Rattle.gates.proofs.Reading.{Below, operands_below}
 use Rattle.basics.specs.Lists.{maximum, same_numbers}
 use Rattle.basics.proofs.Same.{same_refl, same_true}
@@ -38,7 +37,7 @@ module _ (inputs : ℕ) (table : List ℕ) where
     pub most_is : most ≡ maximum (take g levels)
     pub small : maximum (take g levels) ≤ g
 
-  pub left_start : (levels : List ℕ) → first_bad inputs 0 (gates_of table) ≡ Nowhere → length levels
+  pub left_start : (levels : List ℕ) → first_bad inputs 0 (gates_of table) ≡ None → length levels
       ≡ length (gates_of table) → Left levels 0 0
   unfolding levels_of maximum
   left_start levels good long =
@@ -115,7 +114,7 @@ module _ (inputs : ℕ) (table : List ℕ) where
           })
 
       -- if the table has another number here, its levels are not the list's own
-      pub other : (get_or levels g 0 ≡ v → ⊥) → Other ≡ compared inputs (gates_of table) levels
+      pub other : (get_or levels g 0 ≡ v → ⊥) → None ≡ compared inputs (gates_of table) levels
       unfolding compared
       other differs = go (same_numbers levels (levels_of inputs (gates_of table))) refl
         where
@@ -128,8 +127,8 @@ module _ (inputs : ℕ) (table : List ℕ) where
               ∙ levels_keep inputs (take g levels ++ (v ∷ [])) later g (omega (arith, length-append (take g levels) (v ∷ []), prefix_long))
               ∙ ap (λ (n : ℕ). get_or (take g levels ++ (v ∷ [])) n 0) (sym prefix_long) ∙ get_or-append_seam (take g levels) v [] 0
 
-          go : (b : Bool) → same_numbers levels (levels_of inputs (gates_of table)) ≡ b → Other
-              ≡ cond b (Own (rounds_of inputs (gates_of table))) Other
+          go : (b : Bool) → same_numbers levels (levels_of inputs (gates_of table)) ≡ b → None
+              ≡ cond b (Some (rounds_of inputs (gates_of table))) None
           go true e = absurd (differs (ap (λ (l : List ℕ). get_or l g 0) (same_true levels (levels_of inputs (gates_of table)) e) ∙ at))
           go false e = refl
 
@@ -144,12 +143,12 @@ module _ (inputs : ℕ) (table : List ℕ) where
       (e, left.most_is ∙ ap maximum (all ∙ e))
 
   pub own_levels : (levels : List ℕ) (most g : ℕ) → Left levels most g → length (gates_of table) ≤ g → (rounds : ℕ)
-      → rounds ≡ most → Own rounds ≡ compared inputs (gates_of table) levels
+      → rounds ≡ most → Some rounds ≡ compared inputs (gates_of table) levels
   unfolding compared
   own_levels levels most g left h rounds e =
       let f = left_end levels most g left h in
       let same : same_numbers levels (levels_of inputs (gates_of table)) ≡ true = ap (same_numbers levels) (sym f.0) ∙ same_refl levels in
-      rw same (ap Own (e ∙ f.1))
+      rw same (ap Some (e ∙ f.1))
 
 -- the level of one gate, by its numbers in the table
 module _ (inputs : ℕ) (table : List ℕ) (g : ℕ) (levels : List ℕ) (ready : LevelReady inputs table g levels)

@@ -1,6 +1,6 @@
 // Writes the levels of a list, or compares a lent table with them. No function here is an entry point: the test of
 // the list establishes what each `requires` asks.
-ghost use Rattle.std.specs.Prelude.{◌≡◌, ◌+◌, ◌<◌, max, length};
+ghost use Rattle.std.specs.Prelude.{◌≡◌, ◌+◌, ◌<◌, length};
 ghost use Rattle.gates.specs.Gate.{gates_of, gate_at};
 ghost use Rattle.gates.specs.inner.Marked.{Marked};
 ghost use Rattle.gate_levels.specs.Levels.{wire_level, gate_level};
@@ -9,20 +9,6 @@ ghost use Rattle.gate_levels.specs.Compared.{compared};
 
 use gates::kind;
 use gates::kind::ConditionalMarks;
-
-// Whether a lent table holds the list's own levels. If it does, also the number of rounds.
-#[derive(Drop)]
-pub enum Compared {
-    Own { rounds: usize },
-    Other,
-}
-
-// The larger of two levels.
-fn larger(a: u32, b: u32) -> u32
-    ensures { result ≡ max a b }
-{
-    if a < b { b } else { a }
-}
 
 // A level as a number of rounds.
 pub fn rounds(level: u32) -> usize
@@ -59,11 +45,8 @@ fn gate_level(
     let a = wire_level(inputs, levels, table[at + 1]);
     let b = wire_level(inputs, levels, table[at + 2]);
     let c = wire_level(inputs, levels, table[at + 3]);
-    let deepest = larger(larger(a, b), c);
-    if kind::conditional(marks, table[at]) {
-        return deepest + 1;
-    }
-    deepest
+    let deepest = a.max(b).max(c);
+    deepest + u32::from(kind::conditional(marks, table[at]))
 }
 
 // Writes the level of each gate, and returns the largest, R.
@@ -72,35 +55,28 @@ pub fn write(inputs: usize, table: &[u32], levels: &mut [u32]) -> usize
     ensures { Filled inputs table.now result levels.new }
 {
     let marks = kind::CONDITIONAL;
-    let gates = levels.len();
     let mut most: u32 = 0;
-    let mut g = 0;
-    while g < gates {
+    for g in 0..levels.len() {
         let level = gate_level(&marks, inputs, table, g, levels);
         levels[g] = level;
-        most = larger(most, level);
-        g += 1;
+        most = most.max(level);
     }
     rounds(most)
 }
 
-// Compares a table with the list's own levels, gate by gate, and finds the largest of them.
-pub fn compare(inputs: usize, table: &[u32], levels: &[u32]) -> Compared
+// Compares a table with the list's own levels, gate by gate. If it holds them, finds the largest, R.
+pub fn compare(inputs: usize, table: &[u32], levels: &[u32]) -> Option<usize>
     requires { LevelsReady inputs table.now levels.now }
     ensures { result ≡ compared inputs (gates_of table.now) levels.now }
 {
     let marks = kind::CONDITIONAL;
     let mut most: u32 = 0;
-    let mut g = 0;
-    while g < levels.len() {
+    for (g, given) in levels.iter().enumerate() {
         let level = gate_level(&marks, inputs, table, g, levels);
-        if levels[g] != level {
-            return Compared::Other;
+        if *given != level {
+            return None;
         }
-        most = larger(most, level);
-        g += 1;
+        most = most.max(level);
     }
-    Compared::Own {
-        rounds: rounds(most),
-    }
+    Some(rounds(most))
 }

@@ -1,8 +1,7 @@
 -- What inner functions ask for and leave; no entry point's contract needs it.
-use Rattle.std.specs.Prelude.{◌≡◌, List, ℕ, ◌+◌, ◌*◌, ◌≤◌, ◌<◌, length, get_or}
+use Rattle.std.specs.Prelude.{◌≡◌, List, ℕ, ◌+◌, ◌*◌, ◌≤◌, ◌<◌, length, get_or, None}
 use Rattle.gates.specs.Gate.{gates_of, gate_at}
 use Rattle.gates.specs.Test.{first_bad, most_gates}
-use Rattle.gates.specs.declared.place.Place.TheVariants.{Nowhere}
 use Rattle.gate_levels.specs.Levels.{levels_of, rounds_of}
 
 -- For the level of gate g: its numbers are in the table, its operands name inputs or earlier gates, and the levels
@@ -21,7 +20,7 @@ pub record LevelReady (inputs : ℕ) (table : List ℕ) (g : ℕ) (levels : List
 pub record LevelsReady (inputs : ℕ) (table levels : List ℕ) : Type 0 where
   pub some_input : 1 ≤ inputs
   pub few : length (gates_of table) ≤ most_gates
-  pub good : first_bad inputs 0 (gates_of table) ≡ Nowhere
+  pub good : first_bad inputs 0 (gates_of table) ≡ None
   pub levels_length : length levels ≡ length (gates_of table)
 
 -- What writing leaves: the level of each gate, and r, the largest of them.
