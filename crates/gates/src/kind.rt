@@ -62,7 +62,7 @@ pub fn mark(marks: &ConditionalMarks, kind: u32) -> usize
     requires { marks.now ≡ conditional_marks }
     ensures { result ≡ cond (conditional_of kind) 1 0 }
 {
-    if conditional(marks, kind) { 1 } else { 0 }
+    usize::from(conditional(marks, kind))
 }
 
 // The value of a gate from the values of its operands, `None` for a kind above 7. The only match on a kind in this
@@ -74,10 +74,10 @@ pub fn apply(kind: u32, a: u8, b: u8, c: u8) -> Option<u8>
         0 => Some(0),
         1 => Some(1),
         2 => Some(a),
-        3 => Some(if a == 0 { 1 } else { 0 }),
-        4 => Some(if a < b { a } else { b }),
-        5 => Some(if a < b { b } else { a }),
-        6 => Some(if a == b { 0 } else { 1 }),
+        3 => Some(u8::from(a == 0)),
+        4 => Some(a.min(b)),
+        5 => Some(a.max(b)),
+        6 => Some(u8::from(a != b)),
         7 => Some(if a == 0 { c } else { b }),
         8..=4294967295 => None,
     }
