@@ -6,6 +6,10 @@ use Prim.Native.Nat.{ℕ, zero, suc, ◌<◌}
 use native.Mathlib.Omega.{arith}
 use lib.Dec.{eqb}
 use borrow.Author.Tests.{eqb-true, eqb-false}
+use lib.ListN.{length, get_or}
+use mathlib.Core.List.{List}
+use Rattle.std.specs.Bool.{MatchBool}
+use Rattle.std.specs.List.{AllWithin, HoldsAt}
 use Rattle.basics.specs.Below.{all_below}
 
 module _ (f : ℕ → Bool) where
@@ -37,3 +41,10 @@ module _ (f : ℕ → Bool) where
   pub all_pass : (n : ℕ) → ((i : ℕ) → i < n → f i ≡ true) → true ≡ all_below n f
   all_pass zero e = all_none
   all_pass (suc n) e = all_more n (all_pass n (λ (i : ℕ) h. e i (omega arith))) (e n (omega arith))
+
+-- what `all` answers over a list of numbers, as a test of all places
+pub all_of_list : (f : ℕ → Bool) (xs : List ℕ) (r : Bool)
+    → MatchBool r (AllWithin (λ x. f x ≡ true) xs 0 (length xs)) ((k : ℕ) × (k < length xs) × HoldsAt (λ x. f x ≡ false) xs k)
+    → r ≡ all_below (length xs) (λ i. f (get_or xs i 0))
+all_of_list f xs true h = all_pass (λ i. f (get_or xs i 0)) (length xs) (λ (i : ℕ) l. h i 0 (omega arith) l)
+all_of_list f xs false (k, inside, fails) = not_all (λ i. f (get_or xs i 0)) (length xs) k inside (fails 0)

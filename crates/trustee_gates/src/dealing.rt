@@ -10,14 +10,7 @@ use crate::{bits, table};
 pub fn only_bits(parts: &[u8]) -> bool
     ensures { result ≡ only_bits parts.now }
 {
-    let mut i = 0;
-    while i < parts.len() {
-        if 1 < parts[i] {
-            return false;
-        }
-        i += 1;
-    }
-    true
+    parts.iter().all(|part| *part <= 1)
 }
 
 // Whether the parts of each ballot byte add up to it.
@@ -25,12 +18,10 @@ pub fn adds_up(t: usize, ballots: &[u8], parts: &[u8]) -> bool
     requires { length parts.now ≡ t * length ballots.now }
     ensures { result ≡ adds_up t ballots.now parts.now }
 {
-    let mut x = 0;
-    while x < ballots.len() {
-        if table::open(parts, ballots.len(), t, x) != ballots[x] {
+    for (x, ballot) in ballots.iter().enumerate() {
+        if table::open(parts, ballots.len(), t, x) != *ballot {
             return false;
         }
-        x += 1;
     }
     true
 }
@@ -51,12 +42,10 @@ pub fn products_add_up(t: usize, conditional: usize, triples: &[u8]) -> bool
     ensures { result ≡ products_add_up t conditional triples.now }
 {
     let size = 3 * conditional;
-    let mut i = 0;
-    while i < conditional {
+    for i in 0..conditional {
         if !product_adds_up(t, size, i, triples) {
             return false;
         }
-        i += 1;
     }
     true
 }

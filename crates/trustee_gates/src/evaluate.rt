@@ -38,10 +38,8 @@ fn run_gates(
         published.old wires.new published.new }
 {
     let marks = kind::CONDITIONAL;
-    let gates = table.len() / 4;
     let mut i = 0;
-    let mut g = 0;
-    while g < gates {
+    for g in 0..table.len() / 4 {
         let numbers = numbers_at(table, g);
         i = gate::run_gate(
             &marks,
@@ -54,7 +52,6 @@ fn run_gates(
             wires,
             published,
         );
-        g += 1;
     }
 }
 

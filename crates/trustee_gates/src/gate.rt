@@ -98,8 +98,7 @@ fn publish(
     let size = pieces.published;
     let mut first = 0;
     let mut second = 0;
-    let mut p = 0;
-    while p < t {
+    for p in 0..t {
         let x = masked_first(pieces, gate, i, p, triples, wires);
         let y = masked_second(pieces, gate, i, p, triples, wires);
         let at = p * size + 2 * i;
@@ -107,7 +106,6 @@ fn publish(
         published[at + 1] = y;
         first = bits::plus(first, x);
         second = bits::plus(second, y);
-        p += 1;
     }
     Opened { first, second }
 }
@@ -155,11 +153,9 @@ fn enter_products(
         ∷ []) wires.old }
 {
     let size = pieces.wires;
-    let mut p = 0;
-    while p < t {
+    for p in 0..t {
         let z = product_part(pieces.triples, i, p, opened, triples);
         wires[p * size + own] = new_part(size, gate, p, z, wires);
-        p += 1;
     }
 }
 
@@ -170,10 +166,8 @@ fn enter_free(t: usize, size: usize, gate: Numbers, own: usize, wires: &mut [u8]
         (part (piece size wires.old p) gate.a) (part (piece size wires.old p) gate.b)
         (part (piece size wires.old p) gate.c) 0 ∷ []) wires.old }
 {
-    let mut p = 0;
-    while p < t {
+    for p in 0..t {
         wires[p * size + own] = new_part(size, gate, p, 0, wires);
-        p += 1;
     }
 }
 

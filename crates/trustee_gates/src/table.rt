@@ -21,10 +21,8 @@ pub fn open(table: &[u8], size: usize, t: usize, index: usize) -> u8
     ensures { result ≡ opened t (λ p. part (piece size table.now p) index) }
 {
     let mut sum = 0;
-    let mut p = 0;
-    while p < t {
+    for p in 0..t {
         sum = bits::plus(sum, entry(table, size, p, index));
-        p += 1;
     }
     sum
 }
@@ -34,11 +32,7 @@ fn copy_part(count: usize, from: &[u8], at: usize, to: &mut [u8], into: usize)
     requires { (at + count ≤ length from.now) × (into + count ≤ length to.old) }
     ensures { to.new ≡ sets to.old into (take count (drop at from.now)) }
 {
-    let mut j = 0;
-    while j < count {
-        to[into + j] = from[at + j];
-        j += 1;
-    }
+    to[into..into + count].copy_from_slice(&from[at..at + count]);
 }
 
 // For each trustee, copies `count` entries from index `at` of its piece of one table to index `into` of its piece
@@ -57,9 +51,7 @@ pub(crate) fn copy_pieces(
     ensures { to.new ≡ each_puts t room into (λ p. take count (drop at (piece size from.now p)))
         to.old }
 {
-    let mut p = 0;
-    while p < t {
+    for p in 0..t {
         copy_part(count, from, p * size + at, to, p * room + into);
-        p += 1;
     }
 }

@@ -29,10 +29,9 @@ fn enter(seat: Seat, table: &[u32], levels: &[u32], triples: &[u8], heard: &[u8]
     let round = seat.round;
     let inputs = seat.inputs;
     let mut i = 0;
-    let mut g = 0;
-    while g < levels.len() {
+    for (g, entry) in levels.iter().enumerate() {
         let gate = evaluate::numbers_at(table, g);
-        let depth = level::rounds(levels[g]);
+        let depth = level::rounds(*entry);
         part::enter_gate(
             &marks,
             p,
@@ -46,7 +45,6 @@ fn enter(seat: Seat, table: &[u32], levels: &[u32], triples: &[u8], heard: &[u8]
             wires,
         );
         i += kind::mark(&marks, gate.kind);
-        g += 1;
     }
 }
 
@@ -77,13 +75,11 @@ fn publish(
     let marks = kind::CONDITIONAL;
     let next = round + 1;
     let mut i = 0;
-    let mut g = 0;
-    while g < levels.len() {
+    for (g, entry) in levels.iter().enumerate() {
         let gate = evaluate::numbers_at(table, g);
-        let depth = level::rounds(levels[g]);
+        let depth = level::rounds(*entry);
         part::publish_gate(&marks, next, depth, gate, i, triples, wires, published);
         i += kind::mark(&marks, gate.kind);
-        g += 1;
     }
 }
 
