@@ -14,7 +14,7 @@ use Rattle.gates.specs.Kind.{conditional_of}
 use Rattle.gates.specs.Gate.{Gate, gates_of, gate_at}
 use Rattle.gates.specs.Board.{conditional_count}
 use Rattle.gates.specs.Test.{good_gate, first_bad}
-use Rattle.gates.specs.declared.place.Place.TheVariants.{Nowhere}
+use Rattle.std.specs.Prelude.{None}
 use Rattle.gates.proofs.Table.{gates_from}
 use Rattle.gates.proofs.Goodness.{good_gate_lem}
 use Rattle.gates.proofs.Reading.{Below, operands_below}
@@ -314,7 +314,7 @@ module _ (t size_w size_p inputs : ℕ) (triples : Held) (table : List ℕ) (fin
 
 -- the invariant before the first gate
 pub left_start : (t size_w size_p inputs : ℕ) (triples : Held) (table ws published : List ℕ)
-    → first_bad inputs 0 (gates_of table) ≡ Nowhere → length ws ≡ t * size_w → length published ≡ t * size_p
+    → first_bad inputs 0 (gates_of table) ≡ None → length ws ≡ t * size_w → length published ≡ t * size_p
     → Left t size_w size_p inputs triples table (parts_of t triples (λ p. take inputs (piece size_w ws p)) 0 (gates_of table))
     (λ p. sets (piece size_p published p) 0
     (masked_factors (parts_of t triples (λ q. take inputs (piece size_w ws q)) 0 (gates_of table) p) (triples p) 0

@@ -14,7 +14,7 @@ use Rattle.gates.specs.Kind.{conditional_of, kind_count}
 use Rattle.gates.specs.Gate.{Gate, gates_of, gate_at}
 use Rattle.gates.specs.Board.{conditional_count}
 use Rattle.gates.specs.Test.{first_bad}
-use Rattle.gates.specs.declared.place.Place.TheVariants.{Nowhere}
+use Rattle.std.specs.Prelude.{None}
 use Rattle.gates.proofs.Table.{gates_from}
 use Rattle.gates.proofs.Goodness.{good_gate_lem}
 use Rattle.gates.proofs.Laws.{AllGood, all_good}
@@ -43,7 +43,7 @@ module _ (inputs : ℕ) (table : List ℕ) where
     pub good : AllGood (inputs + g) (drop g (gates_of table))
     pub count : i + conditional_count (drop g (gates_of table)) ≡ conditional_count (gates_of table)
 
-  pub ahead_start : first_bad inputs 0 (gates_of table) ≡ Nowhere → Ahead 0 0
+  pub ahead_start : first_bad inputs 0 (gates_of table) ≡ None → Ahead 0 0
   ahead_start good = record { order = omega arith; good = all_good inputs 0 (gates_of table) good; count = omega arith }
 
   module _ (g i : ℕ) (a : Ahead g i) (pos : 1 ≤ inputs) (h : g < length (gates_of table)) where
@@ -117,7 +117,7 @@ pub record EnterLeft (u : Turn) (table ws₀ ws : List ℕ) (g i : ℕ) : Type 0
   pub long : length ws ≡ u.inputs + length (gates_of table)
   pub rest : enters u (drop g (gates_of table)) g i ws ≡ enters u (gates_of table) 0 0 ws₀
 
-pub enter_start : (u : Turn) (table ws : List ℕ) → first_bad u.inputs 0 (gates_of table) ≡ Nowhere → length ws
+pub enter_start : (u : Turn) (table ws : List ℕ) → first_bad u.inputs 0 (gates_of table) ≡ None → length ws
     ≡ u.inputs + length (gates_of table) → EnterLeft u table ws ws 0 0
 enter_start u table ws good long = record { ahead = ahead_start u.inputs table good; long = long; rest = refl }
 
@@ -162,7 +162,7 @@ pub record PublishLeft (u : Turn) (table ws published₀ published : List ℕ) (
   pub long : length published ≡ length published₀
   pub rest : publishes u ws (drop g (gates_of table)) g i published ≡ publishes u ws (gates_of table) 0 0 published₀
 
-pub publish_start : (u : Turn) (table ws published : List ℕ) → first_bad u.inputs 0 (gates_of table) ≡ Nowhere
+pub publish_start : (u : Turn) (table ws published : List ℕ) → first_bad u.inputs 0 (gates_of table) ≡ None
     → PublishLeft u table ws published published 0 0
 publish_start u table ws published good = record { ahead = ahead_start u.inputs table good; long = refl; rest = refl }
 

@@ -15,7 +15,7 @@ use Rattle.gates.specs.Kind.{conditional_of}
 use Rattle.gates.specs.Gate.{Gate}
 use Rattle.gates.specs.Board.{conditional_count}
 use Rattle.gates.specs.Test.{first_bad}
-use Rattle.gates.specs.declared.place.Place.TheVariants.{Nowhere}
+use Rattle.std.specs.Prelude.{None}
 use Rattle.gates.proofs.Goodness.{good_gate_lem}
 use Rattle.gates.proofs.Laws.{AllGood, all_good}
 use Rattle.gate_levels.specs.Levels.{levels_of, rounds_of}
@@ -76,7 +76,7 @@ fits_list t inputs triples final levels pos (x ∷ xs) g i held long is good lev
         }
 
 module _ (t inputs k : ℕ) (gs : List Gate) (d : Dealing) (pos : 1 ≤ inputs) (enough : k ≤ length gs)
-    (good : first_bad inputs 0 gs ≡ Nowhere) (ballots : (p : ℕ) → p < t → length (ballots_of inputs d p) ≡ inputs) where
+    (good : first_bad inputs 0 gs ≡ None) (ballots : (p : ℕ) → p < t → length (ballots_of inputs d p) ≡ inputs) where
   size : ℕ
   size = length gs
 
@@ -284,7 +284,7 @@ module _ (t inputs k : ℕ) (gs : List Gate) (d : Dealing) (pos : 1 ≤ inputs) 
 
 -- two dealings that give trustee p the same at the end
 module _ (t inputs k : ℕ) (gs : List Gate) (d e : Dealing) (pos : 1 ≤ inputs) (enough : k ≤ length gs)
-    (good : first_bad inputs 0 gs ≡ Nowhere)
+    (good : first_bad inputs 0 gs ≡ None)
     (bd : (p : ℕ) → p < t → length (ballots_of inputs d p) ≡ inputs) (be : (p : ℕ) → p < t → length (ballots_of inputs e p) ≡ inputs)
     (n : ℕ) (h : n ≤ rounds_of inputs gs) (p : ℕ) (l : p < t) where
   one : Reached t inputs k gs d pos enough good bd n (holdings_after t inputs gs k d n) p

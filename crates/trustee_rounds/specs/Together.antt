@@ -1,10 +1,9 @@
 -- All trustees together: each starts, then all do the rounds 0 to R. Before each round, each hears the sums of what
 -- all have published.
-use Rattle.std.specs.Prelude.{◌≡◌, List, [], ◌∷◌, ℕ, zero, suc, ◌*◌, ◌≤◌, ◌<◌, length}
+use Rattle.std.specs.Prelude.{◌≡◌, List, [], ◌∷◌, ℕ, zero, suc, ◌*◌, ◌≤◌, ◌<◌, length, None}
 use Rattle.gates.specs.Gate.{Gate}
 use Rattle.gates.specs.Board.{conditional_count}
 use Rattle.gates.specs.Test.{first_bad}
-use Rattle.gates.specs.declared.place.Place.TheVariants.{Nowhere}
 use Rattle.gate_levels.specs.Levels.{levels_of, rounds_of}
 use Rattle.trustee_shares.specs.Shares.{opened, part, Held}
 use Rattle.trustee_shares.specs.Views.{Dealing, ballots_of, triples_of, wire_parts_of, published_of}
@@ -65,7 +64,7 @@ holdings_after t inputs gs k d (suc r) =
 abbrev pub EarlierFollows : Type 0
 EarlierFollows =
     (t inputs k : ℕ) (gs : List Gate) (d e : Dealing)
-    → 1 ≤ inputs → k ≤ length gs → first_bad inputs 0 gs ≡ Nowhere
+    → 1 ≤ inputs → k ≤ length gs → first_bad inputs 0 gs ≡ None
     → ((p : ℕ) → p < t → length (ballots_of inputs d p) ≡ inputs)
     → ((p : ℕ) → p < t → length (ballots_of inputs e p) ≡ inputs)
     → (r : ℕ) → r ≤ rounds_of inputs gs → (p : ℕ) → p < t
@@ -79,7 +78,7 @@ EarlierFollows =
 abbrev pub RoundsMakeTheTally : Type 0
 RoundsMakeTheTally =
     (t inputs k : ℕ) (gs : List Gate) (d : Dealing)
-    → 1 ≤ inputs → k ≤ length gs → first_bad inputs 0 gs ≡ Nowhere
+    → 1 ≤ inputs → k ≤ length gs → first_bad inputs 0 gs ≡ None
     → ((p : ℕ) → p < t → length (ballots_of inputs d p) ≡ inputs)
     → (p : ℕ) → p < t
     → ((holdings_after t inputs gs k d (suc (rounds_of inputs gs))).wire_parts p ≡ wire_parts_of t inputs gs d p)

@@ -18,7 +18,7 @@ use Rattle.gates.specs.Wires.{wire, wires_of, outputs_of}
 use Rattle.gates.specs.Board.{conditional_count, Bits}
 use Rattle.gates.specs.Test.{first_bad}
 use Rattle.gates.specs.Hiding.{ExactlyOne}
-use Rattle.gates.specs.declared.place.Place.TheVariants.{Nowhere}
+use Rattle.std.specs.Prelude.{None}
 use Rattle.gates.proofs.Goodness.{GoodGate}
 use Rattle.gates.proofs.Hiding.{bits_take, bits_drop}
 use Rattle.gates.proofs.WireLaws.{length_wires}
@@ -113,7 +113,7 @@ bit_times (suc (suc x)) y h k = absurd (omega arith)
 
 module _ (t q k : ℕ) (gs : List Gate) (xs ys : List ℕ) (d : Dealing) (hq : q < t) (enough : k ≤ length gs)
     (same_length : length xs ≡ length ys)
-    (bx : Bits xs) (by : Bits ys) (passes : first_bad (length xs) 0 gs ≡ Nowhere)
+    (bx : Bits xs) (by : Bits ys) (passes : first_bad (length xs) 0 gs ≡ None)
     (closing : outputs_of k (wires_of xs gs) ≡ outputs_of k (wires_of ys gs)) (good : GoodDealing t gs xs d) where
   n : ℕ
   n = length xs

@@ -1,12 +1,11 @@
 -- What trustees hold, publish and see: request 2.7.
-use Rattle.std.specs.Prelude.{◌≡◌, cond, List, [], ◌∷◌, ◌++◌, ℕ, zero, suc, ◌+◌, ◌-◌, ◌*◌, ◌≤◌, ◌<◌, eqb, length, get_or, take, drop}
+use Rattle.std.specs.Prelude.{◌≡◌, cond, List, [], ◌∷◌, ◌++◌, ℕ, zero, suc, ◌+◌, ◌-◌, ◌*◌, ◌≤◌, ◌<◌, eqb, length, get_or, take, drop, None}
 use Rattle.gates.specs.Kind.{conditional_of}
 use Rattle.gates.specs.Gate.{Gate}
 use Rattle.gates.specs.Wires.{wires_of, outputs_of}
 use Rattle.gates.specs.Board.{conditional_count, Bits}
 use Rattle.gates.specs.Test.{first_bad}
 use Rattle.gates.specs.Hiding.{ExactlyOne}
-use Rattle.gates.specs.declared.place.Place.TheVariants.{Nowhere}
 use Rattle.trustee_shares.specs.Shares.{opened, part, u_of, v_of, product_of, masked_first, masked_second, Held, parts_of}
 
 -- Trustee p's piece of a table. Tables go trustee after trustee, with pieces of one size.
@@ -94,7 +93,7 @@ view_of t q inputs gs k d =
 abbrev pub ViewsHideInputs : Type 0
 ViewsHideInputs =
     (t q k : ℕ) (gs : List Gate) (xs ys : List ℕ) (d : Dealing)
-    → q < t → k ≤ length gs → length xs ≡ length ys → Bits xs → Bits ys → first_bad (length xs) 0 gs ≡ Nowhere
+    → q < t → k ≤ length gs → length xs ≡ length ys → Bits xs → Bits ys → first_bad (length xs) 0 gs ≡ None
     → outputs_of k (wires_of xs gs) ≡ outputs_of k (wires_of ys gs)
     → GoodDealing t gs xs d
     → ExactlyOne (λ (e : Dealing). GoodDealing t gs ys e

@@ -1,10 +1,9 @@
 -- What the evaluation requires of its caller, and what it leaves.
-use Rattle.std.specs.Prelude.{◌≡◌, List, ℕ, ◌+◌, ◌*◌, ◌≤◌, ◌<◌, length, take}
+use Rattle.std.specs.Prelude.{◌≡◌, List, ℕ, ◌+◌, ◌*◌, ◌≤◌, ◌<◌, length, take, None}
 use Rattle.std.proofs.lemmas.List.Edits.{sets}
 use Rattle.gates.specs.Gate.{gates_of}
 use Rattle.gates.specs.Board.{conditional_count}
 use Rattle.gates.specs.Test.{first_bad}
-use Rattle.gates.specs.declared.place.Place.TheVariants.{Nowhere}
 use Rattle.trustee_shares.specs.Shares.{parts_of}
 use Rattle.trustee_shares.specs.Views.{Dealing, piece, joined, masked_factors, wire_parts_of, published_of}
 use Rattle.trustee_gates.specs.declared.gate.Pieces.{Pieces}
@@ -14,7 +13,7 @@ use Rattle.trustee_gates.specs.declared.gate.Pieces.{Pieces}
 pub record RunReady (t : ℕ) (pieces : Pieces) (inputs : ℕ) (table triples wires published : List ℕ) : Type 0 where
   pub some_input : 1 ≤ inputs
   pub few : inputs + length (gates_of table) < 1073741824
-  pub good : first_bad inputs 0 (gates_of table) ≡ Nowhere
+  pub good : first_bad inputs 0 (gates_of table) ≡ None
   pub wires_size : pieces.wires ≡ inputs + length (gates_of table)
   pub triples_size : 3 * conditional_count (gates_of table) ≤ pieces.triples
   pub published_size : 2 * conditional_count (gates_of table) ≤ pieces.published
@@ -28,7 +27,7 @@ pub record EvaluateReady (t inputs : ℕ) (table : List ℕ) (conditional k : �
     (ballot_parts triples wires published : List ℕ) : Type 0 where
   pub some_input : 1 ≤ inputs
   pub few : inputs + length (gates_of table) < 1073741824
-  pub good : first_bad inputs 0 (gates_of table) ≡ Nowhere
+  pub good : first_bad inputs 0 (gates_of table) ≡ None
   pub enough : k ≤ length (gates_of table)
   pub conditional_is : conditional ≡ conditional_count (gates_of table)
   pub ballot_length : length ballot_parts ≡ t * inputs

@@ -1,10 +1,9 @@
 -- What inner functions require and leave; no entry point's contract needs it.
-use Rattle.std.specs.Prelude.{◌≡◌, true, List, ℕ, ◌+◌, ◌*◌, ◌≤◌, ◌<◌, length}
+use Rattle.std.specs.Prelude.{◌≡◌, true, List, ℕ, ◌+◌, ◌*◌, ◌≤◌, ◌<◌, length, None}
 use Rattle.gates.specs.Kind.{conditional_of, kind_count}
 use Rattle.gates.specs.Gate.{gates_of}
 use Rattle.gates.specs.Board.{conditional_count}
 use Rattle.gates.specs.Test.{first_bad}
-use Rattle.gates.specs.declared.place.Place.TheVariants.{Nowhere}
 use Rattle.trustee_gates.specs.declared.gate.Numbers.{Numbers}
 use Rattle.trustee_rounds.specs.declared.round.Seat.{Seat}
 use Rattle.trustee_rounds.specs.Rounds.{Turn, enters, publishes, closes}
@@ -47,7 +46,7 @@ pub record PublishReady (g : Numbers) (i : ℕ) (triples ws published : List ℕ
 pub record Pass (inputs : ℕ) (table levels triples ws : List ℕ) : Type 0 where
   pub some_input : 1 ≤ inputs
   pub few : inputs + length (gates_of table) < 1073741824
-  pub good : first_bad inputs 0 (gates_of table) ≡ Nowhere
+  pub good : first_bad inputs 0 (gates_of table) ≡ None
   pub levels_length : length levels ≡ length (gates_of table)
   pub triples_length : length triples ≡ 3 * conditional_count (gates_of table)
   pub wires_length : length ws ≡ inputs + length (gates_of table)
