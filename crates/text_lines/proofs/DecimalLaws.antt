@@ -232,13 +232,13 @@ module _ (n : ℕ) (text : List ℕ) (i : ℕ) where
   pub digits_stop : i < length text → is_digit (get_or text i 0) ≡ false → digits_in n (drop i text) ≡ taken n (drop i text)
   digits_stop h e = digits_end n (drop i text) (subst Apart (sym (drop-cons text i 0 h)) e)
 
-  pub digits_all : length text ≤ i → digits_in n (drop i text) ≡ taken n (drop i text)
-  digits_all h = digits_end n (drop i text) (subst Apart (sym (drop_of_length-le text {i = i} h)) tt)
+  pub digits_all : length text ≤ i → digits_in n (drop i text) ≡ taken n (drop (length text) text)
+  digits_all h = rw (drop_of_length-le text {i = i} h, drop_of_length-le text {i = length text} (omega arith)) (digits_end n [] tt)
 
   pub digits_step : i < length text → is_digit (get_or text i 0) ≡ true → 10 * n + (get_or text i 0 - 48) ≤ 4294967295
-      → digits_in n (drop i text) ≡ digits_in (10 * n + (get_or text i 0 - 48)) (drop (suc i) text)
+      → digits_in n (drop i text) ≡ digits_in (10 * n + (get_or text i 0 - 48)) (drop (i + 1) text)
   unfolding digits_in
-  digits_step h e fits = rw (drop-cons text i 0 h, e, le-leb (10 * n + (get_or text i 0 - 48)) 4294967295 fits)
+  digits_step h e fits = rw (add-one i, drop-cons text i 0 h, e, le-leb (10 * n + (get_or text i 0 - 48)) 4294967295 fits)
 
   pub digits_over : i < length text → is_digit (get_or text i 0) ≡ true → 4294967295 < 10 * n + (get_or text i 0 - 48)
       → digits_in n (drop i text) ≡ none
@@ -255,14 +255,14 @@ module _ (text : List ℕ) (i : ℕ) where
   unfolding number_in
   number_other h e = rw (drop-cons text i 0 h, e)
 
-  pub number_zero : i < length text → get_or text i 0 ≡ 48 → number_in (drop i text) ≡ taken 0 (drop (suc i) text)
+  pub number_zero : i < length text → get_or text i 0 ≡ 48 → number_in (drop i text) ≡ taken 0 (drop (i + 1) text)
   unfolding number_in is_digit
-  number_zero h e = rw (drop-cons text i 0 h, e)
+  number_zero h e = rw (add-one i, drop-cons text i 0 h, e)
 
   pub number_digits : i < length text → is_digit (get_or text i 0) ≡ true → (get_or text i 0 ≡ 48 → ⊥)
-      → number_in (drop i text) ≡ digits_in (get_or text i 0 - 48) (drop (suc i) text)
+      → number_in (drop i text) ≡ digits_in (get_or text i 0 - 48) (drop (i + 1) text)
   unfolding number_in
-  number_digits h e ne = rw (drop-cons text i 0 h, e, ne_eqb (get_or text i 0) 48 ne)
+  number_digits h e ne = rw (add-one i, drop-cons text i 0 h, e, ne_eqb (get_or text i 0) 48 ne)
 
 pub length_positive : (n : ℕ) → 0 < length (decimal n)
 unfolding decimal decimal_within

@@ -1,33 +1,22 @@
 -- What the functions that read find at a place of a text.
 -- Assumes nothing.
-use mathlib.Core.Path.{◌≡◌, ◌∙◌, sym, ap, subst}
+use mathlib.Core.Path.{◌≡◌, sym}
 use mathlib.Core.Option.{Option, none, some, bind}
 use mathlib.Core.List.{List}
 use mathlib.Core.Bool.{true}
-use Prim.Native.Nat.{ℕ, suc, ◌≤◌, ◌<◌}
+use Prim.Native.Nat.{ℕ, ◌+◌, ◌≤◌, ◌<◌}
+use native.Mathlib.Numerals.{add-one}
+use native.Mathlib.Omega.{arith}
 use lib.Dec.{ltb}
 use lib.ListN.{length, get_or, drop, drop_of_length-le}
 use lib.Seq.{drop-cons}
 use borrow.Author.Tests.{lt-ltb, le-ltb, ne_eqb}
+use Rattle.std.specs.Prelude.{Some, None}
 use Rattle.gates.specs.Kind.{operands_of, kind_count}
-use Rattle.gates.specs.Gate.{Gate}
 use Rattle.text_lines.specs.Decimal.{Taken, taken, number_in}
 use Rattle.text_lines.specs.Line.{known_kind, operand_in, end_in, gate_in}
-use Rattle.text_lines.specs.inner.Found.{number_found, NumberWithin}
+use Rattle.text_lines.specs.inner.Found.{number_found, NumberRead, line_found, LineRead}
 use Rattle.text_lines.specs.declared.decimal.Found.{Found}
-use Rattle.text_lines.specs.declared.decimal.Found.TheVariants.{Value, Malformed}
-
-module _ (text : List ℕ) (r : Found) (o : Option (Taken ℕ)) (e : number_found text r ≡ o) where
-  pub found : (value next : ℕ) → r ≡ Value value next → o ≡ taken value (drop next text)
-  unfolding number_found
-  found value next p = sym e ∙ ap (number_found text) p
-
-  pub lost : r ≡ Malformed → o ≡ none
-  unfolding number_found
-  lost p = sym e ∙ ap (number_found text) p
-
-pub found_within : (text : List ℕ) (r : Found) (value next : ℕ) → NumberWithin text r → r ≡ Value value next → next ≤ length text
-found_within text r value next w p = subst (NumberWithin text) p w
 
 -- reading an operand at a place
 module _ (text : List ℕ) (i : ℕ) where
@@ -39,9 +28,9 @@ module _ (text : List ℕ) (i : ℕ) where
   unfolding operand_in
   operand_other h ne = rw (drop-cons text i 0 h, ne_eqb (get_or text i 0) 32 ne)
 
-  pub operand_number : i < length text → get_or text i 0 ≡ 32 → operand_in true (drop i text) ≡ number_in (drop (suc i) text)
+  pub operand_number : i < length text → get_or text i 0 ≡ 32 → operand_in true (drop i text) ≡ number_in (drop (i + 1) text)
   unfolding operand_in
-  operand_number h e = rw (drop-cons text i 0 h, e)
+  operand_number h e = rw (add-one i, drop-cons text i 0 h, e)
 
   pub end_none : length text ≤ i → end_in (drop i text) ≡ none
   unfolding end_in
@@ -51,74 +40,68 @@ module _ (text : List ℕ) (i : ℕ) where
   unfolding end_in
   end_other h ne = rw (drop-cons text i 0 h, ne_eqb (get_or text i 0) 10 ne)
 
-  pub end_feed : i < length text → get_or text i 0 ≡ 10 → end_in (drop i text) ≡ some (drop (suc i) text)
+  pub end_feed : i < length text → get_or text i 0 ≡ 10 → end_in (drop i text) ≡ some (drop (i + 1) text)
   unfolding end_in
-  end_feed h e = rw (drop-cons text i 0 h, e)
+  end_feed h e = rw (add-one i, drop-cons text i 0 h, e)
 
--- The steps of reading a line; each begins where the one before it ended.
-bind_is : {A B : Type 0} (o : Option A) (f : A → Option B) (a : A) → o ≡ some a → bind o f ≡ f a
-unfolding bind
-bind_is o f a e = rw e
+-- A number that was read at a place, and one that was not.
+read : {text : List ℕ} {o : Option (Taken ℕ)} {n : Found} → NumberRead text o (Some n) → o ≡ taken n.value (drop n.next text)
+unfolding number_found
+read r = sym r.found
 
-bind_none : {A B : Type 0} (o : Option A) (f : A → Option B) → o ≡ none → bind o f ≡ none
-unfolding bind
-bind_none o f e = rw e
+unread : {text : List ℕ} {o : Option (Taken ℕ)} → NumberRead text o None → o ≡ none
+unfolding number_found
+unread r = sym r.found
 
-module _ (k : Taken ℕ) where
-  pub after_c : Taken ℕ → Taken ℕ → Taken ℕ → Option (Taken Gate)
-  after_c a b c = bind (end_in c.rest) λ rest. taken (record { kind = k.value; a = a.value; b = b.value; c = c.value }) rest
+-- The parts of a line, each read where the one before it ended: the line is malformed at the first part that is.
+module _ (text : List ℕ) (at : ℕ) where
+  pub no_kind : NumberRead text (number_in (drop at text)) None → LineRead text (gate_in (drop at text)) None
+  unfolding gate_in bind line_found
+  no_kind r = record { found = rw (unread r); within = tt }
 
-  pub after_b : Taken ℕ → Taken ℕ → Option (Taken Gate)
-  after_b a b = bind (operand_in (ltb 2 (operands_of k.value)) b.rest) λ c. after_c a b c
+  module _ (k : Found) (reads : NumberRead text (number_in (drop at text)) (Some k)) where
+    pub unknown : kind_count ≤ k.value → LineRead text (gate_in (drop at text)) None
+    unfolding gate_in bind known_kind line_found
+    unknown h = record { found = rw (read reads, le-ltb k.value kind_count h); within = tt }
 
-  pub after_a : Taken ℕ → Option (Taken Gate)
-  after_a a = bind (operand_in (ltb 1 (operands_of k.value)) a.rest) λ b. after_b a b
+    module _ (h : k.value < kind_count) (m : ℕ) (e : m ≡ operands_of k.value) where
+      pub no_a : NumberRead text (operand_in (ltb 0 m) (drop k.next text)) None → LineRead text (gate_in (drop at text)) None
+      unfolding gate_in bind known_kind line_found
+      no_a r = record { found = rw (read reads, lt-ltb k.value kind_count h, ← e, unread r); within = tt }
 
-  pub after_kind : Option (Taken Gate)
-  after_kind = bind (operand_in (ltb 0 (operands_of k.value)) k.rest) λ a. after_a a
+      module _ (a : Found) (reads_a : NumberRead text (operand_in (ltb 0 m) (drop k.next text)) (Some a)) where
+        pub no_b : NumberRead text (operand_in (ltb 1 m) (drop a.next text)) None → LineRead text (gate_in (drop at text)) None
+        unfolding gate_in bind known_kind line_found
+        no_b r = record { found = rw (read reads, lt-ltb k.value kind_count h, ← e, read reads_a, unread r); within = tt }
 
-  pub a_found : (a : Taken ℕ) → operand_in (ltb 0 (operands_of k.value)) k.rest ≡ some a → after_kind ≡ after_a a
-  unfolding after_kind
-  a_found a e = bind_is _ _ a e
+        module _ (b : Found) (reads_b : NumberRead text (operand_in (ltb 1 m) (drop a.next text)) (Some b)) where
+          pub no_c : NumberRead text (operand_in (ltb 2 m) (drop b.next text)) None → LineRead text (gate_in (drop at text)) None
+          unfolding gate_in bind known_kind line_found
+          no_c r = record {
+            found = rw (read reads, lt-ltb k.value kind_count h, ← e, read reads_a, read reads_b, unread r);
+            within = tt;
+          }
 
-  pub a_lost : operand_in (ltb 0 (operands_of k.value)) k.rest ≡ none → after_kind ≡ none
-  unfolding after_kind
-  a_lost e = bind_none _ _ e
+          module _ (c : Found) (reads_c : NumberRead text (operand_in (ltb 2 m) (drop b.next text)) (Some c)) where
+            pub no_end : end_in (drop c.next text) ≡ none → LineRead text (gate_in (drop at text)) None
+            unfolding gate_in bind known_kind line_found
+            no_end r = record {
+              found = rw (read reads, lt-ltb k.value kind_count h, ← e, read reads_a, read reads_b, read reads_c, r);
+              within = tt;
+            }
 
-  pub b_found : (a b : Taken ℕ) → operand_in (ltb 1 (operands_of k.value)) a.rest ≡ some b → after_a a ≡ after_b a b
-  unfolding after_a
-  b_found a b e = bind_is _ _ b e
-
-  pub b_lost : (a : Taken ℕ) → operand_in (ltb 1 (operands_of k.value)) a.rest ≡ none → after_a a ≡ none
-  unfolding after_a
-  b_lost a e = bind_none _ _ e
-
-  pub c_found : (a b c : Taken ℕ) → operand_in (ltb 2 (operands_of k.value)) b.rest ≡ some c → after_b a b ≡ after_c a b c
-  unfolding after_b
-  c_found a b c e = bind_is _ _ c e
-
-  pub c_lost : (a b : Taken ℕ) → operand_in (ltb 2 (operands_of k.value)) b.rest ≡ none → after_b a b ≡ none
-  unfolding after_b
-  c_lost a b e = bind_none _ _ e
-
-  pub end_found : (a b c : Taken ℕ) (rest : List ℕ) → end_in c.rest ≡ some rest → after_c a b c
-      ≡ taken (record { kind = k.value; a = a.value; b = b.value; c = c.value }) rest
-  unfolding after_c
-  end_found a b c rest e = bind_is _ _ rest e
-
-  pub end_lost : (a b c : Taken ℕ) → end_in c.rest ≡ none → after_c a b c ≡ none
-  unfolding after_c
-  end_lost a b c e = bind_none _ _ e
-
-module _ (cs : List ℕ) where
-  pub kind_lost : number_in cs ≡ none → gate_in cs ≡ none
-  unfolding gate_in bind
-  kind_lost e = rw e
-
-  pub kind_unknown : (k : Taken ℕ) → number_in cs ≡ some k → kind_count ≤ k.value → gate_in cs ≡ none
-  unfolding gate_in bind known_kind
-  kind_unknown k e h = rw (e, le-ltb k.value kind_count h)
-
-  pub kind_found : (k : Taken ℕ) → number_in cs ≡ some k → k.value < kind_count → gate_in cs ≡ after_kind k
-  unfolding gate_in bind known_kind after_kind after_a after_b after_c
-  kind_found k e h = rw (e, lt-ltb k.value kind_count h)
+            pub whole : c.next < length text → get_or text c.next 0 ≡ 10 → LineRead text (gate_in (drop at text))
+                (Some (record { kind = k.value; a = a.value; b = b.value; c = c.value; next = c.next + 1 }))
+            unfolding gate_in bind known_kind line_found
+            whole l f = record {
+              found = rw (
+                read reads,
+                lt-ltb k.value kind_count h,
+                ← e,
+                read reads_a,
+                read reads_b,
+                read reads_c,
+                end_feed text c.next l f,
+              );
+              within = omega arith;
+            }

@@ -1,91 +1,78 @@
 // Decimal numbers, read from a text or put into one.
 ghost use Rattle.std.specs.Prelude.{◌≡◌, ◌+◌, ◌≤◌, ◌<◌, length, drop};
-ghost use Rattle.text_lines.specs.Decimal.{decimal, is_digit, digits_in, number_in};
+ghost use Rattle.text_lines.specs.Decimal.{decimal, digits_in, number_in};
 ghost use Rattle.text_lines.specs.inner.Found.{NumberRead};
 ghost use Rattle.text_lines.specs.inner.Stored.{Stored};
 
 const ZERO: u8 = 48;
 
-const NINE: u8 = 57;
-
 // The largest number that a gate can hold.
 const LARGEST: u64 = 4294967295;
 
-// A number and the place after it, or `Malformed` if there is no number.
-#[derive(Drop)]
-pub(crate) enum Found {
-    Value { value: u32, next: usize },
-    Malformed,
-}
-
-fn is_digit(c: u8) -> bool
-    ensures { result ≡ is_digit c }
-{
-    ZERO <= c && c <= NINE
-}
-
-fn wide(byte: u8) -> u64
-    ensures { result ≡ byte }
-{
-    byte as u64
+// A number and the place after it.
+#[derive(Clone, Copy)]
+pub(crate) struct Found {
+    pub value: u32,
+    pub next: usize,
 }
 
 // Reads digits from place `at` on; `first` is the value of the digits before. It stops at the first value above the
 // largest number, so nothing wraps.
-fn digits(text: &[u8], at: usize, first: u32) -> Found
+fn digits(text: &[u8], at: usize, first: u32) -> Option<Found>
     requires { at ≤ length text.now }
     ensures { NumberRead text.now (digits_in first (drop at text.now)) result }
 {
-    let mut value = first as u64;
-    let mut i = at;
-    while i < text.len() {
+    let mut value = u64::from(first);
+    for i in at..text.len() {
         let c = text[i];
-        if !is_digit(c) {
-            return Found::Value {
+        if !c.is_ascii_digit() {
+            return Some(Found {
                 value: value as u32,
                 next: i,
-            };
+            });
         }
-        value = 10 * value + (wide(c) - 48);
+        value = 10 * value + u64::from(c - ZERO);
         if LARGEST < value {
-            return Found::Malformed;
+            return None;
         }
-        i += 1;
     }
-    Found::Value {
+    Some(Found {
         value: value as u32,
-        next: i,
-    }
+        next: text.len(),
+    })
 }
 
 // The number that begins at a place of a text.
-pub(crate) fn number(text: &[u8], at: usize) -> Found
+pub(crate) fn number(text: &[u8], at: usize) -> Option<Found>
     requires { at ≤ length text.now }
     ensures { NumberRead text.now (number_in (drop at text.now)) result }
 {
     if text.len() <= at {
-        return Found::Malformed;
+        return None;
     }
     let c = text[at];
-    if !is_digit(c) {
-        return Found::Malformed;
+    if !c.is_ascii_digit() {
+        return None;
     }
-    if c == ZERO {
-        return Found::Value {
+    // No longer number begins with 0.
+    let alone = c == ZERO;
+    if alone {
+        return Some(Found {
             value: 0,
             next: at + 1,
-        };
+        });
     }
-    digits(text, at + 1, (c - ZERO) as u32)
+    digits(text, at + 1, u32::from(c - ZERO))
 }
 
 // How many digits a number has.
 pub(crate) fn count(n: u32) -> usize
     ensures { result ≡ length (decimal n) }
 {
-    let number = n as u64;
+    let number = u64::from(n);
     let mut more: usize = 0;
     let mut bound: u64 = 10;
+    // A `while`: it goes from a power of ten to the next, up to the number.
     while bound <= number {
         bound *= 10;
         more += 1;
@@ -108,6 +95,7 @@ pub(crate) fn put(n: u32, at: usize, output: &mut [u8]) -> usize
     let end = at + count(n);
     let mut rest = n;
     let mut i = end - 1;
+    // A `while`: the digits come from divisions, the last digit first.
     while 10 <= rest {
         output[i] = digit(rest % 10);
         rest /= 10;

@@ -12,85 +12,59 @@ pub const SPACE: u8 = 32;
 
 pub const LINE_FEED: u8 = 10;
 
-// The gate of a line and the place after the line, or `Malformed`.
-#[derive(Drop)]
-pub enum Line {
-    Gate {
-        kind: u32,
-        a: u32,
-        b: u32,
-        c: u32,
-        next: usize,
-    },
-    Malformed,
+// The gate of a line and the place after the line.
+#[derive(Clone, Copy)]
+pub struct Line {
+    pub kind: u32,
+    pub a: u32,
+    pub b: u32,
+    pub c: u32,
+    pub next: usize,
 }
 
 // The operand at a place of a text: a space and a number. An operand that is not in use has no characters.
-fn operand(used: bool, text: &[u8], at: usize) -> Found
+fn operand(used: bool, text: &[u8], at: usize) -> Option<Found>
     requires { at ≤ length text.now }
     ensures { NumberRead text.now (operand_in used (drop at text.now)) result }
 {
     if !used {
-        return Found::Value { value: 0, next: at };
+        return Some(Found { value: 0, next: at });
     }
     if text.len() <= at {
-        return Found::Malformed;
+        return None;
     }
     if text[at] != SPACE {
-        return Found::Malformed;
+        return None;
     }
     decimal::number(text, at + 1)
 }
 
 // The gate whose line begins at a place of a text.
-pub fn gate_at(text: &[u8], at: usize) -> Line
+pub fn gate_at(text: &[u8], at: usize) -> Option<Line>
     requires { at ≤ length text.now }
     ensures { LineRead text.now (gate_in (drop at text.now)) result }
 {
-    let Found::Value {
-        value: kind,
-        next: kind_end,
-    } = decimal::number(text, at)
-    else {
-        return Line::Malformed;
-    };
-    if kind::KINDS <= kind {
-        return Line::Malformed;
+    let kind = decimal::number(text, at)?;
+    if kind::KINDS <= kind.value {
+        return None;
     }
     let counts = kind::OPERANDS;
-    let count = kind::operands(&counts, kind);
-    let Found::Value {
-        value: a,
-        next: a_end,
-    } = operand(0 < count, text, kind_end)
-    else {
-        return Line::Malformed;
-    };
-    let Found::Value {
-        value: b,
-        next: b_end,
-    } = operand(1 < count, text, a_end)
-    else {
-        return Line::Malformed;
-    };
-    let Found::Value {
-        value: c,
-        next: c_end,
-    } = operand(2 < count, text, b_end)
-    else {
-        return Line::Malformed;
-    };
-    if text.len() <= c_end {
-        return Line::Malformed;
+    let count = kind::operands(&counts, kind.value);
+    let a = operand(0 < count, text, kind.next)?;
+    let b = operand(1 < count, text, a.next)?;
+    let c = operand(2 < count, text, b.next)?;
+    if text.len() <= c.next {
+        return None;
     }
-    if text[c_end] != LINE_FEED {
-        return Line::Malformed;
+    let ended = text[c.next] == LINE_FEED;
+    if !ended {
+        return None;
     }
-    Line::Gate {
-        kind,
-        a,
-        b,
-        c,
-        next: c_end + 1,
-    }
+    Some(Line {
+        kind: kind.value,
+        a: a.value,
+        b: b.value,
+        c: c.value,
+        next: c.next + 1,
+    })
 }
