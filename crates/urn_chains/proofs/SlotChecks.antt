@@ -1,27 +1,28 @@
 -- What a look at one slot answers, from the slot's bytes.
 -- Assumes nothing.
-use mathlib.Core.Path.{◌≡◌, ◌∙◌, sym, ap}
+use mathlib.Core.Path.{◌≡◌, ◌∙◌, ap}
 use mathlib.Core.Bool.{Bool, true, false, ◌&&◌}
 use mathlib.Core.List.{List}
 use Prim.Native.Nat.{ℕ, ◌+◌, ◌*◌, ◌≤◌, ◌<◌}
 use lib.Dec.{ltb, eqb}
 use lib.ListN.{length, get_or, take, drop}
 use borrow.Author.Tests.{lt-ltb, le-ltb, ltb-true}
+use Rattle.std.specs.Prelude.{Some, None}
 use Rattle.basics.proofs.Flags.{and_first, and_second, and_both}
 use Rattle.urn_chains.proofs.GoodBallots.{juror_most}
 use Rattle.urn_chains.specs.Slots.{Slot, slot_bytes, slots_of, slot_at}
 use Rattle.urn_chains.specs.Sound.{good_juror, good_ballot, in_urn, all_zero, empty_slot}
-use Rattle.urn_chains.specs.declared.walk.SlotCheck.TheVariants.{Sound, Wrong}
 use Rattle.urn_chains.specs.inner.Walk.{looked, ballot_at, free_at}
 use Rattle.urn_chains.proofs.SlotLaws.{slots_length, juror_is, ballot_is}
 
-pub look_wrong : (t : Bool) (s : Slot) → t ≡ false → Wrong ≡ looked t s
+pub look_wrong : (t : Bool) (s : Slot) → t ≡ false → None ≡ looked t s
 unfolding looked
-look_wrong t s e = ap (λ (u : Bool). looked u s) (sym e)
+look_wrong t s e = rw e
 
-pub look_well : (t : Bool) (s : Slot) (j n : ℕ) → t ≡ true → j ≡ s.juror → n ≡ s.next → Sound j n ≡ looked t s
+pub look_well : (t : Bool) (s : Slot) (j n : ℕ) → t ≡ true → j ≡ s.juror → n ≡ s.next
+    → Some (record { juror = j; next = n }) ≡ looked t s
 unfolding looked
-look_well t s j n e f g = ap (λ (x : ℕ). Sound x n) f ∙ ap (Sound s.juror) g ∙ ap (λ (u : Bool). looked u s) (sym e)
+look_well t s j n e f g = rw (e, f, g)
 
 pub in_urn_lem : (n i : ℕ) → 0 < i → i < n → in_urn n i ≡ true
 unfolding in_urn

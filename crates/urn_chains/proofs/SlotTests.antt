@@ -9,13 +9,13 @@ use native.Mathlib.Nat.{zero-mul, mul-le-mul}
 use native.Mathlib.Omega.{arith}
 use lib.Dec.{T}
 use lib.ListN.{length, get_or, take, drop, length-map}
+use Rattle.std.specs.Prelude.{Some, None}
 use Rattle.jury.specs.Shape.{most_candidates, most_grades, graded_limits}
 use Rattle.basics.proofs.Flags.{never_true}
 use Rattle.jury.proofs.Limits.{within_T}
 use Rattle.urn_chains.specs.Slots.{slot_bytes, slots_of, slot_at}
 use Rattle.urn_chains.specs.Chains.{chain, entry_at, ballot_slots, ballot_chain, free_chain}
 use Rattle.urn_chains.specs.Sound.{jury_of_one, all_zero, slot_count, urn_length, sound_slots}
-use Rattle.urn_chains.specs.declared.sound.Soundness.TheVariants.{Sound, Unsound}
 use Rattle.urn_chains.specs.inner.Table.{SlotTable, soundness}
 use Rattle.urn_chains.specs.inner.Walk.{no_marks, mark_all, ballots_from, free_from}
 use Rattle.urn_chains.proofs.SlotLaws.{slots_length, next_is, juror_is, ballot_is}
@@ -26,13 +26,13 @@ use Rattle.urn_chains.proofs.SoundLaws.{sound_parts, parts_sound, parts_found, f
 pub clash : (t : Bool) → t ≡ true → t ≡ false → ⊥
 clash t e f = let z : ◌≡◌ {A = Bool} true false = sym e ∙ f in let w : ◌≡◌ {A = ℕ} 0 1 = cc in omega arith
 
-pub unsound_is : (t : Bool) (m : ℕ) → t ≡ false → Unsound ≡ soundness t m
+pub unsound_is : (t : Bool) (m : ℕ) → t ≡ false → None ≡ soundness t m
 unfolding soundness
 unsound_is t m e = ap (λ (u : Bool). soundness u m) (sym e)
 
-pub sound_is : (t : Bool) (m c : ℕ) → t ≡ true → c ≡ m → Sound c ≡ soundness t m
+pub sound_is : (t : Bool) (m c : ℕ) → t ≡ true → c ≡ m → Some c ≡ soundness t m
 unfolding soundness
-sound_is t m c e f = ap Sound f ∙ ap (λ (u : Bool). soundness u m) (sym e)
+sound_is t m c e f = ap Some f ∙ ap (λ (u : Bool). soundness u m) (sym e)
 
 module _ (b n : ℕ) (urn : List ℕ) (t : SlotTable b n urn) where
   pub head_next : (slot_at (slots_of b n urn) 0).next ≡ get_or urn 0 0
@@ -122,6 +122,10 @@ module _ (k d n : ℕ) (urn : List ℕ) (t : SlotTable (k * d) n urn) where
         );
       }
 
+  -- an urn that fails a test is unsound
+  pub unsound : (Tests k d n urn → ⊥) → (m : ℕ) → None ≡ soundness (sound_slots k d (slots_of (k * d) n urn)) m
+  unsound f m = unsound_is _ m (never_true _ (λ e. f (sound_tests e)))
+
 -- the program's number of slots is 0 exactly if no urn has that length
 module _ (t : Bool) (count r : ℕ) (is : r ≡ cond t count 0) where
   pub counted_false : r ≡ 0 → (t ≡ true → 2 ≤ count) → t ≡ false
@@ -149,12 +153,12 @@ table b urn n f e q =
       few = f;
     }
 
-pub soundness_sound : (t : Bool) (m c : ℕ) → soundness t m ≡ Sound c → (t ≡ true) × (c ≡ m)
+pub soundness_sound : (t : Bool) (m c : ℕ) → soundness t m ≡ Some c → (t ≡ true) × (c ≡ m)
 unfolding soundness
 soundness_sound true m c e = (refl, cc)
 soundness_sound false m c e = let z : ◌≡◌ {A = ℕ} 0 1 = cc in absurd (omega arith)
 
-pub soundness_unsound : (t : Bool) (m : ℕ) → soundness t m ≡ Unsound → t ≡ false
+pub soundness_unsound : (t : Bool) (m : ℕ) → soundness t m ≡ None → t ≡ false
 unfolding soundness
 soundness_unsound true m e = let z : ◌≡◌ {A = ℕ} 0 1 = cc in absurd (omega arith)
 soundness_unsound false m e = refl

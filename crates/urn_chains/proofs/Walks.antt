@@ -9,11 +9,13 @@ use native.Mathlib.Nat.{sub-zero}
 use native.Mathlib.Omega.{arith}
 use lib.ListN.{length, get_or, set, length-set, length-replicate}
 use borrow.Author.Tests.{ne_eqb}
+use Rattle.std.specs.Prelude.{Some, None}
 use Rattle.urn_chains.specs.Slots.{Slot, slot_at}
 use Rattle.urn_chains.specs.Chains.{chain, ends}
 use Rattle.basics.specs.Lists.{all}
-use Rattle.urn_chains.specs.declared.walk.SlotCheck.TheVariants.{Sound, Wrong}
-use Rattle.urn_chains.specs.inner.Walk.{Walked, no_marks, mark_all, fresh, jurors_at, looked, ballot_at, free_at, ballots_from, free_from}
+use Rattle.urn_chains.specs.declared.walk.Link.{Link}
+use Rattle.urn_chains.specs.declared.walk.Walk.{Walk}
+use Rattle.urn_chains.specs.inner.Walk.{walked, no_marks, mark_all, fresh, jurors_at, looked, ballot_at, free_at, ballots_from, free_from}
 use Rattle.basics.proofs.Cases.{below_or_not}
 
 -- a chain from slot i on: first slot i, then the rest
@@ -53,15 +55,36 @@ unfolding ends
 ends_never i slots h = ne_eqb i 0 (λ e. omega arith)
 
 -- what the answer of a look says about the slot
-pub looked_well : (t : Bool) (s : Slot) (j n : ℕ) → looked t s ≡ Sound j n → (t ≡ true) × (j ≡ s.juror) × (n ≡ s.next)
+pub looked_well : (t : Bool) (s : Slot) (l : Link) → Some l ≡ looked t s → (t ≡ true) × (l.juror ≡ s.juror) × (l.next ≡ s.next)
 unfolding looked
-looked_well true s j n e = (refl, cc, cc)
-looked_well false s j n e = let z : ◌≡◌ {A = ℕ} 0 1 = cc in absurd (omega arith)
+looked_well true s l e = (refl, cc, cc)
+looked_well false s l e = cc
 
-pub looked_wrong : (t : Bool) (s : Slot) → looked t s ≡ Wrong → t ≡ false
+pub looked_wrong : (t : Bool) (s : Slot) → None ≡ looked t s → t ≡ false
 unfolding looked
-looked_wrong true s e = let z : ◌≡◌ {A = ℕ} 0 1 = cc in absurd (omega arith)
+looked_wrong true s e = cc
 looked_wrong false s e = refl
+
+-- what a walk answers: nothing if it found something wrong, and else the marks and the number of slots
+pub not_walked : (well : Bool) (is : List ℕ) (before : List Bool) → false ≡ well → None ≡ walked well is before
+unfolding walked
+not_walked well is before f = rw (← f)
+
+well_walked : (well : Bool) (is : List ℕ) (before marks : List Bool) (count : ℕ) → well ≡ true → marks ≡ mark_all is before
+    → count ≡ length is → Some (record { marks = marks; count = count }) ≡ walked well is before
+unfolding walked
+well_walked well is before marks count w m l = rw (w, m, l)
+
+pub walk_told : (well : Bool) (is : List ℕ) (before : List Bool) (w : Walk) → Some w ≡ walked well is before
+    → (well ≡ true) × (w.marks ≡ mark_all is before) × (w.count ≡ length is)
+unfolding walked
+walk_told true is before w e = (refl, cc, cc)
+walk_told false is before w e = cc
+
+pub walk_untold : (well : Bool) (is : List ℕ) (before : List Bool) → None ≡ walked well is before → well ≡ false
+unfolding walked
+walk_untold true is before e = cc
+walk_untold false is before e = refl
 
 -- a conjunction with a false part
 first_false : (e x : Bool) → (e && (false && x)) ≡ false
@@ -183,19 +206,15 @@ module _ (k d : ℕ) (slots : List Slot) (n first : ℕ) (marks jurors : List Bo
       ∙ ap (λ (m : ℕ). ballots_from k d slots m slot marks jurors) {x = 0} {y = n - count} (omega arith)
       ∙ on.rest) (below_or_not count n)
 
-  pub ballots_walked : slot ≡ 0 → Walked (ballots_from k d slots n first no_marks no_marks) (chain n first slots)
-      no_marks (record { good = true; marks = marks; count = count })
+  pub ballots_walked : slot ≡ 0 → Some (record { marks = marks; count = count })
+      ≡ walked (ballots_from k d slots n first no_marks no_marks) (chain n first slots) no_marks
   unfolding mark_all
   ballots_walked e =
       let none = ap (λ (i : ℕ). chain (n - count) i slots) e ∙ chain_end (n - count) slots in
-      record {
-        told =
-            sym (ballots_end k d slots (n - count) marks jurors)
-            ∙ ap (λ (i : ℕ). ballots_from k d slots (n - count) i marks jurors) (sym e)
-            ∙ on.rest;
-        marked = λ t. ap (λ (is : List ℕ). mark_all is marks) (sym none) ∙ on.marked;
-        counted = λ t. omega (arith, on.counted, ap length none);
-      }
+      well_walked _ _ _ _ _
+      (sym on.rest ∙ ap (λ (i : ℕ). ballots_from k d slots (n - count) i marks jurors) e ∙ ballots_end k d slots (n - count) marks jurors)
+      (ap (λ (is : List ℕ). mark_all is marks) (sym none) ∙ on.marked)
+      (omega (arith, on.counted, ap length none))
 
 module _ (slots : List Slot) (most i : ℕ) (marks : List Bool) (m : 0 < most) (p : 0 < i) where
   free_step : free_from slots most i marks
@@ -277,26 +296,11 @@ module _ (slots : List Slot) (n first : ℕ) (met marks : List Bool) (count slot
       ∙ ap (λ (m : ℕ). free_from slots m slot marks) {x = 0} {y = n - count} (omega arith) ∙ on.rest)
       (below_or_not count n)
 
-  pub free_walked : slot ≡ 0 → Walked (free_from slots n first met) (chain n first slots) met
-      (record { good = true; marks = marks; count = count })
+  pub free_walked : slot ≡ 0 → Some (record { marks = marks; count = count }) ≡ walked (free_from slots n first met) (chain n first slots) met
   unfolding mark_all
   free_walked e =
       let none = ap (λ (i : ℕ). chain (n - count) i slots) e ∙ chain_end (n - count) slots in
-      record {
-        told =
-            sym (free_end slots (n - count) marks)
-            ∙ ap (λ (i : ℕ). free_from slots (n - count) i marks) (sym e)
-            ∙ on.rest;
-        marked = λ t. ap (λ (is : List ℕ). mark_all is marks) (sym none) ∙ on.marked;
-        counted = λ t. omega (arith, on.counted, ap length none);
-      }
-
--- after a walk that found something wrong, nothing is promised about the marks
-pub not_walked : (well : Bool) (is : List ℕ) (before marks : List Bool) (count : ℕ) → false ≡ well
-    → Walked well is before (record { good = false; marks = marks; count = count })
-not_walked well is before marks count f =
-    record {
-      told = f;
-      marked = λ e. let z : ◌≡◌ {A = ℕ} 0 1 = cc in absurd (omega arith);
-      counted = λ e. let z : ◌≡◌ {A = ℕ} 0 1 = cc in absurd (omega arith);
-    }
+      well_walked _ _ _ _ _
+      (sym on.rest ∙ ap (λ (i : ℕ). free_from slots (n - count) i marks) e ∙ free_end slots (n - count) marks)
+      (ap (λ (is : List ℕ). mark_all is marks) (sym none) ∙ on.marked)
+      (omega (arith, on.counted, ap length none))

@@ -1,26 +1,37 @@
 -- Bytes that are all 0.
 -- Assumes nothing.
-use mathlib.Core.Path.{◌≡◌, ◌∙◌, refl, ap}
-use mathlib.Core.Bool.{Bool, true, false, ◌&&◌}
+use mathlib.Core.Path.{◌≡◌, ◌∙◌, refl, sym, ap}
+use mathlib.Core.Bool.{Bool, true, false, cond, not, ◌&&◌}
 use mathlib.Core.List.{List, [], ◌∷◌}
-use Prim.Native.Nat.{ℕ, zero, suc, ◌<◌}
+use Prim.Native.Nat.{ℕ, zero, suc, ◌+◌}
+use native.Mathlib.Nat.{add-zero}
+use native.Mathlib.Omega.{arith}
 use lib.Dec.{eqb}
-use lib.ListN.{length, get_or, drop, replicate}
-use lib.Seq.{drop-cons}
-use borrow.Author.Tests.{eq-eqb, ne_eqb, eqb-true}
-use Rattle.basics.proofs.Flags.{and_first, and_second}
+use lib.ListN.{length, replicate}
+use borrow.Author.Tests.{ne_eqb, eqb-true}
+use Rattle.std.specs.Prelude.{fold, count_by}
+use Rattle.basics.proofs.Flags.{and_first, and_second, and_second_fails}
 use Rattle.basics.specs.Lists.{all}
 use Rattle.urn_chains.specs.Sound.{all_zero}
 
-zero_step : (xs : List ℕ) (i : ℕ) → i < length xs → all_zero (drop i xs) ≡ (eqb (get_or xs i 0) 0 && all_zero (drop (suc i) xs))
+and_true : (t : Bool) → t ≡ (t && true)
+and_true true = refl
+and_true false = refl
+
+-- all bytes are 0 exactly if none of another value is counted; n were counted before
+others : (n : ℕ) (xs : List ℕ) → eqb (fold (λ a x. a + cond (not (eqb x 0)) 1 0) n xs) 0 ≡ (eqb n 0 && all_zero xs)
 unfolding all all_zero
-zero_step xs i h = rw (drop-cons xs i 0)
+others n [] = and_true (eqb n 0)
+others n (x ∷ xs) = by (eqb x 0) (λ m. others m xs)
+  where
+    by : (t : Bool) → ((m : ℕ) → eqb (fold (λ a x. a + cond (not (eqb x 0)) 1 0) m xs) 0 ≡ (eqb m 0 && all_zero xs))
+        → eqb (fold (λ a x. a + cond (not (eqb x 0)) 1 0) (n + cond (not t) 1 0) xs) 0 ≡ (eqb n 0 && (t && all_zero xs))
+    by true ih = ih (n + 0) ∙ ap (λ (m : ℕ). eqb m 0 && all_zero xs) (add-zero n)
+    by false ih = ih (n + 1)
+        ∙ ap (λ (u : Bool). u && all_zero xs) (ne_eqb (n + 1) 0 (λ e. omega arith)) ∙ sym (and_second_fails (eqb n 0) false refl)
 
-pub zero_here : (xs : List ℕ) (i : ℕ) → i < length xs → (get_or xs i 0 ≡ 0 → ⊥) → all_zero (drop i xs) ≡ false
-zero_here xs i h n = zero_step xs i h ∙ ap (λ (t : Bool). t && all_zero (drop (suc i) xs)) (ne_eqb (get_or xs i 0) 0 n)
-
-pub zero_later : (xs : List ℕ) (i : ℕ) → i < length xs → get_or xs i 0 ≡ 0 → all_zero (drop i xs) ≡ all_zero (drop (suc i) xs)
-zero_later xs i h e = zero_step xs i h ∙ ap (λ (t : Bool). t && all_zero (drop (suc i) xs)) (eq-eqb (get_or xs i 0) 0 e)
+pub none_other : (xs : List ℕ) → eqb (count_by (λ x. not (eqb x 0)) xs) 0 ≡ all_zero xs
+none_other xs = others 0 xs
 
 -- `all_zero` holds exactly for lists of zeros
 pub zeros_zero : (n : ℕ) → all_zero (replicate n 0) ≡ true

@@ -12,13 +12,6 @@ pub const LEAST_SLOTS: usize = 2;
 
 pub const MOST_SLOTS: usize = 256;
 
-// Whether an urn is sound, and how many ballots a sound one has.
-#[derive(Drop)]
-pub enum Soundness {
-    Sound { ballots: usize },
-    Unsound,
-}
-
 // How many slots `length` bytes are, if a ballot has `bytes` bytes; 0 if no urn has that length.
 pub fn slots_in(bytes: usize, length: usize) -> usize
     requires { bytes ≤ most_candidates * most_grades }
@@ -38,9 +31,9 @@ pub fn slots_in(bytes: usize, length: usize) -> usize
     slots
 }
 
-// Tests slot 0 and both chains of an urn of the right length. No slot is in both chains; so if the chains together
+// Tests slot 0 and both chains of an urn of the right length, and answers how many ballots a sound one has. No slot is in both chains; so if the chains together
 // have as many slots as there are from 1 on, none is left out.
-fn test_slots(k: usize, d: usize, urn: &[u8], slots: usize) -> Soundness
+fn test_slots(k: usize, d: usize, urn: &[u8], slots: usize) -> Option<usize>
     requires { GradedTable k d slots urn.now }
     ensures { result ≡ soundness (sound_slots k d (slots_of (k * d) slots urn.now))
         (length (ballot_chain (slots_of (k * d) slots urn.now))) }
@@ -48,33 +41,24 @@ fn test_slots(k: usize, d: usize, urn: &[u8], slots: usize) -> Soundness
     let bytes = k * d;
     let size = 2 + bytes;
     if !walk::is_zero(&urn[2..size]) {
-        return Soundness::Unsound;
+        return None;
     }
-    let ballots = walk::walk_ballots(urn, k, d, slots);
-    if !ballots.good {
-        return Soundness::Unsound;
-    }
-    let met = ballots.marks;
-    let free = walk::walk_free(urn, bytes, slots, met);
-    if !free.good {
-        return Soundness::Unsound;
-    }
+    let ballots = walk::walk_ballots(urn, k, d, slots)?;
+    let free = walk::walk_free(urn, bytes, slots, ballots.marks)?;
     if ballots.count + free.count != slots - 1 {
-        return Soundness::Unsound;
+        return None;
     }
-    Soundness::Sound {
-        ballots: ballots.count,
-    }
+    Some(ballots.count)
 }
 
-// Tests an urn of any length, with any bytes.
-pub fn test(k: usize, d: usize, urn: &[u8]) -> Soundness
+// Tests an urn of any length, with any bytes, and answers how many ballots a sound one has.
+pub fn test(k: usize, d: usize, urn: &[u8]) -> Option<usize>
     requires { T (graded_shape k d) }
     ensures { result ≡ soundness (sound k d urn.now) (length (entries_of k d urn.now)) }
 {
     let slots = slots_in(k * d, urn.len());
     if slots == 0 {
-        return Soundness::Unsound;
+        return None;
     }
     test_slots(k, d, urn, slots)
 }

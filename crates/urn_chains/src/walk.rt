@@ -4,41 +4,30 @@ ghost use Rattle.urn_chains.specs.Slots.{slots_of, slot_at};
 ghost use Rattle.urn_chains.specs.Chains.{chain};
 ghost use Rattle.urn_chains.specs.Sound.{graded_shape, good_juror, good_ballot, all_zero};
 ghost use Rattle.urn_chains.specs.inner.Table.{SlotTable, GradedTable};
-ghost use Rattle.urn_chains.specs.inner.Walk.{BallotLook, FreeLook, Walked, no_marks, looked, ballot_at, free_at, ballots_from, free_from};
+ghost use Rattle.urn_chains.specs.inner.Walk.{BallotLook, FreeLook, walked, no_marks, looked, ballot_at, free_at, ballots_from, free_from};
 
-use basics::byte::wide;
 use jury::reason::Verdict;
 use jury::shape::Shape;
 
-// What a walk along a chain found: whether all is well and, if so, marks for all slots met so far and the chain's
-// length.
-#[derive(Drop)]
+// What a walk along a chain of sound slots found: marks for all slots met so far, and the chain's length.
+#[derive(Clone, Copy)]
 pub struct Walk {
-    pub good: bool,
     pub marks: [bool; 256],
     pub count: usize,
 }
 
-// What a look at one slot of a chain finds: its juror and the index of the next slot, if the slot is sound.
-#[derive(Drop)]
-pub enum SlotCheck {
-    Sound { juror: usize, next: usize },
-    Wrong,
+// What a look at a sound slot of a chain finds: its juror and the index of the next slot.
+#[derive(Clone, Copy)]
+pub struct Link {
+    pub juror: usize,
+    pub next: usize,
 }
 
-// Whether all bytes are 0. The loop always looks at all of them: one that could end early could not be vectorised.
+// Whether all bytes are 0. All of them are counted: a search that could end early could not be vectorised.
 pub fn is_zero(bytes: &[u8]) -> bool
     ensures { result ≡ all_zero bytes.now }
 {
-    let mut zero = true;
-    let mut i = 0;
-    while i < bytes.len() {
-        if bytes[i] != 0 {
-            zero = false;
-        }
-        i += 1;
-    }
-    zero
+    bytes.iter().filter(|b| **b != 0).count() == 0
 }
 
 // Whether a slot of the ballot chain holds a juror's number and a good ballot. Jurors are 1 to 255, so the only
@@ -62,13 +51,13 @@ fn holds_ballot(k: usize, d: usize, juror: u8, ballot: &[u8]) -> bool
 }
 
 // Looks at a slot of the ballot chain.
-fn look_at_ballot(urn: &[u8], k: usize, d: usize, slots: usize, slot: usize) -> SlotCheck
+fn look_at_ballot(urn: &[u8], k: usize, d: usize, slots: usize, slot: usize) -> Option<Link>
     requires { BallotLook k d slots slot urn.now }
     ensures { result ≡ looked (ballot_at k d (slots_of (k * d) slots urn.now) slot)
         (slot_at (slots_of (k * d) slots urn.now) slot) }
 {
     if slots <= slot {
-        return SlotCheck::Wrong;
+        return None;
     }
     let size = 2 + k * d;
     let at = slot * size;
@@ -76,22 +65,22 @@ fn look_at_ballot(urn: &[u8], k: usize, d: usize, slots: usize, slot: usize) -> 
     let end = at + size;
     let juror = urn[at + 1];
     if !holds_ballot(k, d, juror, &urn[from..end]) {
-        return SlotCheck::Wrong;
+        return None;
     }
-    SlotCheck::Sound {
-        juror: wide(juror),
-        next: wide(urn[at]),
-    }
+    Some(Link {
+        juror: usize::from(juror),
+        next: usize::from(urn[at]),
+    })
 }
 
 // Looks at a slot of the free chain. Ballots have `bytes` bytes.
-fn look_at_free(urn: &[u8], bytes: usize, slots: usize, slot: usize) -> SlotCheck
+fn look_at_free(urn: &[u8], bytes: usize, slots: usize, slot: usize) -> Option<Link>
     requires { FreeLook bytes slots slot urn.now }
     ensures { result ≡ looked (free_at (slots_of bytes slots urn.now) slot)
         (slot_at (slots_of bytes slots urn.now) slot) }
 {
     if slots <= slot {
-        return SlotCheck::Wrong;
+        return None;
     }
     let size = 2 + bytes;
     let at = slot * size;
@@ -99,110 +88,69 @@ fn look_at_free(urn: &[u8], bytes: usize, slots: usize, slot: usize) -> SlotChec
     let end = at + size;
     let juror = urn[at + 1];
     if juror != 0 {
-        return SlotCheck::Wrong;
+        return None;
     }
     if !is_zero(&urn[from..end]) {
-        return SlotCheck::Wrong;
+        return None;
     }
-    SlotCheck::Sound {
-        juror: wide(juror),
-        next: wide(urn[at]),
-    }
+    Some(Link {
+        juror: usize::from(juror),
+        next: usize::from(urn[at]),
+    })
 }
 
 // Walks along the ballot chain. A chain that has not ended after as many slots as there are will never end.
-pub fn walk_ballots(urn: &[u8], k: usize, d: usize, slots: usize) -> Walk
+pub fn walk_ballots(urn: &[u8], k: usize, d: usize, slots: usize) -> Option<Walk>
     requires { GradedTable k d slots urn.now }
-    ensures { Walked
+    ensures { result ≡ walked
         (ballots_from k d (slots_of (k * d) slots urn.now) slots (get_or urn.now 0 0) no_marks no_marks)
-        (chain slots (get_or urn.now 0 0) (slots_of (k * d) slots urn.now)) no_marks result }
+        (chain slots (get_or urn.now 0 0) (slots_of (k * d) slots urn.now)) no_marks }
 {
     let mut marks = [false; 256];
     let mut jurors = [false; 256];
     let mut count = 0;
-    let mut slot = wide(urn[0]);
+    let mut slot = usize::from(urn[0]);
+    // A `while`: the chain is followed, not counted.
     while slot != 0 {
         if count == slots {
-            return Walk {
-                good: false,
-                marks,
-                count,
-            };
+            return None;
         }
-        let look = look_at_ballot(urn, k, d, slots, slot);
-        let SlotCheck::Sound { juror, next } = look else {
-            return Walk {
-                good: false,
-                marks,
-                count,
-            };
-        };
+        let link = look_at_ballot(urn, k, d, slots, slot)?;
         if marks[slot] {
-            return Walk {
-                good: false,
-                marks,
-                count,
-            };
+            return None;
         }
-        if jurors[juror] {
-            return Walk {
-                good: false,
-                marks,
-                count,
-            };
+        if jurors[link.juror] {
+            return None;
         }
         marks[slot] = true;
-        jurors[juror] = true;
+        jurors[link.juror] = true;
         count += 1;
-        slot = next;
+        slot = link.next;
     }
-    Walk {
-        good: true,
-        marks,
-        count,
-    }
+    Some(Walk { marks, count })
 }
 
 // Walks along the free chain in the same way. `met` has marks for the slots of the ballot chain.
-pub fn walk_free(urn: &[u8], bytes: usize, slots: usize, met: [bool; 256]) -> Walk
+pub fn walk_free(urn: &[u8], bytes: usize, slots: usize, met: [bool; 256]) -> Option<Walk>
     requires { SlotTable bytes slots urn.now }
-    ensures { Walked
+    ensures { result ≡ walked
         (free_from (slots_of bytes slots urn.now) slots (get_or urn.now 1 0) met)
-        (chain slots (get_or urn.now 1 0) (slots_of bytes slots urn.now)) met result }
+        (chain slots (get_or urn.now 1 0) (slots_of bytes slots urn.now)) met }
 {
     let mut marks = met;
     let mut count = 0;
-    let mut slot = wide(urn[1]);
+    let mut slot = usize::from(urn[1]);
     while slot != 0 {
         if count == slots {
-            return Walk {
-                good: false,
-                marks,
-                count,
-            };
+            return None;
         }
-        let look = look_at_free(urn, bytes, slots, slot);
-        let SlotCheck::Sound { juror: _, next } = look else {
-            return Walk {
-                good: false,
-                marks,
-                count,
-            };
-        };
+        let link = look_at_free(urn, bytes, slots, slot)?;
         if marks[slot] {
-            return Walk {
-                good: false,
-                marks,
-                count,
-            };
+            return None;
         }
         marks[slot] = true;
         count += 1;
-        slot = next;
+        slot = link.next;
     }
-    Walk {
-        good: true,
-        marks,
-        count,
-    }
+    Some(Walk { marks, count })
 }

@@ -1,10 +1,8 @@
 -- The bytes of an urn as a table of slots.
-use Rattle.std.specs.Prelude.{◌≡◌, Bool, true, false, List, ℕ, ◌*◌, ◌≤◌, T, length}
+use Rattle.std.specs.Prelude.{◌≡◌, Bool, true, false, List, ℕ, ◌*◌, ◌≤◌, T, length, Option, Some, None}
 use Rattle.jury.specs.Shape.{most_candidates, most_grades}
 use Rattle.urn_chains.specs.Slots.{slot_bytes}
 use Rattle.urn_chains.specs.Sound.{graded_shape, most_slots}
-use Rattle.urn_chains.specs.declared.sound.Soundness.{Soundness}
-use Rattle.urn_chains.specs.declared.sound.Soundness.TheVariants.{Sound, Unsound}
 
 -- The bytes are n slots for ballots of b bytes.
 pub record SlotTable (b n : ℕ) (urn : List ℕ) : Type 0 where
@@ -19,6 +17,6 @@ pub record GradedTable (k d n : ℕ) (urn : List ℕ) : Type 0 where
   pub table : SlotTable (k * d) n urn
 
 -- The answer of an urn's test: whether it is sound and, if so, how many ballots it has.
-unfoldable pub soundness : Bool → ℕ → Soundness
-soundness true ballots = Sound ballots
-soundness false ballots = Unsound
+unfoldable pub soundness : Bool → ℕ → Option ℕ
+soundness true ballots = Some ballots
+soundness false ballots = None

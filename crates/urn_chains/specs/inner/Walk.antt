@@ -1,11 +1,10 @@
 -- What a walk along a chain has to find.
-use Rattle.std.specs.Prelude.{◌≡◌, Bool, true, false, not, ◌&&◌, List, [], ◌∷◌, map, ℕ, ◌<◌, length, get_or, set, replicate}
+use Rattle.std.specs.Prelude.{Bool, true, false, not, ◌&&◌, List, [], ◌∷◌, map, ℕ, ◌<◌, length, get_or, set, replicate, Option, Some, None}
 use Rattle.urn_chains.specs.Slots.{Slot, slot_at}
 use Rattle.urn_chains.specs.Chains.{chain, ends}
 use Rattle.basics.specs.Lists.{all}
 use Rattle.urn_chains.specs.Sound.{good_ballot, good_juror, in_urn, empty_slot, most_slots}
-use Rattle.urn_chains.specs.declared.walk.SlotCheck.{SlotCheck}
-use Rattle.urn_chains.specs.declared.walk.SlotCheck.TheVariants.{Sound, Wrong}
+use Rattle.urn_chains.specs.declared.walk.Link.{Link}
 use Rattle.urn_chains.specs.declared.walk.Walk.{Walk}
 use Rattle.urn_chains.specs.inner.Table.{SlotTable, GradedTable}
 
@@ -19,9 +18,9 @@ pub record FreeLook (b n slot : ℕ) (urn : List ℕ) : Type 0 where
   pub chained : 0 < slot
 
 -- The answer of a look at a slot: its juror and the next index if it is sound.
-unfoldable pub looked : Bool → Slot → SlotCheck
-looked true s = Sound s.juror s.next
-looked false s = Wrong
+unfoldable pub looked : Bool → Slot → Option Link
+looked true s = Some (record { juror = s.juror; next = s.next })
+looked false s = None
 
 -- Slot i is one of the slots from 1 on, and holds a juror's number and a good ballot.
 unfoldable pub ballot_at : ℕ → ℕ → List Slot → ℕ → Bool
@@ -62,9 +61,7 @@ unfoldable pub free_from : List Slot → ℕ → ℕ → List Bool → Bool
 free_from slots most i marks =
     ends most i slots && all (free_at slots) (chain most i slots) && fresh (chain most i slots) marks
 
--- What a walk along the slots `is` answers: whether all is well and, if so, the marks with those of `is` added, and
--- their number.
-pub record Walked (well : Bool) (is : List ℕ) (before : List Bool) (walk : Walk) : Type 0 where
-  pub told : walk.good ≡ well
-  pub marked : walk.good ≡ true → walk.marks ≡ mark_all is before
-  pub counted : walk.good ≡ true → walk.count ≡ length is
+-- What a walk along the slots `is` answers if all is well: the marks with those of `is` added, and their number.
+unfoldable pub walked : Bool → List ℕ → List Bool → Option Walk
+walked true is before = Some (record { marks = mark_all is before; count = length is })
+walked false is before = None

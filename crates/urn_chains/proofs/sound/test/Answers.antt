@@ -11,30 +11,25 @@ use Rattle.urn_chains.specs.inner.Table.{soundness}
 use Rattle.urn_chains.proofs.BytesLaws.{count_least}
 use Rattle.urn_chains.proofs.SlotTests.{unsound_is, counted_false, counted_true, counted_is, few_bytes, table}
 use native.Mathlib.Omega.{arith}
-use Rattle.urn_chains.proofs.sound.test.Statement.{statement}
-use Rattle.urn_chains.proofs.sound.test.Tie as tie
+use Rattle.urn_chains.proofs.sound.test.Goals as goal
 
-mul_slots_in : tie.Need-overflow_mul-k
-mul_slots_in c =
-    omega (arith, few_bytes c.args.k c.args.d c.requires)
+pub overflow_mul-k : goal.overflow_mul-k
+overflow_mul-k c = omega (arith, few_bytes c.args.k c.args.d c.requires)
 
-slots_in_requires : tie.Need-slots_in-slots-requires
-slots_in_requires c κs =
-    few_bytes c.args.k c.args.d c.requires
+pub slots_in-slots-requires : goal.slots_in-slots-requires
+slots_in-slots-requires c = few_bytes c.args.k c.args.d c.requires
 
-returns : tie.Need-returns-then-slots-eq0
+pub returns-then-slots-eq0 : goal.returns-then-slots-eq0
 unfolding sound
-returns c =
-    let a = c.args in
+returns-then-slots-eq0 c = let a = c.args in
     let b = a.k * a.d in
     let m = length a.urn.now in
     unsound_is _ _ (ap (λ (t : Bool). t && sound_slots a.k a.d (urn_slots a.k a.d a.urn.now))
     (counted_false (urn_length b m) (slot_count b m) _ c.slots_in-slots.ensures c.if-slots-eq0.true
     (count_least b m)))
 
-test_slots_requires : tie.Need-test_slots-requires
-test_slots_requires c κs =
-    let a = c.args in
+pub test_slots-requires : goal.test_slots-requires
+test_slots-requires c = let a = c.args in
     let b = a.k * a.d in
     let m = length a.urn.now in
     record {
@@ -45,10 +40,9 @@ test_slots_requires c κs =
           (counted_is (urn_length b m) (slot_count b m) _ c.slots_in-slots.ensures c.if-slots-eq0.false);
     }
 
-returns_2 : tie.Need-returns
+pub returns : goal.returns
 unfolding sound urn_slots
-returns_2 c =
-    let a = c.args in
+returns c = let a = c.args in
     let b = a.k * a.d in
     let m = length a.urn.now in
     let good = counted_true (urn_length b m) (slot_count b m) _ c.slots_in-slots.ensures c.if-slots-eq0.false in
@@ -58,7 +52,3 @@ returns_2 c =
     (counted_is (urn_length b m) (slot_count b m) _ c.slots_in-slots.ensures c.if-slots-eq0.false)
     ∙ ap (λ (t : Bool). soundness (t && sound_slots a.k a.d (slots_of b (slot_count b m) a.urn.now))
     (length (ballot_chain (slots_of b (slot_count b m) a.urn.now)))) (sym good)
-
-pub test_spec : {M : Type 1} → statement M
-test_spec =
-    tie.close (tie.spec mul_slots_in slots_in_requires returns test_slots_requires returns_2)
