@@ -34,12 +34,10 @@ pub fn count_size(count: u32, extra: u32, levels: u32) -> u32
     let mut gates: u32 = 0;
     let mut carries = count;
     let mut rest = extra;
-    let mut left = levels;
-    while 0 < left {
+    for _ in 0..levels {
         carries = (carries + rest % 2) / 2;
         gates += 3 * carries;
         rest /= 2;
-        left -= 1;
     }
     gates
 }
@@ -60,15 +58,13 @@ pub(crate) fn level(
     let mut w = start;
     let mut s = sum;
     let mut at = first;
-    let mut left = count;
-    while 1 < left {
+    for _ in 0..count / 2 {
         let n = w.wire;
         w = full_adder(w, table, s, at, at + stride);
         s = n + 1;
         at = at + stride + stride;
-        left -= 2;
     }
-    if left == 1 {
+    if count % 2 == 1 {
         return half_adder(w, table, s, at, e);
     }
     if e == 0 {
@@ -96,15 +92,13 @@ pub fn count_levels(
     let mut d = stride;
     let mut m = count;
     let mut rest = extra;
-    let mut left = levels;
-    while 0 < left {
+    for _ in 0..levels {
         let n = w.wire;
         w = level(w, table, at, at + d, d, rest % 2, m - 1);
         at = n + 2;
         d = 3;
         m = adders_of(m - 1, rest % 2);
         rest /= 2;
-        left -= 1;
     }
     w
 }
@@ -130,14 +124,12 @@ pub fn count_digits(
     let mut at = first;
     let mut m = count;
     let mut rest = extra;
-    let mut left = levels;
-    while 0 < left {
+    for _ in 0..levels {
         w = w.emit(table, low, level_sum(n, at, m - 1, rest % 2), 0, 0);
         at = n + 2;
         m = adders_of(m - 1, rest % 2);
         n += 3 * m;
         rest /= 2;
-        left -= 1;
     }
     w.emit(table, top, at, 0, 0)
 }

@@ -35,12 +35,10 @@ fn carries(w: Writer, table: &mut [u32], x: u32, y: u32, carry: u32, digits: u32
 {
     let mut next = w;
     let mut last = carry;
-    let mut i: u32 = 0;
-    while i < digits {
+    for i in 0..digits {
         let n = next.wire;
         next = carry_next(next, table, x + i, y + i, last);
         last = n + 1;
-        i += 1;
     }
     next
 }
@@ -52,12 +50,10 @@ fn carries_by(w: Writer, table: &mut [u32], f: u32, x: u32, carry: u32, digits: 
 {
     let mut next = w;
     let mut last = carry;
-    let mut i: u32 = 0;
-    while i < digits {
+    for i in 0..digits {
         let n = next.wire;
         next = next.emit(table, kind::CHOICE, f + i, last, x + i);
         last = n;
-        i += 1;
     }
     next
 }
