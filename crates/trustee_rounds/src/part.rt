@@ -123,6 +123,8 @@ pub(crate) fn publish_gate(
         published: 0,
     };
     let at = 2 * i;
-    published[at] = gate::masked_first(pieces, numbers, i, 0, triples, wires);
-    published[at + 1] = gate::masked_second(pieces, numbers, i, 0, triples, wires);
+    let first = gate::masked_first(pieces, numbers, i, 0, triples, wires);
+    let second = gate::masked_second(pieces, numbers, i, 0, triples, wires);
+    published[at] = first;
+    published[at + 1] = second;
 }

@@ -24,19 +24,19 @@ conditional_here c = sym c.conditional.ensures ∙ c.if-not-conditional.false
 
 pub returns : goal.returns
 returns c = let a = c.args in
-    let first : c.masked_first.result ≡ masked_first a.wires.now a.triples.now a.i (gate_of_numbers a.numbers) =
-    c.masked_first.ensures
+    let first : c.masked_first-first.result ≡ masked_first a.wires.now a.triples.now a.i (gate_of_numbers a.numbers) =
+    c.masked_first-first.ensures
     ∙ ap (λ (l : List ℕ). masked_first l (piece (length a.triples.now) a.triples.now 0) a.i
     (gate_of_numbers a.numbers)) (own_piece a.wires.now)
     ∙ ap (λ (l : List ℕ). masked_first a.wires.now l a.i (gate_of_numbers a.numbers)) (own_piece a.triples.now) in
-    let second : c.masked_second.result ≡ masked_second a.wires.now a.triples.now a.i (gate_of_numbers a.numbers) =
-    c.masked_second.ensures ∙ ap (λ (l : List ℕ). masked_second l
+    let second : c.masked_second-second.result ≡ masked_second a.wires.now a.triples.now a.i (gate_of_numbers a.numbers) =
+    c.masked_second-second.ensures ∙ ap (λ (l : List ℕ). masked_second l
     (piece (length a.triples.now) a.triples.now 0) a.i (gate_of_numbers a.numbers)) (own_piece a.wires.now)
     ∙ ap (λ (l : List ℕ). masked_second a.wires.now l a.i (gate_of_numbers a.numbers))
     (own_piece a.triples.now) in
-    ap (λ (n : ℕ). set (set a.published.now (2 * a.i) c.masked_first.result) n
-    c.masked_second.result) (add-one (2 * a.i))
-    ∙ ap (λ (v : ℕ). set (set a.published.now (2 * a.i) v) (suc (2 * a.i)) c.masked_second.result) first
+    ap (λ (n : ℕ). set (set a.published.now (2 * a.i) c.masked_first-first.result) n
+    c.masked_second-second.result) (add-one (2 * a.i))
+    ∙ ap (λ (v : ℕ). set (set a.published.now (2 * a.i) v) (suc (2 * a.i)) c.masked_second-second.result) first
     ∙ ap (λ (v : ℕ). set (set a.published.now (2 * a.i)
     (masked_first a.wires.now a.triples.now a.i (gate_of_numbers a.numbers))) (suc (2 * a.i)) v) second
     ∙ sym (ap (λ (b : Bool). cond (b && eqb a.level a.next)
