@@ -1,23 +1,17 @@
 // The functions with which the two programs read and print.
 #![tactic(auto)]
 
-ghost use Rattle.std.specs.Prelude.{◌<◌, ◌≤◌, length, IfOk};
+ghost use Rattle.std.specs.Prelude.{◌≤◌, length, IfOk};
 
 use std::io;
 use std::io::Read;
-
-// A byte as a wider number. The contract says that it is still below 256.
-fn wide(x: u8) -> u32
-    ensures { result < 256 }
-{
-    x as u32
-}
 
 // Reads until the buffer is full or the input ends, and returns how many bytes it put at the start of the buffer.
 pub fn read_full<R: Read>(reader: &mut R, buffer: &mut [u8]) -> io::Result<usize>
     ensures { IfOk result (λ n. n ≤ length buffer.new) }
 {
     let mut done = 0;
+    // A `while`: each read fills as much as it can, not one byte.
     while done < buffer.len() {
         let got = reader.read(&mut buffer[done..])?;
         if got == 0 {
@@ -48,10 +42,8 @@ pub fn print_refused(rt: &impl Print, number: usize, place: usize) -> io::Result
 // Prints a line: the text, the bytes as numbers, each with a space before it, and a line feed.
 pub fn print_bytes(rt: &impl Print, text: &[u8], bytes: &[u8]) -> io::Result<()> {
     print_text(rt, text)?;
-    let mut i = 0;
-    while i < bytes.len() {
-        print_number(rt, wide(bytes[i]) as usize)?;
-        i += 1;
+    for byte in bytes {
+        print_number(rt, usize::from(*byte))?;
     }
     print_text(rt, b"\n")
 }

@@ -9,23 +9,22 @@ use native.Mathlib.Omega.{arith}
 use lib.Dec.{leb, eqb}
 use lib.ListN.{length}
 use borrow.Author.Tests.{eq-eqb, ne_eqb, le-leb, lt-leb}
-use Rattle.gates.specs.declared.place.Place.{Place}
-use Rattle.gates.specs.declared.place.Place.TheVariants.{At, Nowhere}
+use Rattle.std.specs.Prelude.{Some, None, Ok, Err}
+use Rattle.std.specs.Prelude as prelude
 use Rattle.jury.specs.Reason.{Reason, unless, found_at, first_of}
 use Rattle.basics.proofs.Flags.{and_both, and_first_fails, and_second_fails}
 use Rattle.season.specs.declared.sheet.Totals.{Totals}
 use Rattle.season.specs.declared.sheet.Refusal.{Refusal}
 use Rattle.season.specs.declared.sheet.Refusal.TheVariants.{Length, BadRun}
-use Rattle.season.specs.declared.sheet.Answer.TheVariants.{Accepted, Refused}
 use Rattle.season.specs.Season.{run_bytes, most_runs, runs_in, first_bad_run, totals_of, sheet_reasons, sheet_reason_of, reason_for, totals_for, totals_after, sum_over, Sheet}
 use Rattle.season.specs.declared.run.Run.{Run}
 use Rattle.season.specs.Theorems.{SheetSums}
 
 -- the first reason, from the outcomes of both tests
-unfoldable pub judged : Bool → Place → Option Reason
+unfoldable pub judged : Bool → prelude.Option ℕ → Option Reason
 judged size run = first_of (unless size 21 ∷ found_at 22 run ∷ [])
 
-pub judged_by : (bytes : List ℕ) (size : Bool) (run : Place)
+pub judged_by : (bytes : List ℕ) (size : Bool) (run : prelude.Option ℕ)
     → (eqb (length bytes % run_bytes) 0 && leb (length bytes) (most_runs * run_bytes)) ≡ size
     → first_bad_run 0 (runs_in bytes) ≡ run →
     first_of (sheet_reasons bytes) ≡ judged size run
@@ -49,21 +48,21 @@ module _ (bytes : List ℕ) where
   size_passes h l = and_both _ _ (eq-eqb (length bytes % run_bytes) 0 h) (le-leb (length bytes) (most_runs * run_bytes) l)
 
   pub bad_run : (i : ℕ) → length bytes % run_bytes ≡ 0 → length bytes ≤ most_runs * run_bytes
-      → first_bad_run 0 (runs_in bytes) ≡ At i → first_of (sheet_reasons bytes) ≡ some (sheet_reason_of (BadRun i))
+      → first_bad_run 0 (runs_in bytes) ≡ Some i → first_of (sheet_reasons bytes) ≡ some (sheet_reason_of (BadRun i))
   unfolding judged unless found_at first_of sheet_reason_of
-  bad_run i h l e = judged_by bytes true (At i) (size_passes h l) e
+  bad_run i h l e = judged_by bytes true (Some i) (size_passes h l) e
 
   pub no_reason : length bytes % run_bytes ≡ 0 → length bytes ≤ most_runs * run_bytes → first_bad_run 0 (runs_in bytes)
-      ≡ Nowhere → first_of (sheet_reasons bytes) ≡ none
+      ≡ None → first_of (sheet_reasons bytes) ≡ none
   unfolding judged unless found_at first_of
-  no_reason h l e = judged_by bytes true Nowhere (size_passes h l) e
+  no_reason h l e = judged_by bytes true None (size_passes h l) e
 
   -- the program's answers are the definition's
-  pub refused_is : (r : Refusal) → first_of (sheet_reasons bytes) ≡ some (sheet_reason_of r) → Sheet bytes (Refused r)
+  pub refused_is : (r : Refusal) → first_of (sheet_reasons bytes) ≡ some (sheet_reason_of r) → Sheet bytes (Err r)
   unfolding reason_for totals_for totals_after
   refused_is r e = record { reason = sym e; totals = sym (ap (λ (o : Option Reason). totals_after o (totals_of (runs_in bytes))) e) }
 
-  pub accepted_is : (t : Totals) → first_of (sheet_reasons bytes) ≡ none → t ≡ totals_of (runs_in bytes) → Sheet bytes (Accepted t)
+  pub accepted_is : (t : Totals) → first_of (sheet_reasons bytes) ≡ none → t ≡ totals_of (runs_in bytes) → Sheet bytes (Ok t)
   unfolding reason_for totals_for totals_after
   accepted_is t e h =
       record { reason = sym e; totals = ap some h ∙ sym (ap (λ (o : Option Reason). totals_after o (totals_of (runs_in bytes))) e) }

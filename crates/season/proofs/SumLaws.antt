@@ -1,18 +1,11 @@
 -- Sums over the runs of a season: the totals so far plus those of the rest are the totals of all.
 -- Assumes nothing.
-use mathlib.Core.Path.{◌≡◌, ◌∙◌, refl, sym, ap, subst}
-use mathlib.Core.Bool.{Bool, true, false, cond}
-use mathlib.Core.List.{List, [], ◌∷◌}
-use Prim.Native.Nat.{ℕ, suc, ◌+◌, ◌-◌, ◌≤◌, ◌<◌}
-use native.Mathlib.Nat.{zero-add}
-use native.Mathlib.Omega.{arith}
-use lib.Dec.{ltb}
-use lib.ListN.{take, drop}
+use Rattle.std.proofs.Common.{◌≡◌, ◌∙◌, refl, sym, ap, subst, Bool, true, false, cond, List, [], ◌∷◌, ◌++◌, ℕ, ◌+◌, ◌≤◌, ◌<◌, length, ltb, zero-add, arith}
 use Rattle.season.specs.declared.run.Run.{Run}
 use Rattle.season.specs.declared.sheet.Totals.{Totals}
-use Rattle.season.specs.Season.{run_bytes, run_of, first_runs, sum_over, winners_of, shared_of, totals_of}
+use Rattle.season.specs.Season.{run_bytes, run_of, runs_in, sum_over, winners_of, shared_of, totals_of}
 use Rattle.season.specs.inner.Sums.{Small, SumsOf, plus_run}
-use Rattle.season.proofs.RunLaws.{runs_step, runs_end, part_is, left_is}
+use Rattle.season.proofs.RunLaws.{runs_step, runs_end}
 
 -- the sum of two totals, number by number
 unfoldable pub plus : Totals → Totals → Totals
@@ -46,25 +39,15 @@ unfolding plus plus_run totals_of sum_over
 plus_run_lem t r rs = same_totals _ _ _ _ _ _ _ _ _ _ (omega arith) (omega arith) (omega arith) (omega arith) (omega arith)
 
 -- a turn of the loop: the next run is added
-pub sums_step : (t : Totals) (i runs : ℕ) (bytes : List ℕ) → i < runs →
-    plus (plus_run t (run_of (take run_bytes bytes))) (totals_of (first_runs (runs - suc i) (drop run_bytes bytes)))
-    ≡ plus t (totals_of (first_runs (runs - i) bytes))
-sums_step t i runs bytes h = plus_run_lem t (run_of (take run_bytes bytes))
-    (first_runs (runs - suc i) (drop run_bytes bytes))
-    ∙ sym (ap (λ (rs : List Run). plus t (totals_of rs)) (runs_step i runs bytes h))
+pub sums_turn : (t u : Totals) (r : Run) (bytes run rest : List ℕ) → bytes ≡ run ++ rest → length run ≡ run_bytes →
+    r ≡ run_of run → u ≡ plus_run t r → plus u (totals_of (runs_in rest)) ≡ plus t (totals_of (runs_in bytes))
+sums_turn t u r bytes run rest e l er eu =
+    ap (λ (v : Totals). plus v (totals_of (runs_in rest))) (eu ∙ ap (plus_run t) er)
+    ∙ plus_run_lem t (run_of run) (runs_in rest)
+    ∙ sym (ap (λ (rs : List Run). plus t (totals_of rs)) (runs_step bytes run rest e l))
 
-pub sums_end : (t : Totals) (i runs : ℕ) (bytes : List ℕ) → runs ≤ i → plus t (totals_of (first_runs (runs - i) bytes)) ≡ t
-sums_end t i runs bytes h = ap (λ (rs : List Run). plus t (totals_of rs)) (runs_end i runs bytes h) ∙ plus_end t
-
--- the same, with the program's values
-pub sums_turn : (t u : Totals) (r : Run) (i runs at : ℕ) (bytes : List ℕ) → i < runs → u ≡ plus_run t r → r
-    ≡ run_of (take (at + run_bytes - at) (drop at bytes)) →
-    plus u (totals_of (first_runs (runs - (i + 1)) (drop (at + run_bytes) bytes))) ≡ plus t (totals_of (first_runs (runs - i) (drop at bytes)))
-sums_turn t u r i runs at bytes h e₁ e₂ =
-    ap (λ (v : Totals). plus v (totals_of (first_runs (runs - (i + 1)) (drop (at + run_bytes) bytes))))
-    (e₁ ∙ ap (plus_run t) (e₂ ∙ ap run_of (part_is at bytes)))
-    ∙ ap (λ (rs : List Run). plus (plus_run t (run_of (take run_bytes (drop at bytes)))) (totals_of rs)) (left_is i runs at bytes)
-    ∙ sums_step t i runs (drop at bytes) h
+pub sums_end : (t : Totals) (bytes : List ℕ) → length bytes < run_bytes → plus t (totals_of (runs_in bytes)) ≡ t
+sums_end t bytes h = ap (λ (rs : List Run). plus t (totals_of rs)) (runs_end bytes h) ∙ plus_end t
 
 -- a run with several winners counts 1, any other 0
 pub shared_one : (r : Run) → ltb 1 (winners_of r) ≡ true → shared_of r ≡ 1

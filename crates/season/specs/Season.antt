@@ -1,16 +1,13 @@
 -- The season sheet [sheet]: the runs in a season's bytes, the reasons to refuse them, and the sums over all runs.
-use Rattle.std.specs.Prelude.{◌≡◌, Bool, cond, ◌&&◌, List, [], ◌∷◌, ℕ, zero, suc, ◌+◌, ◌*◌, ◌/◌, ◌%◌, ◌^◌, ltb, leb, eqb, length, get_or, take, drop}
+use Rattle.std.specs.Prelude.{◌≡◌, Bool, cond, ◌&&◌, List, [], ◌∷◌, ℕ, zero, suc, ◌+◌, ◌*◌, ◌/◌, ◌%◌, ◌^◌, ltb, leb, eqb, length, get_or, take, drop, Some, None, Result, Ok, Err}
+use Rattle.std.specs.Prelude as prelude
 use Rattle.std.proofs.Math.Option.{Option, none, some}
-use Rattle.gates.specs.declared.place.Place.{Place}
-use Rattle.gates.specs.declared.place.Place.TheVariants.{At, Nowhere}
 use Rattle.jury.specs.Shape.{within_limits}
 use Rattle.jury.specs.Reason.{Reason, reason_at, unless, found_at, first_of}
 use Rattle.season.specs.declared.run.Run.{Run}
 use Rattle.season.specs.declared.sheet.Totals.{Totals}
 use Rattle.season.specs.declared.sheet.Refusal.{Refusal}
 use Rattle.season.specs.declared.sheet.Refusal.TheVariants.{Length, BadRun}
-use Rattle.season.specs.declared.sheet.Answer.{Answer}
-use Rattle.season.specs.declared.sheet.Answer.TheVariants.{Accepted, Refused}
 
 -- How many bytes a run has.
 abbrev pub run_bytes : ℕ
@@ -62,9 +59,9 @@ good_run r =
     && ltb r.mask (2 ^ r.candidates)
 
 -- The place of the first bad run. The first of these runs has place i.
-unfoldable pub first_bad_run : ℕ → List Run → Place
-first_bad_run i [] = Nowhere
-first_bad_run i (r ∷ rs) = cond (good_run r) (first_bad_run (suc i) rs) (At i)
+unfoldable pub first_bad_run : ℕ → List Run → prelude.Option ℕ
+first_bad_run i [] = None
+first_bad_run i (r ∷ rs) = cond (good_run r) (first_bad_run (suc i) rs) (Some i)
 
 -- The reasons, in the order of their tests: 21 for the length, then 22 at the first bad run.
 unfoldable pub sheet_reasons : List ℕ → List (Option Reason)
@@ -101,14 +98,14 @@ sheet_reason_of Length = reason_at 21 0
 sheet_reason_of (BadRun i) = reason_at 22 i
 
 -- The reason of an answer, if it is a refusal.
-unfoldable pub reason_for : Answer → Option Reason
-reason_for (Accepted totals) = none
-reason_for (Refused r) = some (sheet_reason_of r)
+unfoldable pub reason_for : Result Totals Refusal → Option Reason
+reason_for (Ok totals) = none
+reason_for (Err r) = some (sheet_reason_of r)
 
 -- The totals of an answer, if it is accepted.
-unfoldable pub totals_for : Answer → Option Totals
-totals_for (Accepted totals) = some totals
-totals_for (Refused r) = none
+unfoldable pub totals_for : Result Totals Refusal → Option Totals
+totals_for (Ok totals) = some totals
+totals_for (Err r) = none
 
 -- A refused sheet has no totals.
 unfoldable pub totals_after : Option Reason → Totals → Option Totals
@@ -116,6 +113,6 @@ totals_after none totals = some totals
 totals_after (some r) totals = none
 
 -- What the entry point promises about its answer.
-pub record Sheet (bytes : List ℕ) (r : Answer) : Type 0 where
+pub record Sheet (bytes : List ℕ) (r : Result Totals Refusal) : Type 0 where
   pub reason : reason_for r ≡ first_of (sheet_reasons bytes)
   pub totals : totals_for r ≡ totals_after (first_of (sheet_reasons bytes)) (totals_of (runs_in bytes))

@@ -1,7 +1,7 @@
 // One run of a season, read from its twelve bytes.
 ghost use Rattle.std.specs.Prelude.{◌≡◌, ◌+◌, ◌≤◌, ◌^◌, ltb, length};
 ghost use Rattle.season.specs.Season.{run_bytes, ones_in, winners_of, good_run};
-ghost use Rattle.season.specs.inner.Sums.{ByteRead, NumberRead, RunRead};
+ghost use Rattle.season.specs.inner.Sums.{NumberRead, RunRead};
 
 use jury::shape::Shape;
 
@@ -22,20 +22,12 @@ pub struct Run {
     pub conditional: usize,
 }
 
-// A byte as a wider number. The contract says that it is still below 256.
-fn wide(x: u8) -> usize
-    ensures { ByteRead x result }
-{
-    x as usize
-}
-
 // The number in the four bytes from place `at` on, low byte first.
 fn number(bytes: &[u8], at: usize) -> usize
     requires { at + 4 ≤ length bytes.now }
     ensures { NumberRead at bytes.now result }
 {
-    wide(bytes[at])
-        + 256 * (wide(bytes[at + 1]) + 256 * (wide(bytes[at + 2]) + 256 * wide(bytes[at + 3])))
+    u32::from_le_bytes([bytes[at], bytes[at + 1], bytes[at + 2], bytes[at + 3]]) as usize
 }
 
 // Whether a mask has no bit from k on.
@@ -43,12 +35,10 @@ fn mask_fits(mask: usize, k: usize) -> bool
     ensures { result ≡ ltb mask (2 ^ k) }
 {
     let mut rest = mask;
-    let mut i = 0;
-    while i < k {
-        rest = rest / 2;
-        i += 1;
+    for _i in 0..k {
+        rest /= 2;
     }
-    rest < 1
+    rest == 0
 }
 
 // How many bits of a mask are 1.
@@ -57,11 +47,9 @@ fn winners(mask: usize) -> usize
 {
     let mut count = 0;
     let mut rest = mask;
-    let mut i = 0;
-    while i < MASK_BITS {
+    for _i in 0..MASK_BITS {
         count += rest % 2;
-        rest = rest / 2;
-        i += 1;
+        rest /= 2;
     }
     count
 }
@@ -73,10 +61,10 @@ impl Run {
         ensures { RunRead bytes.now result }
     {
         Run {
-            candidates: wide(bytes[0]),
-            grades: wide(bytes[1]),
-            ballots: wide(bytes[2]),
-            mask: wide(bytes[3]),
+            candidates: usize::from(bytes[0]),
+            grades: usize::from(bytes[1]),
+            ballots: usize::from(bytes[2]),
+            mask: usize::from(bytes[3]),
             gates: number(bytes, 4),
             conditional: number(bytes, 8),
         }

@@ -1,11 +1,10 @@
 // The season sheet: the sums over all runs of a season.
-ghost use Rattle.std.specs.Prelude.{◌≡◌, ◌*◌, length};
-ghost use Rattle.season.specs.Season.{run_bytes, first_runs, first_bad_run, totals_of, sheet_reason_of, Sheet};
-ghost use Rattle.season.specs.inner.Sums.{plus_run, PlusReady, SumsReady};
+ghost use Rattle.std.specs.Prelude.{◌≡◌, ◌*◌, ◌≤◌, length};
+ghost use Rattle.season.specs.Season.{run_bytes, most_runs, runs_in, first_bad_run, totals_of, sheet_reason_of, Sheet};
+ghost use Rattle.season.specs.inner.Sums.{plus_run, PlusReady};
 
-use crate::run;
-use crate::run::Run;
-use gates::place::Place;
+use crate::run::{RUN_BYTES, Run};
+use jury::reason::Numbered;
 
 // The most bytes of a sheet: 4,096 runs.
 pub const MOST_BYTES: usize = 49152;
@@ -28,28 +27,19 @@ pub enum Refusal {
     BadRun(usize),
 }
 
-// The totals of a sheet, or why it is refused.
-#[derive(Drop)]
-pub enum Answer {
-    Accepted(Totals),
-    Refused(Refusal),
-}
+impl Numbered for Refusal {
+    ghost told = { sheet_reason_of };
 
-impl Refusal {
-    // The number of the reason.
-    pub fn number(self) -> usize
-        ensures { result ≡ (sheet_reason_of self).number }
-    {
+    #[tactic(auto, unfolding(crate::specs::Season::sheet_reason_of, jury::specs::Reason::reason_at))]
+    fn number(self) -> usize {
         match self {
             Refusal::Length => 21,
             Refusal::BadRun(_) => 22,
         }
     }
 
-    // The place of the reason, 0 if it has none.
-    pub fn place(self) -> usize
-        ensures { result ≡ (sheet_reason_of self).place }
-    {
+    #[tactic(auto, unfolding(crate::specs::Season::sheet_reason_of, jury::specs::Reason::reason_at))]
+    fn place(self) -> usize {
         match self {
             Refusal::Length => 0,
             Refusal::BadRun(i) => i,
@@ -78,27 +68,21 @@ impl Totals {
 }
 
 // The place of the first bad run.
-fn first_bad(bytes: &[u8], runs: usize) -> Place
-    requires { length bytes.now ≡ runs * run_bytes }
-    ensures { result ≡ first_bad_run 0 (first_runs runs bytes.now) }
+fn first_bad(bytes: &[u8]) -> Option<usize>
+    ensures { result ≡ first_bad_run 0 (runs_in bytes.now) }
 {
-    let mut i = 0;
-    let mut at = 0;
-    while i < runs {
-        let end = at + run::RUN_BYTES;
-        if !Run::read(&bytes[at..end]).is_good() {
-            return Place::At(i);
+    for (i, run) in bytes.chunks_exact(RUN_BYTES).enumerate() {
+        if !Run::read(run).is_good() {
+            return Some(i);
         }
-        i += 1;
-        at = end;
     }
-    Place::Nowhere
+    None
 }
 
 // The totals of all runs.
-fn sums(bytes: &[u8], runs: usize) -> Totals
-    requires { SumsReady bytes.now runs }
-    ensures { result ≡ totals_of (first_runs runs bytes.now) }
+fn sums(bytes: &[u8]) -> Totals
+    requires { length bytes.now ≤ most_runs * run_bytes }
+    ensures { result ≡ totals_of (runs_in bytes.now) }
 {
     let mut totals = Totals {
         runs: 0,
@@ -107,30 +91,25 @@ fn sums(bytes: &[u8], runs: usize) -> Totals
         ballots: 0,
         shared: 0,
     };
-    let mut done = 0;
-    let mut at = 0;
-    while done < runs {
-        let end = at + run::RUN_BYTES;
-        totals = totals.plus(Run::read(&bytes[at..end]));
-        done += 1;
-        at = end;
+    for run in bytes.chunks_exact(RUN_BYTES) {
+        totals = totals.plus(Run::read(run));
     }
     totals
 }
 
-// The totals of a season's bytes, which may be anything. The length is tested before any run is read.
-pub fn sheet(bytes: &[u8]) -> Answer
+// The totals of a season's bytes, which may be anything, or why they are refused. The length is tested before any run
+// is read.
+pub fn sheet(bytes: &[u8]) -> Result<Totals, Refusal>
     ensures { Sheet bytes.now result }
 {
-    if bytes.len() % run::RUN_BYTES != 0 {
-        return Answer::Refused(Refusal::Length);
+    if bytes.len() % RUN_BYTES != 0 {
+        return Err(Refusal::Length);
     }
     if MOST_BYTES < bytes.len() {
-        return Answer::Refused(Refusal::Length);
+        return Err(Refusal::Length);
     }
-    let runs = bytes.len() / run::RUN_BYTES;
-    match first_bad(bytes, runs) {
-        Place::At(i) => Answer::Refused(Refusal::BadRun(i)),
-        Place::Nowhere => Answer::Accepted(sums(bytes, runs)),
+    match first_bad(bytes) {
+        Some(i) => Err(Refusal::BadRun(i)),
+        None => Ok(sums(bytes)),
     }
 }

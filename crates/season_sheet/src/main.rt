@@ -1,7 +1,8 @@
 // Prints the season sheet of the runs on standard input.
 #![tactic(auto)]
 
-use season::sheet::{Answer, Totals};
+use jury::reason::Numbered;
+use season::sheet::Totals;
 use std::io;
 
 fn print_line(rt: &impl Print, word: &[u8], number: usize) -> io::Result<()> {
@@ -23,7 +24,7 @@ fn main(rt: HostRuntime) -> io::Result<()> {
     let mut input = [0u8; 49153];
     let got = printing::read_full(&mut rt.stdin(), &mut input)?;
     match season::sheet::sheet(&input[..got]) {
-        Answer::Accepted(totals) => print_totals(&rt, totals),
-        Answer::Refused(reason) => printing::print_refused(&rt, reason.number(), reason.place()),
+        Ok(totals) => print_totals(&rt, totals),
+        Err(reason) => printing::print_refused(&rt, reason.number(), reason.place()),
     }
 }

@@ -1,8 +1,8 @@
 -- Definitions for inner functions and their proofs: no entry point's contract needs them.
-use Rattle.std.specs.Prelude.{◌≡◌, List, ℕ, ◌+◌, ◌*◌, ◌<◌, ◌≤◌, ◌^◌, length}
+use Rattle.std.specs.Prelude.{◌≡◌, List, ℕ, ◌+◌, ◌*◌, ◌<◌, ◌≤◌, ◌^◌}
 use Rattle.season.specs.declared.run.Run.{Run}
 use Rattle.season.specs.declared.sheet.Totals.{Totals}
-use Rattle.season.specs.Season.{run_bytes, most_runs, number_at, run_of, shared_of}
+use Rattle.season.specs.Season.{number_at, run_of, shared_of}
 
 -- The numbers of a run fit into the bytes that they are read from.
 pub record Small (r : Run) : Type 0 where
@@ -28,11 +28,6 @@ plus_run t r = record {
   shared = t.shared + shared_of r;
 }
 
--- r is the byte x.
-pub record ByteRead (x r : ℕ) : Type 0 where
-  pub is : r ≡ x
-  pub small : r < 256
-
 -- r is the 32-bit number that starts at a place.
 pub record NumberRead (at : ℕ) (xs : List ℕ) (r : ℕ) : Type 0 where
   pub is : r ≡ number_at at xs
@@ -47,8 +42,3 @@ pub record RunRead (xs : List ℕ) (r : Run) : Type 0 where
 pub record PlusReady (t : Totals) (r : Run) : Type 0 where
   pub run : Small r
   pub sums : SumsOf 4096 t
-
--- n runs can be added up.
-pub record SumsReady (xs : List ℕ) (n : ℕ) : Type 0 where
-  pub size : length xs ≡ n * run_bytes
-  pub few : n ≤ most_runs
