@@ -1,7 +1,6 @@
 pub mod Members
 pub mod Paths
 pub mod Winning
-pub mod Filling
 pub mod Tables
 pub mod Counting
 pub mod LastDetour

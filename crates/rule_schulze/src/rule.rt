@@ -16,12 +16,8 @@ pub fn winners(votes: PairTable, k: usize) -> ClosingBytes
 {
     let paths = strongest_paths(links(votes, k), k);
     let mut closing = [0u8; Shape::MOST_CANDIDATES];
-    let mut i = 0;
-    while i < k {
-        if wins(paths, k, i) {
-            closing[i] = 1;
-        }
-        i += 1;
+    for i in 0..k {
+        closing[i] = u8::from(wins(paths, k, i));
     }
     closing
 }
@@ -31,12 +27,10 @@ fn wins(paths: PairTable, k: usize, i: usize) -> bool
     requires { (k ≤ most_candidates) × (i < k) }
     ensures { result ≡ unbeaten_in paths k i }
 {
-    let mut j = 0;
-    while j < k {
+    for j in 0..k {
         if j != i && paths[i][j] < paths[j][i] {
             return false;
         }
-        j += 1;
     }
     true
 }
@@ -47,11 +41,8 @@ fn links(votes: PairTable, k: usize) -> PairTable
     ensures { Holds k result (spec.link (entry votes)) }
 {
     let mut links = [[0u16; Shape::MOST_CANDIDATES]; Shape::MOST_CANDIDATES];
-    let mut i = 0;
-    while i < k {
-        let row = links_of(votes, k, i);
-        links[i] = row;
-        i += 1;
+    for i in 0..k {
+        links[i] = links_of(votes, k, i);
     }
     links
 }
@@ -62,11 +53,8 @@ fn links_of(votes: PairTable, k: usize, i: usize) -> PairRow
     ensures { (j : ℕ) → j < k → get_or result j 0 ≡ spec.link (entry votes) i j }
 {
     let mut row = [0u16; Shape::MOST_CANDIDATES];
-    let mut j = 0;
-    while j < k {
-        let strength = link(votes[i][j], votes[j][i]);
-        row[j] = strength;
-        j += 1;
+    for j in 0..k {
+        row[j] = link(votes[i][j], votes[j][i]);
     }
     row
 }
@@ -84,11 +72,9 @@ fn strongest_paths(links: PairTable, k: usize) -> PairTable
     ensures { HoldsPairs k result (closure.closure k (entry links)) }
 {
     let mut paths = links;
-    let mut l = 0;
-    while l < k {
+    for l in 0..k {
         let after = detour(paths, k, l);
         paths = after;
-        l += 1;
     }
     paths
 }
@@ -99,11 +85,8 @@ fn detour(paths: PairTable, k: usize, l: usize) -> PairTable
     ensures { HoldsPairs k result (closure.detour l (entry paths)) }
 {
     let mut after = [[0u16; Shape::MOST_CANDIDATES]; Shape::MOST_CANDIDATES];
-    let mut i = 0;
-    while i < k {
-        let row = detour_from(paths, k, l, i);
-        after[i] = row;
-        i += 1;
+    for i in 0..k {
+        after[i] = detour_from(paths, k, l, i);
     }
     after
 }
@@ -115,24 +98,9 @@ fn detour_from(paths: PairTable, k: usize, l: usize, i: usize) -> PairRow
         → get_or result j 0 ≡ max (entry paths i j) (min (entry paths i l) (entry paths l j)) }
 {
     let mut row = [0u16; Shape::MOST_CANDIDATES];
-    let mut j = 0;
-    while j < k {
-        let way = weaker(paths[i][l], paths[l][j]);
-        let best = stronger(paths[i][j], way);
-        row[j] = best;
-        j += 1;
+    for j in 0..k {
+        let way = paths[i][l].min(paths[l][j]);
+        row[j] = paths[i][j].max(way);
     }
     row
-}
-
-fn weaker(a: u16, b: u16) -> u16
-    ensures { result ≡ min a b }
-{
-    if a < b { a } else { b }
-}
-
-fn stronger(a: u16, b: u16) -> u16
-    ensures { result ≡ max a b }
-{
-    if a < b { b } else { a }
 }

@@ -18,11 +18,8 @@ pub fn matrix(ballots: &[u8], k: usize, n: usize) -> PairTable
     ensures { Holds k result (spec.votes k n ballots.now) }
 {
     let mut table = [[0u16; Shape::MOST_CANDIDATES]; Shape::MOST_CANDIDATES];
-    let mut i = 0;
-    while i < k {
-        let row = row_of(ballots, k, n, i);
-        table[i] = row;
-        i += 1;
+    for i in 0..k {
+        table[i] = row_of(ballots, k, n, i);
     }
     table
 }
@@ -33,11 +30,8 @@ fn row_of(ballots: &[u8], k: usize, n: usize, i: usize) -> PairRow
     ensures { (j : ℕ) → j < k → get_or result j 0 ≡ spec.votes k n ballots.now i j }
 {
     let mut row = [0u16; Shape::MOST_CANDIDATES];
-    let mut j = 0;
-    while j < k {
-        let preferring = count_of(ballots, k, n, i, j);
-        row[j] = preferring;
-        j += 1;
+    for j in 0..k {
+        row[j] = count_of(ballots, k, n, i, j);
     }
     row
 }
@@ -50,13 +44,11 @@ fn count_of(ballots: &[u8], k: usize, n: usize, i: usize, j: usize) -> u16
     let ballot = k * k;
     let mut at = i * k + j;
     let mut count = 0;
-    let mut b = 0;
-    while b < n {
+    for _ in 0..n {
         if ballots[at] == 1 {
             count += 1;
         }
         at += ballot;
-        b += 1;
     }
     count
 }
