@@ -10,11 +10,10 @@ use Rattle.basics.proofs.Flags.{true_T}
 use Rattle.jury.specs.Reason.{Reason, reason_at, unless, first_of}
 use Rattle.jury.specs.Ballots.{ballot_reasons}
 use Rattle.tally.specs.Answer.{Outcome, refused, accepted, outcome, afterwards}
-use Rattle.urn.specs.declared.facts.Facts.{Facts}
 use Rattle.urn_chains.specs.Sound.{jury_of_one, good_juror, no_reason, good_ballot}
 use Rattle.urn_chains.proofs.GoodBallots.{good_graded}
 use Rattle.urn_chains.specs.Sound.{graded_shape}
-use Rattle.urn.specs.Facts.{UrnResult}
+use Rattle.urn.specs.Facts.{UrnResult, UrnFacts, sound_in, present_in, full_in}
 use Rattle.urn.specs.Admit.{admit_reasons}
 use Rattle.urn.specs.Withdraw.{withdraw_reasons}
 
@@ -32,24 +31,24 @@ unfolding first_of
 first_cons none xs ys e = e
 first_cons (some r) xs ys e = refl
 
-pub admit_first_lem : (k d : ℕ) (f : Facts) (j : ℕ) (x : List ℕ) →
+pub admit_first_lem : (k d : ℕ) (f : UrnFacts) (j : ℕ) (x : List ℕ) →
     first_of (admit_reasons k d f j x)
-    ≡ admit_first (graded_shape k d) f.sound (good_juror j && not f.present)
-    (first_of (ballot_reasons (jury_of_one k d) x)) (not f.full)
+    ≡ admit_first (graded_shape k d) (sound_in f) (good_juror j && not (present_in f))
+    (first_of (ballot_reasons (jury_of_one k d) x)) (not (full_in f))
 unfolding admit_reasons admit_first
 admit_first_lem k d f j x =
     first_cons (unless (graded_shape k d) 1) _ _
-    (first_cons (unless f.sound 13) _ _
-    (first_cons (unless (good_juror j && not f.present) 14) _ _
-    (first_append (ballot_reasons (jury_of_one k d) x) (unless (not f.full) 15))))
+    (first_cons (unless (sound_in f) 13) _ _
+    (first_cons (unless (good_juror j && not (present_in f)) 14) _ _
+    (first_append (ballot_reasons (jury_of_one k d) x) (unless (not (full_in f)) 15))))
 
 -- The tests that an accepted admission has passed, as facts.
-pub record Passed (k d : ℕ) (f : Facts) (j : ℕ) (x : List ℕ) : Type 0 where
+pub record Passed (k d : ℕ) (f : UrnFacts) (j : ℕ) (x : List ℕ) : Type 0 where
   pub graded : graded_shape k d ≡ true
-  pub is_sound : f.sound ≡ true
-  pub juror : (good_juror j && not f.present) ≡ true
+  pub is_sound : sound_in f ≡ true
+  pub juror : (good_juror j && not (present_in f)) ≡ true
   pub ballot : good_ballot k d x ≡ true
-  pub free : not f.full ≡ true
+  pub free : not (full_in f) ≡ true
 
 passed : (a b c : Bool) (o : Option Reason) (g : Bool) → admit_first a b c o g ≡ none → (a ≡ true) × (b ≡ true)
     × (c ≡ true) × (no_reason o ≡ true) × (g ≡ true)
@@ -61,20 +60,20 @@ passed true true true (some r) g h = let z : ◌≡◌ {A = ℕ} 0 1 = cc in abs
 passed true true true none false h = let z : ◌≡◌ {A = ℕ} 0 1 = cc in absurd (omega arith)
 passed true true true none true h = (refl, refl, refl, refl, refl)
 
-pub admissible : (k d : ℕ) (f : Facts) (j : ℕ) (x : List ℕ) → first_of (admit_reasons k d f j x) ≡ none → Passed k d f j x
+pub admissible : (k d : ℕ) (f : UrnFacts) (j : ℕ) (x : List ℕ) → first_of (admit_reasons k d f j x) ≡ none → Passed k d f j x
 admissible k d f j x e =
-    let p = passed (graded_shape k d) f.sound (good_juror j && not f.present)
-    (first_of (ballot_reasons (jury_of_one k d) x)) (not f.full) (sym (admit_first_lem k d f j x) ∙ e) in
+    let p = passed (graded_shape k d) (sound_in f) (good_juror j && not (present_in f))
+    (first_of (ballot_reasons (jury_of_one k d) x)) (not (full_in f)) (sym (admit_first_lem k d f j x) ∙ e) in
     record { graded = p.0; is_sound = p.1; juror = p.2; ballot = good_graded k d x (true_T (graded_shape k d) p.0) ∙ p.3; free = p.4 }
 
 pub withdraw_first : Bool → Bool → Bool → Option Reason
 withdraw_first graded sound juror = first_of (unless graded 1 ∷ unless sound 13 ∷ unless juror 14 ∷ [])
 
 -- The tests that an accepted withdrawal has passed, as facts.
-pub record Withdrawable (k d : ℕ) (f : Facts) (j : ℕ) : Type 0 where
+pub record Withdrawable (k d : ℕ) (f : UrnFacts) (j : ℕ) : Type 0 where
   pub graded : graded_shape k d ≡ true
-  pub is_sound : f.sound ≡ true
-  pub juror : (good_juror j && f.present) ≡ true
+  pub is_sound : sound_in f ≡ true
+  pub juror : (good_juror j && present_in f) ≡ true
 
 let_out : (a b c : Bool) → withdraw_first a b c ≡ none → (a ≡ true) × (b ≡ true) × (c ≡ true)
 unfolding withdraw_first first_of unless
@@ -83,10 +82,10 @@ let_out true false c h = let z : ◌≡◌ {A = ℕ} 0 1 = cc in absurd (omega a
 let_out true true false h = let z : ◌≡◌ {A = ℕ} 0 1 = cc in absurd (omega arith)
 let_out true true true h = (refl, refl, refl)
 
-pub withdrawable : (k d : ℕ) (f : Facts) (j : ℕ) → first_of (withdraw_reasons k d f j) ≡ none → Withdrawable k d f j
+pub withdrawable : (k d : ℕ) (f : UrnFacts) (j : ℕ) → first_of (withdraw_reasons k d f j) ≡ none → Withdrawable k d f j
 unfolding withdraw_reasons withdraw_first
 withdrawable k d f j e =
-    let p = let_out (graded_shape k d) f.sound (good_juror j && f.present) e in
+    let p = let_out (graded_shape k d) (sound_in f) (good_juror j && present_in f) e in
     record { graded = p.0; is_sound = p.1; juror = p.2 }
 
 -- if the answer is accepted, no reason applies
@@ -169,8 +168,8 @@ module _ (a b c : Bool) where
   unfolding withdraw_first first_of unless
   withdraw_none h i j = rw (h, i, j)
 
-pub withdraw_first_lem : (k d : ℕ) (f : Facts) (j : ℕ) → first_of (withdraw_reasons k d f j)
-    ≡ withdraw_first (graded_shape k d) f.sound (good_juror j && f.present)
+pub withdraw_first_lem : (k d : ℕ) (f : UrnFacts) (j : ℕ) → first_of (withdraw_reasons k d f j)
+    ≡ withdraw_first (graded_shape k d) (sound_in f) (good_juror j && present_in f)
 unfolding withdraw_reasons withdraw_first
 withdraw_first_lem k d f j = refl
 

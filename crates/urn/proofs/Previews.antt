@@ -3,8 +3,7 @@
 use mathlib.Core.Path.{◌≡◌, ap}
 use mathlib.Core.List.{List}
 use Prim.Native.Nat.{ℕ}
-use Rattle.urn.specs.declared.facts.Facts.{Facts}
-use Rattle.urn.specs.Facts.{facts_of}
+use Rattle.urn.specs.Facts.{facts_of, UrnFacts}
 use Rattle.urn.specs.Admit.{admit_outcome_by}
 use Rattle.urn.specs.Withdraw.{withdraw_outcome_by}
 use Rattle.urn.specs.Previews.{Alike, both_unsound, both_sound, PreviewsTell}
@@ -18,6 +17,6 @@ same_facts_asked k d one other j (both_sound e f ballots present free) = rw (e, 
 pub previews_tell : PreviewsTell
 previews_tell =
     record {
-      admission = λ k d one other j x t. ap (λ (f : Facts). admit_outcome_by k d f j x) (same_facts_asked k d one other j t);
-      withdrawal = λ k d one other j t. ap (λ (f : Facts). withdraw_outcome_by k d f j) (same_facts_asked k d one other j t);
+      admission = λ k d one other j x t. ap (λ (f : UrnFacts). admit_outcome_by k d f j x) (same_facts_asked k d one other j t);
+      withdrawal = λ k d one other j t. ap (λ (f : UrnFacts). withdraw_outcome_by k d f j) (same_facts_asked k d one other j t);
     }

@@ -19,9 +19,8 @@ use Rattle.tally.specs.Memory.{Each, KeepsMemory}
 use Rattle.tally.proofs.RunReasons.{outcome_refused}
 use Rattle.tally.proofs.Numbering.{All, Fine, first_fine, refused_number, both, unless_fine, wider, graded_all, ballots_from}
 use Rattle.urn_chains.specs.Sound.{jury_of_one}
-use Rattle.urn.specs.declared.facts.Facts.{Facts}
 use Rattle.urn_chains.specs.Sound.{graded_shape}
-use Rattle.urn.specs.Facts.{facts_of}
+use Rattle.urn.specs.Facts.{facts_of, UrnFacts, ballots_in}
 use Rattle.urn.specs.Admit.{admit_reasons, admit_reason_numbers, admit_outcome_by, admitted}
 use Rattle.urn.specs.Withdraw.{withdraw_reasons, withdraw_reason_numbers, withdraw_outcome_by, withdrawn}
 use Rattle.urn.specs.Empty.{empty_reasons, empty_reason_numbers, empty_outcome, emptied}
@@ -36,7 +35,7 @@ ballots_fine s xs graded =
     ballots_from admit_reason_numbers tt s xs
     (subst (All admit_reason_numbers) (sym (graded_reasons_lem s xs graded)) (wider (6 ∷ []) admit_reason_numbers tt (graded_reasons s xs) (graded_all s xs)))
 
-admit_fine : (k d : ℕ) (f : Facts) (j : ℕ) (x : List ℕ) → graded_shape k d ≡ true → All admit_reason_numbers (admit_reasons k d f j x)
+admit_fine : (k d : ℕ) (f : UrnFacts) (j : ℕ) (x : List ℕ) → graded_shape k d ≡ true → All admit_reason_numbers (admit_reasons k d f j x)
 unfolding All admit_reasons member reason_at
 admit_fine k d f j x e =
     let ns = admit_reason_numbers in (
@@ -57,24 +56,24 @@ first_of_lem : (t : Bool) (rest : List (Option Reason)) → t ≡ false → Fine
 unfolding Fine member reason_at unless first_of
 first_of_lem t rest e = subst (λ (t : Bool). Fine admit_reason_numbers (first_of (unless t 1 ∷ rest))) (sym e) tt
 
-admit_first_lem : (k d : ℕ) (f : Facts) (j : ℕ) (x : List ℕ) (t : Bool) → graded_shape k d ≡ t
+admit_first_lem : (k d : ℕ) (f : UrnFacts) (j : ℕ) (x : List ℕ) (t : Bool) → graded_shape k d ≡ t
     → Fine admit_reason_numbers (first_of (admit_reasons k d f j x))
 unfolding admit_reasons
 admit_first_lem k d f j x false e = first_of_lem (graded_shape k d) _ e
 admit_first_lem k d f j x true e = first_fine admit_reason_numbers (admit_reasons k d f j x) (admit_fine k d f j x e)
 
-admit_numbered : (k d : ℕ) (f : Facts) (j : ℕ) (x : List ℕ) (r : Reason) → admit_outcome_by k d f j x ≡ refused r
+admit_numbered : (k d : ℕ) (f : UrnFacts) (j : ℕ) (x : List ℕ) (r : Reason) → admit_outcome_by k d f j x ≡ refused r
     → T (has_number_in admit_reason_numbers r)
 unfolding admit_outcome_by Fine
 admit_numbered k d f j x r e =
-    subst (Fine admit_reason_numbers) (outcome_refused (first_of (admit_reasons k d f j x)) (f.ballots + 1) r e)
+    subst (Fine admit_reason_numbers) (outcome_refused (first_of (admit_reasons k d f j x)) (ballots_in f + 1) r e)
     (admit_first_lem k d f j x (graded_shape k d) refl)
 
-withdraw_numbered : (k d : ℕ) (f : Facts) (j : ℕ) (r : Reason) → withdraw_outcome_by k d f j ≡ refused r → T (has_number_in withdraw_reason_numbers r)
+withdraw_numbered : (k d : ℕ) (f : UrnFacts) (j : ℕ) (r : Reason) → withdraw_outcome_by k d f j ≡ refused r → T (has_number_in withdraw_reason_numbers r)
 unfolding withdraw_outcome_by withdraw_reasons All member reason_at
 withdraw_numbered k d f j =
     let ns = withdraw_reason_numbers in
-    refused_number ns (withdraw_reasons k d f j) (f.ballots - 1)
+    refused_number ns (withdraw_reasons k d f j) (ballots_in f - 1)
     (unless_fine ns _ 1 tt, (unless_fine ns _ 13 tt, (unless_fine ns _ 14 tt, tt)))
 
 empty_numbered : (k d : ℕ) (table : List ℕ) (r : Reason) → empty_outcome k d table ≡ refused r → T (has_number_in empty_reason_numbers r)
@@ -121,13 +120,13 @@ urn_memory =
       admit = λ k d urn j x.
           let f = facts_of k d urn j in
           let o = first_of (admit_reasons k d f j x) in
-          lent_urn admit_reason_numbers o (f.ballots + 1) _ urn (admit_numbered k d f j x)
-          (kept o (f.ballots + 1) _ urn (λ count h. (urn_holds.admission k d urn j x count h).same_length));
+          lent_urn admit_reason_numbers o (ballots_in f + 1) _ urn (admit_numbered k d f j x)
+          (kept o (ballots_in f + 1) _ urn (λ count h. (urn_holds.admission k d urn j x count h).same_length));
       withdraw = λ k d urn j.
           let f = facts_of k d urn j in
           let o = first_of (withdraw_reasons k d f j) in
-          lent_urn withdraw_reason_numbers o (f.ballots - 1) _ urn (withdraw_numbered k d f j)
-          (kept o (f.ballots - 1) _ urn (λ count h. (urn_holds.withdrawal k d urn j count h).same_length));
+          lent_urn withdraw_reason_numbers o (ballots_in f - 1) _ urn (withdraw_numbered k d f j)
+          (kept o (ballots_in f - 1) _ urn (λ count h. (urn_holds.withdrawal k d urn j count h).same_length));
       preview_admit = λ k d urn j x. lent_nothing admit_reason_numbers
           (admit_outcome_by k d (facts_of k d urn j) j x) (admit_numbered k d (facts_of k d urn j) j x);
       preview_withdraw = λ k d urn j. lent_nothing withdraw_reason_numbers (withdraw_outcome_by k d (facts_of k d urn j) j)

@@ -16,13 +16,12 @@ use Rattle.basics.specs.Lists.{tabulate}
 use Rattle.jury.specs.Reason.{Reason, first_of}
 use Rattle.basics.proofs.Flags.{and_first, and_second, and_both, true_T, or_first}
 use Rattle.tally.specs.Answer.{accepted, outcome}
-use Rattle.urn.specs.declared.facts.Facts.{Facts}
 use Rattle.urn_chains.specs.Slots.{slot_bytes, bytes_of}
 use Rattle.urn_chains.specs.Chains.{Entry, ballot_chain, free_chain, first_free, layout}
 use Rattle.urn_chains.specs.Sound.{entries_of, free_of, jury_of_one, good_juror, good_ballot, slot_count, urn_slots, sound}
 use Rattle.basics.specs.Lists.{all, member, distinct}
 use Rattle.urn_chains.specs.Sound.{graded_shape}
-use Rattle.urn.specs.Facts.{is_empty, jurors_of, facts_of}
+use Rattle.urn.specs.Facts.{jurors_of, facts_of, UrnFacts, sound_in, ballots_in, present_in}
 use Rattle.urn.specs.Admit.{admit_reasons, admit_outcome_by, with_ballot, admitted}
 use Rattle.urn.specs.Withdraw.{withdraw_reasons, withdraw_outcome_by, without_juror, slot_of_juror, without_ballot, withdrawn}
 use Rattle.urn.specs.Empty.{empty_reasons, empty_outcome, all_free, emptied}
@@ -99,20 +98,10 @@ juror_split j (x ∷ es) m =
     ))
     (true_or_false (eqb x.juror j))
 
-juror_absent_is : (k d : ℕ) (urn : List ℕ) (j : ℕ) → sound k d urn ≡ true → not (facts_of k d urn j).present ≡ true
+juror_absent_is : (k d : ℕ) (urn : List ℕ) (j : ℕ) → sound k d urn ≡ true → not (present_in (facts_of k d urn j)) ≡ true
     → member j (jurors_of (ballot_chain (urn_slots k d urn))) ≡ false
 unfolding facts_of
-juror_absent_is k d urn j e h =
-    not-true (member j (jurors_of (ballot_chain (urn_slots k d urn))))
-    (ap (λ (t : Bool). not (cond {A = Facts} t
-    (record {
-      sound = true;
-      ballots = length (ballot_chain (urn_slots k d urn));
-      present =
-          member j (jurors_of (ballot_chain (urn_slots k d urn)));
-      full = is_empty (free_chain (urn_slots k d urn));
-    })
-    (record { sound = false; ballots = 0; present = false; full = false })).present) (sym e) ∙ h)
+juror_absent_is k d urn j e h = not-true _ (rw e at h)
 
 -- withdrawing the ballot that was admitted last
 undo : (k d : ℕ) (urn : List ℕ) → T (graded_limits (jury_of_one k d)) → sound k d urn ≡ true → (j : ℕ) (x u : List ℕ) (is : List ℕ) →
@@ -132,9 +121,9 @@ undo k d urn w e j x u is wr a gj cut =
     ap (λ (xs : List Entry). member j (jurors_of xs)) wr.ballots
     ∙ or_first (eqb j j) (member j (jurors_of es)) (eq-eqb j j refl) in
     let o : first_of (withdraw_reasons k d (facts_of k d u j) j) ≡ none = withdraw_first_lem k d (facts_of k d u j) j
-    ∙ withdraw_none (graded_shape k d) (facts_of k d u j).sound (good_juror j && (facts_of k d u j).present) a
-    (ap (λ (z : Facts). z.sound) f)
-    (and_both (good_juror j) (facts_of k d u j).present gj (ap (λ (z : Facts). z.present) f ∙ inn)) in
+    ∙ withdraw_none (graded_shape k d) (sound_in (facts_of k d u j)) (good_juror j && (present_in (facts_of k d u j))) a
+    (ap (λ (z : UrnFacts). sound_in z) f)
+    (and_both (good_juror j) (present_in (facts_of k d u j)) gj (ap (λ (z : UrnFacts). present_in z) f ∙ inn)) in
     let size : length (urn_slots k d u) ≡ length S = ap length wr.slots ∙ layout_length (length S) (k * d) (y ∷ es) is in
     none_new (first_of (withdraw_reasons k d (facts_of k d u j) j)) (bytes_of (without_ballot (k * d) (urn_slots k d u) j)) u o
     ∙ ap (λ (m : ℕ). bytes_of (layout m (k * d) (without_juror j (ballot_chain (urn_slots k d u)))
@@ -158,7 +147,7 @@ after_admission : (k d : ℕ) (urn : List ℕ) (j : ℕ) (x : List ℕ) (count :
 unfolding admit_outcome_by admitted with_ballot withdrawn without_ballot
 after_admission k d urn j x count h =
     let f = facts_of k d urn j in
-    let o = accepted_none (first_of (admit_reasons k d f j x)) (f.ballots + 1) count h in
+    let o = accepted_none (first_of (admit_reasons k d f j x)) (ballots_in f + 1) count h in
     let p = admissible k d f j x o in
     let w = (true_T (graded_shape k d) p.graded) in
     let e = facts_sound k d urn j p.is_sound in
@@ -168,21 +157,21 @@ after_admission k d urn j x count h =
     let is = free_chain S in
     let cut = not_empty is (facts_free k d urn j e p.free) in
     let y : Entry = record { slot = first_free is; juror = j; ballot = x } in
-    let gj = and_first (good_juror j) (not f.present) p.juror in
+    let gj = and_first (good_juror j) (not (present_in f)) p.juror in
     let g = more_good k d n y es (drop 1 is) (subst (λ (ks : List ℕ). Good k d n es ks) cut (good k d urn e)) gj
-    (juror_absent_is k d urn j e (and_second (good_juror j) (not f.present) p.juror)) p.ballot in
+    (juror_absent_is k d urn j e (and_second (good_juror j) (not (present_in f)) p.juror)) p.ballot in
     let u = bytes_of (layout n (k * d) (y ∷ es) (drop 1 is)) in
     let wr = bytes_written k d n (y ∷ es) (drop 1 is) (laid_out k d urn e).least (laid_out k d urn e).most g in
     let new = none_new (first_of (admit_reasons k d f j x)) u urn o in
     let back : withdrawn k d u j ≡ urn = undo k d urn w e j x u (drop 1 is) wr p.graded gj cut in
-    let before : f.ballots ≡ length es = ap (λ (z : Facts). z.ballots) (facts_are k d urn w e j) in
+    let before : ballots_in f ≡ length es = ap (λ (z : UrnFacts). ballots_in z) (facts_are k d urn w e j) in
     let chain = ap (λ (v : List ℕ). ballot_chain (urn_slots k d v)) new ∙ wr.ballots in
     let after : length (ballot_chain (urn_slots k d (admitted k d urn j x))) ≡ suc (length es) = ap length chain in
     record {
       stays_sound = ap (sound k d) new ∙ wr.is_sound;
       same_length = ap length new ∙ wr.size ∙ sym (long k d urn e);
       ballots = chain;
-      counted = omega (arith, count_outcome (first_of (admit_reasons k d f j x)) (f.ballots + 1) count h, before, after);
+      counted = omega (arith, count_outcome (first_of (admit_reasons k d f j x)) (ballots_in f + 1) count h, before, after);
       free = ap (λ (v : List ℕ). free_chain (urn_slots k d v)) new ∙ wr.free;
       undone = ap (λ (v : List ℕ). withdrawn k d v j) new ∙ back;
     }
@@ -228,7 +217,7 @@ after_withdrawal : (k d : ℕ) (urn : List ℕ) (j count : ℕ) → withdraw_out
 unfolding withdraw_outcome_by withdrawn without_ballot
 after_withdrawal k d urn j count h =
     let f = facts_of k d urn j in
-    let o = accepted_none (first_of (withdraw_reasons k d f j)) (f.ballots - 1) count h in
+    let o = accepted_none (first_of (withdraw_reasons k d f j)) (ballots_in f - 1) count h in
     let p = withdrawable k d f j o in
     let w = (true_T (graded_shape k d) p.graded) in
     let e = facts_sound k d urn j p.is_sound in
@@ -236,14 +225,14 @@ after_withdrawal k d urn j count h =
     let n = length S in
     let es = ballot_chain S in
     let is = free_chain S in
-    let r = juror_split j es (facts_present k d urn j e (and_second (good_juror j) f.present p.juror)) in
+    let r = juror_split j es (facts_present k d urn j e (and_second (good_juror j) (present_in f) p.juror)) in
     let g₀ = less_good k d n r.0 r.1 r.2 is (subst (λ (xs : List Entry). Good k d n xs is) r.3 (good k d urn e)) in
     let g = subst (λ (s : ℕ). Good k d n (without_juror j es) (s ∷ is)) (sym r.5)
     (subst (λ (xs : List Entry). Good k d n xs (r.1.slot ∷ is)) (sym r.4) g₀) in
     let u = bytes_of (layout n (k * d) (without_juror j es) (slot_of_juror j es ∷ is)) in
     let wr = bytes_written k d n (without_juror j es) (slot_of_juror j es ∷ is) (laid_out k d urn e).least (laid_out k d urn e).most g in
     let new = none_new (first_of (withdraw_reasons k d f j)) u urn o in
-    let before : f.ballots ≡ length es = ap (λ (z : Facts). z.ballots) (facts_are k d urn w e j) in
+    let before : ballots_in f ≡ length es = ap (λ (z : UrnFacts). ballots_in z) (facts_are k d urn w e j) in
     let chain = ap (λ (v : List ℕ). ballot_chain (urn_slots k d v)) new ∙ wr.ballots in
     let free = ap (λ (v : List ℕ). free_chain (urn_slots k d v)) new ∙ wr.free in
     let with_one : length es ≡ length r.0 + suc (length r.2) = ap length r.3 ∙ length-append r.0 (r.1 ∷ r.2) in
@@ -253,7 +242,7 @@ after_withdrawal k d urn j count h =
       stays_sound = ap (sound k d) new ∙ wr.is_sound;
       same_length = ap length new ∙ wr.size ∙ sym (long k d urn e);
       ballots = chain;
-      counted = omega (arith, count_outcome (first_of (withdraw_reasons k d f j)) (f.ballots - 1) count h, before, with_one, after);
+      counted = omega (arith, count_outcome (first_of (withdraw_reasons k d f j)) (ballots_in f - 1) count h, before, with_one, after);
       free = free;
       taken_again = λ next ballot more a.
           again k d (withdrawn k d urn j) (without_juror j es) (slot_of_juror j es) is chain free next ballot more

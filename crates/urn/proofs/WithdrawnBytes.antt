@@ -12,8 +12,7 @@ use Rattle.urn_chains.specs.Slots.{Slot, slot_bytes, slot_of, slots_of, bytes_of
 use Rattle.urn_chains.specs.Chains.{Entry, chain, ballot_chain, free_chain, first_entry, first_free, entry_slot, head_slot, layout}
 use Rattle.urn_chains.specs.Sound.{jury_of_one, slot_count, urn_slots, sound}
 use Rattle.urn.specs.Withdraw.{without_juror, without_ballot}
-use Rattle.urn_chains.specs.declared.find.ChainPosition.TheVariants.{Found}
-use Rattle.urn_chains.specs.inner.Position.{position_of}
+use Rattle.urn_chains.specs.inner.Position.{placed_at, position_of}
 use Rattle.urn_chains.proofs.SlotLaws.{slot_within, next_is}
 use Rattle.urn_chains.proofs.Linked.{Linked, FreeLinked, at_other}
 use Rattle.urn_chains.proofs.Layouts.{Fit}
@@ -33,7 +32,7 @@ take_zeros (suc b) (suc m) h = ap (λ (xs : List ℕ). 0 ∷ xs) (take_zeros b m
 module _ (k d : ℕ) (urn : List ℕ) (w : T (graded_limits (jury_of_one k d))) (e : sound k d urn ≡ true) (j p s : ℕ)
     (found : position_of (slots_of (k * d) (slot_count (k * d) (length urn)) urn) j 0
     (chain (slot_count (k * d) (length urn)) (get_or urn 0 0)
-    (slots_of (k * d) (slot_count (k * d) (length urn)) urn)) ≡ Found p s) where
+    (slots_of (k * d) (slot_count (k * d) (length urn)) urn)) ≡ placed_at p s) where
   sized : Sized (k * d) (urn_slots k d urn)
   unfolding urn_slots
   sized = slots_sized (k * d) (slot_count (k * d) (length urn)) urn (its_table k d urn w e).size

@@ -17,8 +17,8 @@ use Rattle.urn_chains.specs.Chains.{Entry, first_entry, first_free, entry_slot, 
 use Rattle.basics.specs.Lists.{all, member, distinct}
 use Rattle.urn_chains.specs.Sound.{in_urn}
 use Rattle.urn.specs.Withdraw.{without_juror, slot_of_juror}
-use Rattle.urn_chains.specs.declared.find.ChainPosition.TheVariants.{Found}
-use Rattle.urn_chains.specs.inner.Position.{position_of}
+use Rattle.urn.proofs.FactLaws.{found_parts}
+use Rattle.urn_chains.specs.inner.Position.{placed_at, position_of}
 use Rattle.urn_chains.proofs.Lists.{all_append, all_move, all_member, all_weaken, member_move, member_append, distinct_move, distinct_first, distinct_rest, distinct_left, distinct_apart}
 use Rattle.urn_chains.proofs.Marks.{true_or_false}
 use Rattle.urn_chains.proofs.SlotTests.{clash}
@@ -41,17 +41,14 @@ pub record Split (j before p s : ℕ) (es : List Entry) : Type 0 where
   pub slot : s ≡ entry.slot
   pub link : p ≡ last_slot before front
 
-found_parts : (a b p s : ℕ) → Found a b ≡ Found p s → (p ≡ a) × (s ≡ b)
-found_parts a b p s e = (cc, cc)
-
 pub split : (S : List Slot) (j before p s : ℕ) (es : List Entry) → Linked S es → position_of S j before (slots_in es)
-    ≡ Found p s → Split j before p s es
+    ≡ placed_at p s → Split j before p s es
 unfolding position_of without_juror slot_of_juror last_slot entry_slot
 split S j before p s [] none e = let z : ◌≡◌ {A = ℕ} 0 1 = cc in absurd (omega arith)
 split S j before p s (e ∷ es) (more q l) h =
     ⊎_elim
     (λ t. let r = found_parts before e.slot p s
-    (ap (λ (u : Bool). cond u (Found before e.slot) (position_of S j e.slot (slots_in es))) (sym t) ∙ h) in
+    (ap (λ (u : Bool). cond u (placed_at before e.slot) (position_of S j e.slot (slots_in es))) (sym t) ∙ h) in
     let t' : eqb e.juror j ≡ true = ap (λ (x : Slot). eqb x.juror j) (sym q) ∙ t in
     record {
       front = [];
@@ -64,7 +61,7 @@ split S j before p s (e ∷ es) (more q l) h =
       link = r.0;
     })
     (λ t. let w = split S j e.slot p s es l
-    (ap (λ (u : Bool). cond u (Found before e.slot) (position_of S j e.slot (slots_in es))) (sym t) ∙ h) in
+    (ap (λ (u : Bool). cond u (placed_at before e.slot) (position_of S j e.slot (slots_in es))) (sym t) ∙ h) in
     let t' : eqb e.juror j ≡ false = ap (λ (x : Slot). eqb x.juror j) (sym q) ∙ t in
     record {
       front = e ∷ w.front;

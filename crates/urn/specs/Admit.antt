@@ -4,28 +4,27 @@ use Rattle.std.proofs.Math.Option.{Option}
 use Rattle.jury.specs.Reason.{Reason, unless, first_of}
 use Rattle.jury.specs.Ballots.{ballot_reasons}
 use Rattle.tally.specs.Answer.{Outcome, outcome, afterwards}
-use Rattle.urn.specs.declared.facts.Facts.{Facts}
 use Rattle.urn_chains.specs.Slots.{Slot, bytes_of}
 use Rattle.urn_chains.specs.Chains.{ballot_chain, free_chain, first_free, layout}
 use Rattle.urn_chains.specs.Sound.{jury_of_one, graded_shape, good_juror, urn_slots}
-use Rattle.urn.specs.Facts.{facts_of, UrnResult}
+use Rattle.urn.specs.Facts.{UrnFacts, facts_of, sound_in, ballots_in, present_in, full_in, UrnResult}
 
 -- The reasons of an admission, in the order of their tests: 1, 13, 14, those of the ballot as in a jury of one (4,
 -- 5, 6), then 15.
-unfoldable pub admit_reasons : ℕ → ℕ → Facts → ℕ → List ℕ → List (Option Reason)
+unfoldable pub admit_reasons : ℕ → ℕ → UrnFacts → ℕ → List ℕ → List (Option Reason)
 admit_reasons k d facts juror ballot =
     unless (graded_shape k d) 1
-    ∷ unless facts.sound 13
-    ∷ unless (good_juror juror && not facts.present) 14
-    ∷ (ballot_reasons (jury_of_one k d) ballot ++ (unless (not facts.full) 15 ∷ []))
+    ∷ unless (sound_in facts) 13
+    ∷ unless (good_juror juror && not (present_in facts)) 14
+    ∷ (ballot_reasons (jury_of_one k d) ballot ++ (unless (not (full_in facts)) 15 ∷ []))
 
 -- 11 and 12 never apply: a shape of rankings is refused for 1.
 abbrev pub admit_reason_numbers : List ℕ
 admit_reason_numbers = 1 ∷ 13 ∷ 14 ∷ 4 ∷ 5 ∷ 6 ∷ 15 ∷ []
 
 -- The answer, given the facts about the urn: a reason, or the new number of ballots.
-unfoldable pub admit_outcome_by : ℕ → ℕ → Facts → ℕ → List ℕ → Outcome ℕ
-admit_outcome_by k d facts juror ballot = outcome (first_of (admit_reasons k d facts juror ballot)) (facts.ballots + 1)
+unfoldable pub admit_outcome_by : ℕ → ℕ → UrnFacts → ℕ → List ℕ → Outcome ℕ
+admit_outcome_by k d facts juror ballot = outcome (first_of (admit_reasons k d facts juror ballot)) (ballots_in facts + 1)
 
 -- The answer of an admission, and of its preview.
 abbrev pub admit_outcome : ℕ → ℕ → List ℕ → ℕ → List ℕ → Outcome ℕ

@@ -3,26 +3,25 @@ use Rattle.std.specs.Prelude.{cond, ◌&&◌, List, [], ◌∷◌, ℕ, ◌-◌,
 use Rattle.std.proofs.Math.Option.{Option}
 use Rattle.jury.specs.Reason.{Reason, unless, first_of}
 use Rattle.tally.specs.Answer.{Outcome, outcome, afterwards}
-use Rattle.urn.specs.declared.facts.Facts.{Facts}
 use Rattle.urn_chains.specs.Slots.{Slot, bytes_of}
 use Rattle.urn_chains.specs.Chains.{Entry, ballot_chain, free_chain, layout}
 use Rattle.urn_chains.specs.Sound.{graded_shape, good_juror, urn_slots}
-use Rattle.urn.specs.Facts.{facts_of, UrnResult}
+use Rattle.urn.specs.Facts.{UrnFacts, facts_of, sound_in, ballots_in, present_in, UrnResult}
 
 -- The reasons of a withdrawal, in the order of their tests: 1, 13, 14.
-unfoldable pub withdraw_reasons : ℕ → ℕ → Facts → ℕ → List (Option Reason)
+unfoldable pub withdraw_reasons : ℕ → ℕ → UrnFacts → ℕ → List (Option Reason)
 withdraw_reasons k d facts juror =
     unless (graded_shape k d) 1
-    ∷ unless facts.sound 13
-    ∷ unless (good_juror juror && facts.present) 14
+    ∷ unless (sound_in facts) 13
+    ∷ unless (good_juror juror && present_in facts) 14
     ∷ []
 
 abbrev pub withdraw_reason_numbers : List ℕ
 withdraw_reason_numbers = 1 ∷ 13 ∷ 14 ∷ []
 
 -- The answer, given the facts about the urn: a reason, or the new number of ballots.
-unfoldable pub withdraw_outcome_by : ℕ → ℕ → Facts → ℕ → Outcome ℕ
-withdraw_outcome_by k d facts juror = outcome (first_of (withdraw_reasons k d facts juror)) (facts.ballots - 1)
+unfoldable pub withdraw_outcome_by : ℕ → ℕ → UrnFacts → ℕ → Outcome ℕ
+withdraw_outcome_by k d facts juror = outcome (first_of (withdraw_reasons k d facts juror)) (ballots_in facts - 1)
 
 -- The answer of a withdrawal, and of its preview.
 abbrev pub withdraw_outcome : ℕ → ℕ → List ℕ → ℕ → Outcome ℕ

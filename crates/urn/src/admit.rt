@@ -1,5 +1,5 @@
 // The entry point that admits a ballot, and its preview.
-ghost use Rattle.std.specs.Prelude.{◌≡◌, ◌*◌};
+ghost use Rattle.std.specs.Prelude.{◌≡◌, ◌*◌, Some};
 ghost use Rattle.urn_chains.specs.Slots.{bytes_of};
 ghost use Rattle.urn_chains.specs.Sound.{graded_shape, good_juror, urn_slots};
 ghost use Rattle.urn.specs.Facts.{counted_by};
@@ -9,7 +9,6 @@ ghost use Rattle.urn.specs.inner.Ready.{DecideReady, Admissible};
 use crate::answer::Answer;
 use crate::facts::Facts;
 use crate::{facts, put};
-use basics::byte::wide;
 use jury::reason::{Refusal, Verdict};
 use jury::shape::Shape;
 
@@ -35,19 +34,16 @@ pub(crate) fn is_juror(juror: usize) -> bool
     1 <= juror && juror <= MOST_JURORS
 }
 
-// The answer to an admission. It knows nothing about the urn except the facts.
+// The answer to an admission to a sound urn. It knows nothing about the urn except the facts.
 fn decide(k: usize, d: usize, facts: Facts, juror: usize, ballot: &[u8]) -> Answer
     requires { DecideReady k d facts }
-    ensures { counted_by result ≡ admit_outcome_by k d facts juror ballot.now }
+    ensures { counted_by result ≡ admit_outcome_by k d (Some facts) juror ballot.now }
 {
-    if !facts.sound {
-        return Answer::Refused(Refusal::Urn);
-    }
     if !is_juror(juror) {
-        return Answer::Refused(Refusal::Juror);
+        return Err(Refusal::Juror);
     }
     if facts.present {
-        return Answer::Refused(Refusal::Juror);
+        return Err(Refusal::Juror);
     }
     let shape = Shape {
         candidates: k,
@@ -55,14 +51,12 @@ fn decide(k: usize, d: usize, facts: Facts, juror: usize, ballot: &[u8]) -> Answ
         ballots: 1,
     };
     if let Verdict::Refused(reason) = jury::ballots::test(shape, ballot) {
-        return Answer::Refused(reason);
+        return Err(reason);
     }
     if facts.full {
-        return Answer::Refused(Refusal::FullUrn);
+        return Err(Refusal::FullUrn);
     }
-    Answer::Accepted {
-        ballots: facts.ballots + 1,
-    }
+    Ok(facts.ballots + 1)
 }
 
 // What an admission would answer. The urn is lent for reading only.
@@ -70,9 +64,9 @@ pub fn preview(k: usize, d: usize, urn: &[u8], juror: usize, ballot: &[u8]) -> A
     ensures { counted_by result ≡ admit_outcome k d urn.now juror ballot.now }
 {
     if !is_graded(k, d) {
-        return Answer::Refused(Refusal::Shape);
+        return Err(Refusal::Shape);
     }
-    let looked = facts::check(k, d, urn, juror);
+    let looked = facts::check(k, d, urn, juror).ok_or(Refusal::Urn)?;
     decide(k, d, looked.facts, juror, ballot)
 }
 
@@ -85,7 +79,7 @@ fn put_ballot(k: usize, d: usize, urn: &mut [u8], juror: usize, ballot: &[u8])
     let size = 2 + k * d;
     let first = urn[0];
     let slot = urn[1];
-    let at = wide(slot) * size;
+    let at = usize::from(slot) * size;
     let next = urn[at];
     put::put_slot(urn, at, first, juror as u8, ballot);
     urn[0] = slot;
@@ -97,9 +91,7 @@ pub fn admit(k: usize, d: usize, urn: &mut [u8], juror: usize, ballot: &[u8]) ->
     ensures { record { answer = counted_by result; urn = urn.new }
         ≡ admission k d urn.old juror ballot.now }
 {
-    let answer = preview(k, d, urn, juror, ballot);
-    if let Answer::Accepted { ballots: _ } = answer {
-        put_ballot(k, d, urn, juror, ballot);
-    }
-    answer
+    let ballots = preview(k, d, urn, juror, ballot)?;
+    put_ballot(k, d, urn, juror, ballot);
+    Ok(ballots)
 }

@@ -16,17 +16,12 @@ fn free_all(urn: &mut [u8], bytes: usize, slots: usize)
     requires { SlotTable bytes slots urn.old }
     ensures { urn.new ≡ bytes_of (all_free slots bytes) }
 {
-    basics::table::empty(urn);
+    urn.fill(0);
     let size = 2 + bytes;
-    // Slot `left` starts at byte `at`. Both count down, so that the loop needs no product.
-    let mut left = slots - 1;
-    let mut at = left * size;
     let mut first = 0u8;
-    while 0 < left {
-        urn[at] = first;
-        first = left as u8;
-        at -= size;
-        left -= 1;
+    for slot in (1..slots).rev() {
+        urn[slot * size] = first;
+        first = slot as u8;
     }
     urn[1] = first;
 }
@@ -36,13 +31,13 @@ pub fn empty(k: usize, d: usize, urn: &mut [u8]) -> Answer
     ensures { record { answer = counted_by result; urn = urn.new } ≡ emptying k d urn.old }
 {
     if !is_graded(k, d) {
-        return Answer::Refused(Refusal::Shape);
+        return Err(Refusal::Shape);
     }
     let bytes = k * d;
     let slots = sound::slots_in(bytes, urn.len());
     if slots == 0 {
-        return Answer::Refused(Refusal::Urn);
+        return Err(Refusal::Urn);
     }
     free_all(urn, bytes, slots);
-    Answer::Accepted { ballots: 0 }
+    Ok(0)
 }

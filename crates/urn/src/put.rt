@@ -10,5 +10,6 @@ pub(crate) fn put_slot(urn: &mut [u8], at: usize, next: u8, juror: u8, ballot: &
     urn[at] = next;
     urn[at + 1] = juror;
     let from = at + 2;
-    basics::byte::copy(ballot, &mut urn[from..]);
+    let end = from + ballot.len();
+    urn[from..end].copy_from_slice(ballot);
 }

@@ -1,5 +1,5 @@
 // The entry point that withdraws a ballot, and its preview.
-ghost use Rattle.std.specs.Prelude.{◌≡◌, ◌*◌, T};
+ghost use Rattle.std.specs.Prelude.{◌≡◌, ◌*◌, T, Some};
 ghost use Rattle.urn_chains.specs.Slots.{bytes_of, slot_at};
 ghost use Rattle.urn_chains.specs.Sound.{graded_shape, urn_slots};
 ghost use Rattle.urn.specs.Facts.{counted_by};
@@ -12,29 +12,19 @@ use crate::facts::Facts;
 use crate::{facts, put};
 use jury::reason::Refusal;
 use jury::shape::Shape;
-use urn_chains::find::ChainPosition;
 
-// The answer to a withdrawal. It knows nothing about the urn except the facts.
+// The answer to a withdrawal from a sound urn. It knows nothing about the urn except the facts.
 fn decide(k: usize, d: usize, facts: Facts, juror: usize) -> Answer
     requires { T (graded_shape k d) }
-    ensures { counted_by result ≡ withdraw_outcome_by k d facts juror }
+    ensures { counted_by result ≡ withdraw_outcome_by k d (Some facts) juror }
 {
-    if !facts.sound {
-        return Answer::Refused(Refusal::Urn);
-    }
     if !is_juror(juror) {
-        return Answer::Refused(Refusal::Juror);
+        return Err(Refusal::Juror);
     }
     if !facts.present {
-        return Answer::Refused(Refusal::Juror);
+        return Err(Refusal::Juror);
     }
-    let before = facts.ballots;
-    if before == 0 {
-        return Answer::Accepted { ballots: 0 };
-    }
-    Answer::Accepted {
-        ballots: before - 1,
-    }
+    Ok(facts.ballots.saturating_sub(1))
 }
 
 // What a withdrawal would answer. The urn is lent for reading only.
@@ -42,9 +32,9 @@ pub fn preview(k: usize, d: usize, urn: &[u8], juror: usize) -> Answer
     ensures { counted_by result ≡ withdraw_outcome k d urn.now juror }
 {
     if !is_graded(k, d) {
-        return Answer::Refused(Refusal::Shape);
+        return Err(Refusal::Shape);
     }
-    let looked = facts::check(k, d, urn, juror);
+    let looked = facts::check(k, d, urn, juror).ok_or(Refusal::Urn)?;
     decide(k, d, looked.facts, juror)
 }
 
@@ -72,15 +62,12 @@ pub fn withdraw(k: usize, d: usize, urn: &mut [u8], juror: usize) -> Answer
         ≡ withdrawal k d urn.old juror }
 {
     if !is_graded(k, d) {
-        return Answer::Refused(Refusal::Shape);
+        return Err(Refusal::Shape);
     }
-    let looked = facts::check(k, d, urn, juror);
-    let position = looked.position;
-    let answer = decide(k, d, looked.facts, juror);
-    if let Answer::Accepted { ballots: _ } = answer {
-        if let ChainPosition::Found { before, slot } = position {
-            take_ballot(k, d, urn, before, slot);
-        }
+    let looked = facts::check(k, d, urn, juror).ok_or(Refusal::Urn)?;
+    let ballots = decide(k, d, looked.facts, juror)?;
+    if let Some(place) = looked.position {
+        take_ballot(k, d, urn, place.before, place.slot);
     }
-    answer
+    Ok(ballots)
 }

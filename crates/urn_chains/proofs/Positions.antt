@@ -8,12 +8,12 @@ use Prim.Native.Nat.{ℕ, ◌+◌, ◌-◌, ◌≤◌, ◌<◌}
 use native.Mathlib.Nat.{sub-zero}
 use native.Mathlib.Omega.{arith}
 use borrow.Author.Tests.{eq-eqb, ne_eqb}
-use Rattle.std.specs.Prelude.{Some, None}
+use Rattle.std.specs.Prelude.{None}
 use Rattle.urn_chains.specs.Slots.{Slot, slot_at}
 use Rattle.urn_chains.specs.Chains.{chain}
 use Rattle.basics.specs.Lists.{all}
 use Rattle.urn_chains.specs.Sound.{in_urn}
-use Rattle.urn_chains.specs.inner.Position.{position_of}
+use Rattle.urn_chains.specs.inner.Position.{placed_at, position_of}
 use Rattle.urn_chains.proofs.Lists.{all_first, all_rest}
 use Rattle.urn_chains.proofs.Linked.{below}
 use Rattle.urn_chains.proofs.Walks.{chain_step, chain_end}
@@ -47,12 +47,12 @@ module _ (slots : List Slot) (n first juror before count slot : ℕ) (on : OnFin
       below n slot (all_first (in_urn n) slot (chain (n - (count + 1)) (slot_at slots slot).next slots)
       (ap (all (in_urn n)) (sym (step l p)) ∙ on.inside))
 
-  pub find_here : count ≢ n → 0 < slot → (slot_at slots slot).juror ≡ juror → Some (record { before = before; slot = slot })
+  pub find_here : count ≢ n → 0 < slot → (slot_at slots slot).juror ≡ juror → placed_at before slot
       ≡ position_of slots juror 0 (chain n first slots)
   unfolding position_of
   find_here h p e =
       let l : count < n = omega (arith, on.within) in
-      ap (λ (t : Bool). cond t (Some (record { before = before; slot = slot }))
+      ap (λ (t : Bool). cond t (placed_at before slot)
       (position_of slots juror slot (chain (n - (count + 1)) (slot_at slots slot).next slots)))
       (sym (eq-eqb (slot_at slots slot).juror juror e))
       ∙ ap (position_of slots juror before) (sym (step l p))
@@ -68,7 +68,7 @@ module _ (slots : List Slot) (n first juror before count slot : ℕ) (on : OnFin
       (record {
         within = omega arith;
         rest =
-            ap (λ (t : Bool). cond t (Some (record { before = before; slot = slot })) (position_of slots juror slot rest))
+            ap (λ (t : Bool). cond t (placed_at before slot) (position_of slots juror slot rest))
             (sym (ne_eqb (slot_at slots slot).juror juror f))
             ∙ ap (position_of slots juror before) (sym (step l p))
             ∙ on.rest;
