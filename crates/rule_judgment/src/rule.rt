@@ -24,88 +24,72 @@ pub fn winners(shape: Shape, counts: &GradeCounts) -> ClosingBytes
     requires { WinnersReady shape counts.now }
     ensures { result ≡ eight_bytes (judgment_of (rows_in shape.candidates shape.grades counts.now)) }
 {
-    let k = shape.candidates;
-    let d = shape.grades;
-    let first = first_winner(counts, k, d, shape.ballots);
+    let first = first_winner(shape, counts);
     [
-        closing_byte(counts, 0, first, k, d),
-        closing_byte(counts, 1, first, k, d),
-        closing_byte(counts, 2, first, k, d),
-        closing_byte(counts, 3, first, k, d),
-        closing_byte(counts, 4, first, k, d),
-        closing_byte(counts, 5, first, k, d),
-        closing_byte(counts, 6, first, k, d),
-        closing_byte(counts, 7, first, k, d),
+        closing_byte(shape, counts, 0, first),
+        closing_byte(shape, counts, 1, first),
+        closing_byte(shape, counts, 2, first),
+        closing_byte(shape, counts, 3, first),
+        closing_byte(shape, counts, 4, first),
+        closing_byte(shape, counts, 5, first),
+        closing_byte(shape, counts, 6, first),
+        closing_byte(shape, counts, 7, first),
     ]
 }
 
-// The closing byte of candidate c: 1 if it is one of k and has the counts of `first`, who wins.
-fn closing_byte(counts: &GradeCounts, c: usize, first: usize, k: usize, d: usize) -> u8
-    requires { RowsReady counts.now c first d }
-    ensures { result ≡ byte_beside counts.now k d first c }
+// The closing byte of candidate c: 1 if it is one of the shape's and has the counts of `first`, who wins.
+fn closing_byte(shape: Shape, counts: &GradeCounts, c: usize, first: usize) -> u8
+    requires { RowsReady counts.now c first shape.grades }
+    ensures { result ≡ byte_beside counts.now shape.candidates shape.grades first c }
 {
-    if k <= c {
+    if shape.candidates <= c {
         return 0;
     }
-    if same_counts(counts, c, first, d) {
-        1
-    } else {
-        0
-    }
+    u8::from(same_counts(shape, counts, c, first))
 }
 
 // A candidate whose sequence no other sequence precedes.
-fn first_winner(counts: &GradeCounts, k: usize, d: usize, n: usize) -> usize
-    requires { FirstReady counts.now k d n }
-    ensures { WinningCandidate counts.now k d result }
+fn first_winner(shape: Shape, counts: &GradeCounts) -> usize
+    requires { FirstReady counts.now shape.candidates shape.grades shape.ballots }
+    ensures { WinningCandidate counts.now shape.candidates shape.grades result }
 {
     let mut first = 0;
-    let mut c = 1;
-    while c < k {
-        if comes_before(counts, c, first, d, n) {
+    for c in 1..shape.candidates {
+        if comes_before(shape, counts, c, first) {
             first = c;
         }
-        c += 1;
     }
     first
 }
 
 // Whether candidates a and b have the same counts.
-fn same_counts(counts: &GradeCounts, a: usize, b: usize, d: usize) -> bool
-    requires { RowsReady counts.now a b d }
-    ensures { Compared (take d (get_or counts.now a [])) (take d (get_or counts.now b [])) d result }
+fn same_counts(shape: Shape, counts: &GradeCounts, a: usize, b: usize) -> bool
+    requires { RowsReady counts.now a b shape.grades }
+    ensures { Compared (take shape.grades (get_or counts.now a [])) (take shape.grades (get_or counts.now b []))
+        shape.grades result }
 {
-    let mut g = 0;
-    while g < d {
-        if counts[a][g] != counts[b][g] {
-            return false;
-        }
-        g += 1;
-    }
-    true
+    counts[a][..shape.grades] == counts[b][..shape.grades]
 }
 
-// Whether the sequence of candidate a comes before that of b. Both have n grades.
-fn comes_before(counts: &GradeCounts, a: usize, b: usize, d: usize, n: usize) -> bool
-    requires { SumsReady counts.now a b d n }
-    ensures { result ≡ precedes (sequence_of (take d (get_or counts.now a [])))
-        (sequence_of (take d (get_or counts.now b []))) }
+// Whether the sequence of candidate a comes before that of b.
+fn comes_before(shape: Shape, counts: &GradeCounts, a: usize, b: usize) -> bool
+    requires { SumsReady counts.now a b shape.grades shape.ballots }
+    ensures { result ≡ precedes (sequence_of (take shape.grades (get_or counts.now a [])))
+        (sequence_of (take shape.grades (get_or counts.now b []))) }
 {
     let mut lower = Sums { a: 0, b: 0 };
     let mut sums = Sums { a: 0, b: 0 };
-    let mut g = 0;
-    while g < d {
+    for g in 0..shape.grades {
         sums = Sums {
-            a: sums.a + wide(counts[a][g]),
-            b: sums.b + wide(counts[b][g]),
+            a: sums.a + usize::from(counts[a][g]),
+            b: sums.b + usize::from(counts[b][g]),
         };
         if sums.a != sums.b {
-            if half_reached(n, sums) {
-                return decided(n, lower, sums);
+            if half_reached(shape.ballots, sums) {
+                return decided(shape.ballots, lower, sums);
             }
             lower = sums;
         }
-        g += 1;
     }
     lower.b < lower.a
 }
@@ -132,11 +116,4 @@ fn decided(n: usize, lower: Sums, upper: Sums) -> bool
         return upper.b < upper.a && lower.b + upper.b < n;
     }
     upper.b < upper.a
-}
-
-// A count as a number in which sums of counts do not overflow.
-fn wide(count: u16) -> usize
-    ensures { result ≡ count }
-{
-    count as usize
 }
