@@ -19,20 +19,6 @@ pub struct Plan {
     pub places: u32,
 }
 
-// 2 to the power `digits`.
-fn power(digits: u32) -> u32
-    requires { digits ≤ 7 }
-    ensures { result ≡ 2 ^ digits }
-{
-    let mut power: u32 = 1;
-    let mut i: u32 = 0;
-    while i < digits {
-        power *= 2;
-        i += 1;
-    }
-    power
-}
-
 impl Plan {
     // The plan of a shape.
     pub fn new(shape: Shape) -> Plan
@@ -41,7 +27,7 @@ impl Plan {
     {
         let ballots = shape.ballots as u32;
         let digits = jury::width::width(shape.ballots) as u32 - 1;
-        let most = power(digits);
+        let most = 2u32.pow(digits);
         Plan {
             candidates: shape.candidates as u32,
             grades: shape.grades as u32,

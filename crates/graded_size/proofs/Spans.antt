@@ -1,11 +1,12 @@
 -- The spans of the circuit's parts, case by case, as the program computes them.
 -- Assumes nothing.
 use mathlib.Core.Logic.{⊎_elim}
-use mathlib.Core.Path.{◌≡◌, refl, ap, subst}
+use mathlib.Core.Path.{◌≡◌, refl, ap}
 use Prim.Native.Nat.{ℕ, zero, suc, ◌+◌, ◌-◌, ◌*◌, ◌/◌, ◌≤◌, ◌<◌}
 use native.Mathlib.Nat.{mul-add, mul-le-mul}
 use native.Mathlib.Omega.{arith}
 use Rattle.gate_words.specs.Reach.{reach_span}
+use Rattle.gate_words.proofs.ChoiceSteps.{left_one}
 use Rattle.graded_circuit.specs.declared.plan.Plan.{Plan}
 use Rattle.graded_circuit.specs.RunningSums.{sum_size, worst_size}
 use Rattle.graded_circuit.specs.Median.{Fits, difference_span, later_span}
@@ -50,20 +51,20 @@ tie_break_below_more (suc r) (suc t) h z =
     span : tie_break_below_span (suc r) (suc t) ≡ t * side_span r + t * either_span r + t * either_span r + (6 * r + 2 + 2 * reach_span r) + 14
     span = unfold tie_break_below_span in (omega arith)
 
--- one digit of the comparison of the medians, and the digits left
-pub later_turn : (m w : ℕ) → 0 < w → Fits m w → Fits (m / 2) (w - 1) × (later_span m w ≡ 2 * m + 1 + later_span (m / 2) (w - 1))
-later_turn m zero h f = absurd (omega arith)
-later_turn m (suc w) h f =
-    let e : w ≡ suc w - 1 = omega arith in
-    (subst (Fits (m / 2)) e (fits_half m w f), omega (arith, span, fits_some m w f, ap (later_span (m / 2)) e))
+-- after i digits of the comparison of the medians: the next one, and the digits left
+pub later_turn : (m i w : ℕ) → i < w → Fits m (w - i)
+    → Fits (m / 2) (w - (i + 1)) × (later_span m (w - i) ≡ 2 * m + 1 + later_span (m / 2) (w - (i + 1)))
+later_turn m i w h f = rw (left_one i w h) (fits_half m (w - (i + 1)) g, omega (arith, span, fits_some m (w - (i + 1)) g))
   where
-    span : later_span m (suc w) ≡ difference_span m + 2 + later_span (m / 2) w
+    g : Fits m (suc (w - (i + 1)))
+    g = rw (left_one i w h) at f
+
+    span : later_span m (suc (w - (i + 1))) ≡ difference_span m + 2 + later_span (m / 2) (w - (i + 1))
     span = unfold later_span in refl
 
-pub later_none : (m w : ℕ) → w ≤ 0 → later_span m w ≡ 0
+pub later_none : (m i w : ℕ) → w ≤ i → later_span m (w - i) ≡ 0
 unfolding later_span
-later_none m zero h = refl
-later_none m (suc w) h = absurd (omega arith)
+later_none m i w h = let e : w - i ≡ 0 = omega arith in rw e
 
 -- the levels of merges
 module _ (p : Plan) where

@@ -11,10 +11,7 @@ fn rows_span(p: Plan) -> u32
     requires { Planned p }
     ensures { result ≡ (p.grades - 3) * p.ballots }
 {
-    if p.grades == 2 {
-        return 0;
-    }
-    (p.grades - 3) * p.ballots
+    p.grades.saturating_sub(3) * p.ballots
 }
 
 // The rows, the levels of a sum for each grade but the worst, and the key, with a word for each of these grades.

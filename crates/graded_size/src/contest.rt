@@ -16,11 +16,9 @@ fn medians_span(count: u32, above: u32) -> u32
 {
     let mut gates: u32 = 2 * count - 1;
     let mut many = count / 2;
-    let mut left = above;
-    while 0 < left {
+    for _ in 0..above {
         gates += 2 * many + 1;
         many /= 2;
-        left -= 1;
     }
     gates
 }

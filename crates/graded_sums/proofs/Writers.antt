@@ -43,7 +43,7 @@ later_apart p (suc g) h = refl
 
 -- one turn: a grade, and the grades that are left
 module _ (p : Plan) (n c : ℕ) where
-  pub rows_turn : (g : ℕ) → g + 3 < p.grades
+  pub rows_turn : (g : ℕ) → g < p.grades - 3
       → rows p n c g (p.grades - 3 - g)
       ≡ xor_rows (row_at p n c g) (row_stride p g) (bits_at p c (suc g)) (ballot_stride p) p.ballots
       ++ rows p n c (g + 1) (p.grades - 3 - (g + 1))
@@ -61,7 +61,7 @@ module _ (p : Plan) (n c : ℕ) where
   rows_end g t h = let e : t - g ≡ 0 = omega arith in rw e
 
   module _ (m : ℕ) where
-    pub levels_turn : (g q : ℕ) → g + 2 < p.grades → q ≡ sum_levels_from p m g
+    pub levels_turn : (g q : ℕ) → g < p.grades - 2 → q ≡ sum_levels_from p m g
         → all_levels p n m c g (p.grades - 2 - g)
         ≡ count_levels q (row_at p n c g) (row_stride p g) p.ballots p.offset p.digits
         ++ all_levels p n m c (g + 1) (p.grades - 2 - (g + 1))
@@ -81,7 +81,7 @@ module _ (p : Plan) (n c : ℕ) where
     unfolding all_levels
     levels_end g t h = let e : t - g ≡ 0 = omega arith in rw e
 
-    pub words_turn : (g q : ℕ) → g + 2 < p.grades → q ≡ sum_levels_from p m g
+    pub words_turn : (g q : ℕ) → g < p.grades - 2 → q ≡ sum_levels_from p m g
         → key_words p n m c g (p.grades - 2 - g)
         ≡ count_digits_as 2 3 q (row_at p n c g) p.ballots p.offset p.digits
         ++ key_words p n m c (g + 1) (p.grades - 2 - (g + 1))

@@ -40,11 +40,9 @@ fn key_words(w: Writer, table: &mut [u32], p: Plan, n: u32, m: u32, c: u32) -> W
     let size = count_size(p.ballots, p.offset, p.digits);
     let mut next = w;
     let mut base = m;
-    let mut g: u32 = 0;
-    while g + 2 < p.grades {
+    for g in 0..p.grades - 2 {
         next = key_word(next, table, p, n, base, c, g);
         base += size;
-        g += 1;
     }
     next
 }

@@ -71,10 +71,8 @@ pub(crate) fn rows(w: Writer, table: &mut [u32], p: Plan, c: u32) -> Writer
 {
     let n = w.wire;
     let mut next = w;
-    let mut g: u32 = 0;
-    while g + 3 < p.grades {
+    for g in 0..p.grades.saturating_sub(3) {
         next = next_row(next, table, p, n, c, g);
-        g += 1;
     }
     next
 }
@@ -97,10 +95,8 @@ pub(crate) fn all_levels(w: Writer, table: &mut [u32], p: Plan, n: u32, c: u32) 
     ensures { Wrote w table.old (all_levels p n w.wire c 0 (p.grades - 2)) table.new result }
 {
     let mut next = w;
-    let mut g: u32 = 0;
-    while g + 2 < p.grades {
+    for g in 0..p.grades - 2 {
         next = sum_levels(next, table, p, n, c, g);
-        g += 1;
     }
     next
 }

@@ -60,6 +60,7 @@ loop-preserved c =
     let l = c.loop in
     let e = c.level-w in
     let t = c.loop-test.true in
+    let some = countable_step l.m l.rest l.counter a.levels t l.invariant.3 in
     let k = adders (l.m - 1) (l.rest % 2) in
     let n : e.result.wire ≡ l.w.wire + 3 * k = e.ensures.wires
     ∙ ap (λ (n : ℕ). l.w.wire + n)
@@ -67,8 +68,8 @@ loop-preserved c =
     let q : c.adders_of-m.result ≡ k = c.adders_of-m.ensures in (
       subst₂ (λ (x y : ℕ). Below x (l.w.wire + 2) 3 y) (sym n) (sym q) (below_carries l.w.wire k),
       omega arith,
-      omega (arith, few_adders (l.m - 1) (l.rest % 2) (omega arith), l.invariant.2, (countable_step l.m l.rest l.counter c.args.levels c.loop-test.true l.invariant.3).0),
-      subst (λ (x : ℕ). Countable x (l.rest / 2) (a.levels - (l.counter + 1))) (sym q) (countable_step l.m l.rest l.counter a.levels t l.invariant.3).1,
+      omega (arith, few_adders (l.m - 1) (l.rest % 2) (omega arith), l.invariant.2, some.0),
+      subst (λ (x : ℕ). Countable x (l.rest / 2) (a.levels - (l.counter + 1))) (sym q) some.1,
       goes_as a.start a.table.now
           (count_levels a.start.wire a.first a.stride a.count a.extra a.levels) e.result
           e.new.table _ _

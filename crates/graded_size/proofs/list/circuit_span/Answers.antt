@@ -3,7 +3,6 @@
 use mathlib.Core.Path.{◌≡◌, ap}
 use Prim.Native.Nat.{ℕ, ◌-◌, ◌*◌, ◌/◌, ◌≤◌}
 use native.Mathlib.Omega.{arith}
-use borrow.Author.Rules.{rules}
 use Rattle.graded_circuit.specs.declared.plan.Plan.{Plan}
 use Rattle.graded_circuit.specs.Key.{candidate_span}
 use Rattle.graded_circuit.specs.Contest.{contest_span}
@@ -11,10 +10,11 @@ use Rattle.graded_circuit.specs.OwnList.{levels_span}
 use Rattle.graded_circuit.proofs.BoundLaws.{digits_most}
 use Rattle.graded_circuit.proofs.CircuitLaws.{circuit_block}
 use Rattle.graded_size.proofs.Spans.{contest_small, four_small, all_small}
-use Rattle.graded_size.proofs.list.circuit_span.Statement.{statement}
-use Rattle.graded_size.proofs.list.circuit_span.Tie as tie
+use Rattle.graded_size.proofs.list.circuit_span.Goals as goal
+use Rattle.graded_size.proofs.list.circuit_span.Goals.{After-best_of_four_span-high}
 
 -- The numbers that are added up, and that they are small.
+
 record Whole (p : Plan) (each contest low high : ℕ) : Type 0 where
   all : p.candidates * each ≡ p.candidates * candidate_span p
   all_few : p.candidates * each ≤ 280000
@@ -26,7 +26,7 @@ record Whole (p : Plan) (each contest low high : ℕ) : Type 0 where
   high_few : high ≤ 1500
   few : p.candidates ≤ 8
 
-whole : (c : tie.After-best_of_four_span-high)
+whole : (c : After-best_of_four_span-high)
     → Whole c.args.p
     c.candidate_span-each.result
     c.contest_span-contest.result c.best_of_four_span-low.result c.best_of_four_span-high.result
@@ -47,73 +47,35 @@ whole c =
       few = f.k_most;
     }
 
-candidate_span_requires : tie.Need-candidate_span-each-requires
-candidate_span_requires c κs = search rules
+pub overflow_add-key : goal.overflow_add-key
+overflow_add-key c = omega (arith, digits_most c.args.p c.requires.plan)
 
-contest_span_requires : tie.Need-contest_span-contest-requires
-contest_span_requires c κs = search rules
+pub overflow_mul-key : goal.overflow_mul-key
+overflow_mul-key c = omega (arith, contest_small c.args.p c.requires.plan)
 
-sub_key : tie.Need-overflow_sub-key
-sub_key c = search rules
+pub overflow_mul-result : goal.overflow_mul-result
+overflow_mul-result c = omega (arith, whole (goal.at.overflow_mul-result c).After-best_of_four_span-high)
 
-add_key : tie.Need-overflow_add-key
-add_key c = omega (arith, digits_most c.args.p c.requires.plan)
+pub overflow_add-result : goal.overflow_add-result
+overflow_add-result c = omega (arith, whole (goal.at.overflow_add-result c).After-best_of_four_span-high)
 
-mul_key : tie.Need-overflow_mul-key
-mul_key c = omega (arith, contest_small c.args.p c.requires.plan)
+pub overflow_add-result-2 : goal.overflow_add-result-2
+overflow_add-result-2 c = omega (arith, whole (goal.at.overflow_add-result-2 c).After-best_of_four_span-high)
 
-best_of_four_span_requires : tie.Need-best_of_four_span-low-requires
-best_of_four_span_requires c κs = search rules
+pub overflow_add-result-3 : goal.overflow_add-result-3
+overflow_add-result-3 c = omega (arith, whole (goal.at.overflow_add-result-3 c).After-best_of_four_span-high)
 
-sub_best_of_four_span : tie.Need-overflow_sub-count
-sub_best_of_four_span c = search rules
+pub overflow_add-result-4 : goal.overflow_add-result-4
+overflow_add-result-4 c = omega (arith, whole (goal.at.overflow_add-result-4 c).After-best_of_four_span-high)
 
-best_of_four_span_requires_2 : tie.Need-best_of_four_span-high-requires
-best_of_four_span_requires_2 c κs = search rules
+pub overflow_add-result-5 : goal.overflow_add-result-5
+overflow_add-result-5 c = omega (arith, whole (goal.at.overflow_add-result-5 c).After-best_of_four_span-high)
 
-mul_result : tie.Need-overflow_mul-result
-mul_result c = omega (arith, whole c)
-
-add_result : tie.Need-overflow_add-result
-add_result c = omega (arith, whole c)
-
-add_result_2 : tie.Need-overflow_add-result-2
-add_result_2 c = omega (arith, whole c)
-
-add_result_3 : tie.Need-overflow_add-result-3
-add_result_3 c = omega (arith, whole c)
-
-add_result_4 : tie.Need-overflow_add-result-4
-add_result_4 c = omega (arith, whole c)
-
-add_result_5 : tie.Need-overflow_add-result-5
-add_result_5 c = omega (arith, whole c)
-
-returns : tie.Need-returns
+pub returns : goal.returns
 returns c = omega (
   arith,
-  whole c,
+  whole (goal.at.returns c).After-best_of_four_span-high,
   (circuit_block c.args.p
       c.requires.plan
       c.requires.several).long,
 )
-
-pub circuit_span_spec : {M : Type 1} → statement M
-circuit_span_spec =
-    tie.close
-    (tie.spec
-    candidate_span_requires
-    contest_span_requires
-    sub_key
-    add_key
-    mul_key
-    best_of_four_span_requires
-    sub_best_of_four_span
-    best_of_four_span_requires_2
-    mul_result
-    add_result
-    add_result_2
-    add_result_3
-    add_result_4
-    add_result_5
-    returns)

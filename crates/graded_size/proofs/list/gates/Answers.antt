@@ -3,7 +3,6 @@
 use mathlib.Core.Path.{◌∙◌, sym, ap, subst}
 use Prim.Native.Nat.{◌<◌}
 use native.Mathlib.Omega.{arith}
-use borrow.Author.Rules.{rules}
 use lib.ListN.{length}
 use Rattle.jury.proofs.Limits.{within_T, within_back}
 use Rattle.graded_circuit.specs.declared.plan.Plan.{Plan}
@@ -11,16 +10,16 @@ use Rattle.graded_circuit.specs.Plan.{Planned, plan_of}
 use Rattle.graded_circuit.specs.OwnList.{circuit}
 use Rattle.graded_circuit.proofs.Planning.{planned}
 use Rattle.graded_circuit.proofs.OwnListLaws.{circuit_list}
-use Rattle.graded_size.proofs.list.gates.Statement.{statement}
-use Rattle.graded_size.proofs.list.gates.Tie as tie
 use Rattle.graded_circuit.proofs.Accuracy.{own_single}
+use Rattle.graded_size.proofs.list.gates.Goals as goal
+use Rattle.graded_size.proofs.list.gates.Goals.{After-new}
 
-plan_planned : (c : tie.After-new) → Planned c.new.result
+plan_planned : (c : After-new) → Planned c.new.result
 plan_planned c =
     let s = c.args.shape in
     subst Planned (sym c.new.ensures) (planned s (within_back s (within_T s c.requires)))
 
-plan_many : (c : tie.After-new) → 1 < c.new.result.candidates
+plan_many : (c : After-new) → 1 < c.new.result.candidates
 unfolding plan_of
 plan_many c =
     let s = c.args.shape in
@@ -31,23 +30,16 @@ plan_many c =
       c.if-shape-eq1.false,
     )
 
-returns : tie.Need-returns-then-shape-eq1
-returns c = sym (ap length (own_single c.args.shape c.if-shape-eq1.true))
+pub returns-then-shape-eq1 : goal.returns-then-shape-eq1
+returns-then-shape-eq1 c = sym (ap length (own_single c.args.shape c.if-shape-eq1.true))
 
-new_requires : tie.Need-new-requires
-new_requires c κs = search rules
+pub circuit_span-requires : goal.circuit_span-requires
+circuit_span-requires c =
+    let at = goal.at.circuit_span-requires c in
+    record { plan = plan_planned at.After-new; several = plan_many at.After-new }
 
-circuit_span_requires : tie.Need-circuit_span-requires
-circuit_span_requires c κs = record { plan = plan_planned c; several = plan_many c }
-
-cast_result : tie.Need-overflow_cast-result
-cast_result c = search rules
-
-returns_2 : tie.Need-returns
-returns_2 c =
+pub returns : goal.returns
+returns c =
     let s = c.args.shape in
     c.circuit_span.ensures ∙ ap (λ (p : Plan). length (circuit p)) c.new.ensures
     ∙ sym (ap length (circuit_list s c.if-shape-eq1.false))
-
-pub gates_spec : {M : Type 1} → statement M
-gates_spec = tie.close (tie.spec returns new_requires circuit_span_requires cast_result returns_2)
