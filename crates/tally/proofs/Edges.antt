@@ -1,6 +1,7 @@
 -- The edges [edges] of a plain count and the jury of [rehearsal], computed by the definitions; and the edge of a
 -- list's length, for every list of that length.
 -- Assumes nothing.
+use Rattle.std.specs.Prelude.{Err}
 use mathlib.Core.Path.{◌≡◌, refl}
 use mathlib.Core.Bool.{Bool, true, false}
 use mathlib.Core.Option.{Option, none, some}
@@ -11,11 +12,11 @@ use lib.Dec.{eqb}
 use lib.ListN.{length}
 use Rattle.gates.specs.Gate.{numbers_of}
 use Rattle.gates.specs.Test.{first_above_one}
-use Rattle.gates.specs.declared.list.ListCheck.TheVariants.{PartOfAGate, TooManyGates}
+use Rattle.gates.specs.declared.list.ListFault.TheVariants.{PartOfAGate, TooManyGates}
 use Rattle.gates.proofs.Accepting.{zeros, zeros_length, zeros_free, zeros_good, good_list_accepted, part_of_a_gate, too_many}
 use Rattle.jury.specs.declared.shape.Shape.{Shape}
 use Rattle.jury.specs.Shape.{is_ranking, graded_limits, ranked_limits, within_limits, columns, ballot_bytes}
-use Rattle.jury.specs.Reason.{Reason, reason_at, unless, found_at, list_reason, first_of}
+use Rattle.jury.specs.Reason.{Reason, reason_at, reason_of, refusal_of, unless, found_at, list_reason, first_of}
 use Rattle.jury.specs.Ballots.{ones, rows_of, first_bad_row, graded_reasons, ranked_reasons, ballot_kind_reasons, ballot_reasons}
 use Rattle.jury.specs.Rankings.{rank_place, before, or_else, first_over, not_asymmetric_at, not_asymmetric_in_row, not_asymmetric_in_ballot, first_not_asymmetric, neither_after_nor_before, not_weak_order_after, not_weak_order, first_not_weak_order}
 use Rattle.basics.specs.Below.{some_below}
@@ -118,7 +119,7 @@ pub one_gate_more : (s : Shape) (table : List ℕ) → within_limits s ≡ true 
 one_gate_more s table w long = by (eqb (length table % 4) 0) refl
   where
     by : (whole : Bool) → eqb (length table % 4) 0 ≡ whole → test_outcome s table ≡ refused_outcome (reason_at 2 0)
-    by false e = list_refused s table w PartOfAGate (reason_at 2 0)
-        (part_of_a_gate (ballot_bytes s) s.candidates table e) (unfold list_reason in refl)
-    by true e = list_refused s table w TooManyGates (reason_at 2 0)
-        (too_many (ballot_bytes s) s.candidates table e (omega (arith, (bounds s w).k_most)) long) (unfold list_reason in refl)
+    by false e = list_refused s table w (Err PartOfAGate) (reason_at 2 0)
+        (part_of_a_gate (ballot_bytes s) s.candidates table e) (unfold list_reason refusal_of reason_of in refl)
+    by true e = list_refused s table w (Err TooManyGates) (reason_at 2 0)
+        (too_many (ballot_bytes s) s.candidates table e (omega (arith, (bounds s w).k_most)) long) (unfold list_reason refusal_of reason_of in refl)

@@ -12,7 +12,7 @@ use Rattle.gates.specs.Board.{board_of}
 use Rattle.gates.specs.Test.{tested, first_above_one}
 use Rattle.gates.specs.HidingExample.{one_gate, board_under}
 use Rattle.gates.specs.HidingExample as gates
-use Rattle.gates.specs.declared.list.ListCheck.TheVariants.{Accepted}
+use Rattle.gates.specs.Test as gate_test
 use Rattle.jury.specs.Shape.{is_ranking, graded_limits, ranked_limits, within_limits, columns, ballot_bytes}
 use Rattle.jury.specs.Reason.{unless, found_at, first_of}
 use Rattle.jury.specs.Ballots.{ones, rows_of, first_bad_row, graded_reasons, ballot_kind_reasons, ballot_reasons}
@@ -29,7 +29,7 @@ within : within_limits one_ballot ≡ true
 unfolding one_ballot is_ranking graded_limits ranked_limits within_limits
 within = refl
 
-list : tested (ballot_bytes one_ballot) one_ballot.candidates one_gate ≡ Accepted 1 1
+list : tested (ballot_bytes one_ballot) one_ballot.candidates one_gate ≡ gate_test.accepted 1 1
 unfolding one_ballot is_ranking columns ballot_bytes
 list = gates.one_gate_tested
 

@@ -1,3 +1,4 @@
+pub mod Exits
 pub mod Rules
 pub mod CountReason
 pub mod PlainFacts

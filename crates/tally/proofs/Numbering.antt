@@ -1,5 +1,7 @@
 -- The first reason of a list of tests has the number of one of them.
 -- Assumes nothing.
+use Rattle.std.specs.Prelude.{Some, None, Result, Ok, Err}
+use Rattle.std.specs.Prelude as prelude
 use mathlib.Core.Path.{◌≡◌, refl, sym, subst}
 use mathlib.Core.Logic.{⊎_elim}
 use mathlib.Core.Bool.{Bool, true, false, ◌&&◌, ◌||◌}
@@ -13,13 +15,12 @@ use Rattle.basics.specs.Lists.{all, member}
 use Rattle.basics.proofs.Flags.{and_first, and_second, or_either, T_true, true_T, either}
 use Rattle.gates.specs.Gate.{gates_of}
 use Rattle.gates.specs.Test.{first_above_one}
-use Rattle.gates.specs.declared.place.Place.{Place}
-use Rattle.gates.specs.declared.place.Place.TheVariants.{At, Nowhere}
-use Rattle.gates.specs.declared.list.ListCheck.{ListCheck}
-use Rattle.gates.specs.declared.list.ListCheck.TheVariants.{Accepted, PartOfAGate, TooFewGates, TooManyGates, BadGate}
+use Rattle.gates.specs.declared.list.ListSize.{ListSize}
+use Rattle.gates.specs.declared.list.ListFault.{ListFault}
+use Rattle.gates.specs.declared.list.ListFault.TheVariants.{PartOfAGate, TooFewGates, TooManyGates, BadGate}
 use Rattle.jury.specs.declared.shape.Shape.{Shape}
 use Rattle.jury.specs.Shape.{is_ranking, ballot_bytes}
-use Rattle.jury.specs.Reason.{Reason, reason_at, unless, found_at, list_reason, first_of}
+use Rattle.jury.specs.Reason.{Reason, reason_at, reason_of, refusal_of, unless, found_at, list_reason, first_of}
 use Rattle.jury.specs.Ballots.{graded_reasons, ranked_reasons, ballot_kind_reasons, ballot_kind_reason_numbers, ballot_reasons, ballot_reason_numbers}
 use Rattle.jury.proofs.BallotLaws.{graded_reasons_lem, ranked_reasons_lem}
 use Rattle.tally.specs.OwnList.{own_list}
@@ -66,19 +67,19 @@ module _ (ns : List ℕ) where
   unless_fine true n h = tt
   unless_fine false n h = h
 
-  pub found_fine : (n : ℕ) (p : Place) → ((i : ℕ) → T (has_number_in ns (reason_at n i))) → Fine ns (found_at n p)
+  pub found_fine : (n : ℕ) (p : prelude.Option ℕ) → ((i : ℕ) → T (has_number_in ns (reason_at n i))) → Fine ns (found_at n p)
   unfolding Fine found_at
-  found_fine n Nowhere h = tt
-  found_fine n (At i) h = h i
+  found_fine n None h = tt
+  found_fine n (Some i) h = h i
 
-  pub list_fine : (t : ListCheck) → T (has_number_in ns (reason_at 2 0))
+  pub list_fine : (t : Result ListSize ListFault) → T (has_number_in ns (reason_at 2 0))
       → ((g : ℕ) → T (has_number_in ns (reason_at 3 g))) → Fine ns (list_reason t)
-  unfolding Fine list_reason
-  list_fine (Accepted gates conditional) two three = tt
-  list_fine PartOfAGate two three = two
-  list_fine TooFewGates two three = two
-  list_fine TooManyGates two three = two
-  list_fine (BadGate g) two three = three g
+  unfolding Fine list_reason refusal_of reason_of
+  list_fine (Ok size) two three = tt
+  list_fine (Err PartOfAGate) two three = two
+  list_fine (Err TooFewGates) two three = two
+  list_fine (Err TooManyGates) two three = two
+  list_fine (Err (BadGate g)) two three = three g
 
 -- a test that all these numbers pass is passed by the number of each reason that has one of them
 pub number_passes : (test : ℕ → Bool) (ns : List ℕ) (r : Reason) → T (all test ns) → T (has_number_in ns r) → T (test r.number)

@@ -9,7 +9,7 @@ use Rattle.gates.specs.Gate.{Gate, numbers_of}
 use Rattle.gates.specs.Wires.{wires_of, outputs_of}
 use Rattle.gates.specs.Board.{conditional_count}
 use Rattle.gates.specs.Test.{tested}
-use Rattle.gates.specs.declared.list.ListCheck.TheVariants.{Accepted}
+use Rattle.gates.specs.Test as gate_test
 use Rattle.gates.proofs.Accepting.{good_list_accepted}
 use Rattle.jury.specs.declared.shape.Shape.{Shape}
 use Rattle.jury.specs.Shape.{is_ranking, within_limits, ballot_bytes}
@@ -52,7 +52,7 @@ bound_ranked s e = ap (λ (t : Bool). cond t (ranking_bound s.candidates s.ballo
 module _ (s : Shape) (w : within_limits s ≡ true) where
   -- what the kinds have in common
   record Holds : Type 0 where
-    takes : tested (ballot_bytes s) s.candidates (numbers_of (own_list s)) ≡ Accepted (length (own_list s)) (conditional_count (own_list s))
+    takes : tested (ballot_bytes s) s.candidates (numbers_of (own_list s)) ≡ gate_test.accepted (length (own_list s)) (conditional_count (own_list s))
     bounded : length (own_list s) ≤ gate_bound s
     closing : (ballots : List ℕ) → AcceptedBallots s ballots
         → outputs_of s.candidates (wires_of ballots (own_list s)) ≡ closing_for s ballots
@@ -63,7 +63,7 @@ module _ (s : Shape) (w : within_limits s ≡ true) where
       let gs = own_grading s in
       record {
         takes = subst (λ (gs : List Gate). tested (ballot_bytes s) s.candidates (numbers_of gs)
-            ≡ Accepted (length gs) (conditional_count gs)) (sym (own_graded s e))
+            ≡ gate_test.accepted (length gs) (conditional_count gs)) (sym (own_graded s e))
             (good_list_accepted (ballot_bytes s) s.candidates gs (own s g).good (own s g).enough (own_list_short s g));
         bounded = subst (λ (gs : List Gate). length gs ≤ gate_bound s) (sym (own_graded s e))
             (subst (λ (n : ℕ). length gs ≤ n) (sym (bound_graded s e)) (own_list_keeps_the_bound s g));
@@ -81,8 +81,8 @@ module _ (s : Shape) (w : within_limits s ≡ true) where
       own_ranking_holds s.candidates s.ballots r.k_least r.k_most r.n_least r.n_most in
       record {
         takes = subst (λ (gs : List Gate). tested (ballot_bytes s) s.candidates (numbers_of gs)
-            ≡ Accepted (length gs) (conditional_count gs)) (sym (own_ranked s e))
-            (subst (λ (i : ℕ). tested i s.candidates (numbers_of gs) ≡ Accepted (length gs) (conditional_count gs))
+            ≡ gate_test.accepted (length gs) (conditional_count gs)) (sym (own_ranked s e))
+            (subst (λ (i : ℕ). tested i s.candidates (numbers_of gs) ≡ gate_test.accepted (length gs) (conditional_count gs))
             (sym (ranked_bytes s e)) h.passes);
         bounded = subst (λ (gs : List Gate). length gs ≤ gate_bound s) (sym (own_ranked s e))
             (subst (λ (n : ℕ). length gs ≤ n) (sym (bound_ranked s e)) h.bounded);

@@ -1,10 +1,13 @@
 -- The reasons of a run: which of them is the first, and what holds if none applies.
 -- Assumes nothing.
+use Rattle.std.specs.Prelude.{Some, None}
+use Rattle.std.specs.Prelude as prelude
 use mathlib.Core.Path.{◌≡◌, ◌∙◌, refl, sym, ap}
 use mathlib.Core.Bool.{Bool, true, false}
 use mathlib.Core.Option.{Option, none, some}
 use mathlib.Core.List.{List, [], ◌∷◌, ◌++◌}
 use Prim.Native.Nat.{ℕ, ◌+◌}
+use native.Mathlib.Nat.{add-zero}
 use native.Mathlib.Omega.{arith}
 use lib.Dec.{eqb}
 use lib.ListN.{length}
@@ -12,8 +15,6 @@ use borrow.Author.Tests.{eqb-true, eq-eqb}
 use Rattle.gates.specs.Gate.{gates_of}
 use Rattle.gates.specs.Board.{conditional_count, MaskTape}
 use Rattle.gates.specs.Test.{first_above_one}
-use Rattle.gates.specs.declared.place.Place.{Place}
-use Rattle.gates.specs.declared.place.Place.TheVariants.{At, Nowhere}
 use Rattle.gates.proofs.Hiding.{all_bits, none_above}
 use Rattle.jury.specs.declared.shape.Shape.{Shape}
 use Rattle.jury.specs.Shape.{ballot_bytes}
@@ -30,19 +31,23 @@ use Rattle.tally.specs.Run.{RunResult, buffer_reasons, run_reasons, run_result_a
 use Rattle.tally.proofs.TestReasons.{or_else, first_append, TestPassed, test_passed}
 
 -- what the tests 7 to 10 answer, from their outcomes
-unfoldable pub lent_found : Bool → Place → Bool → Bool → Option Reason
+unfoldable pub lent_found : Bool → prelude.Option ℕ → Bool → Bool → Option Reason
 lent_found tape byte wires board = first_of (unless tape 7 ∷ found_at 8 byte ∷ unless wires 9 ∷ unless board 10 ∷ [])
 
-pub passed_by : (t : Bool) (p : Place) (u v : Bool) → lent_found t p u v ≡ none → (t ≡ true) × (p ≡ Nowhere) × (u ≡ true) × (v ≡ true)
+pub passed_by : (t : Bool) (p : prelude.Option ℕ) (u v : Bool) → lent_found t p u v ≡ none → (t ≡ true) × (p ≡ None) × (u ≡ true) × (v ≡ true)
 unfolding lent_found unless found_at first_of
 passed_by false p u v e = let z : ◌≡◌ {A = ℕ} 0 1 = cc in absurd (omega arith)
-passed_by true (At j) u v e = let z : ◌≡◌ {A = ℕ} 0 1 = cc in absurd (omega arith)
-passed_by true Nowhere false v e = let z : ◌≡◌ {A = ℕ} 0 1 = cc in absurd (omega arith)
-passed_by true Nowhere true false e = let z : ◌≡◌ {A = ℕ} 0 1 = cc in absurd (omega arith)
-passed_by true Nowhere true true e = (refl, refl, refl, refl)
+passed_by true (Some j) u v e = let z : ◌≡◌ {A = ℕ} 0 1 = cc in absurd (omega arith)
+passed_by true None false v e = let z : ◌≡◌ {A = ℕ} 0 1 = cc in absurd (omega arith)
+passed_by true None true false e = let z : ◌≡◌ {A = ℕ} 0 1 = cc in absurd (omega arith)
+passed_by true None true true e = (refl, refl, refl, refl)
+
+-- the test of a tape's length asks for its masks and nothing after them
+pub tape_test : (n m : ℕ) (b t : Bool) → b ≡ eqb n (m + 0) → b ≡ t → eqb n m ≡ t
+tape_test n m b t e f = ap (eqb n) (sym (add-zero m)) ∙ sym e ∙ f
 
 module _ (i k : ℕ) (size : Size) (tape wires board : List ℕ) where
-  pub lent_by : (t : Bool) (p : Place) (u v : Bool) → eqb (length tape) size.conditional ≡ t → first_above_one 0 tape ≡ p
+  pub lent_by : (t : Bool) (p : prelude.Option ℕ) (u v : Bool) → eqb (length tape) size.conditional ≡ t → first_above_one 0 tape ≡ p
       → eqb (length wires) (i + size.gates) ≡ u → eqb (length board) (size.conditional + k) ≡ v
       → first_of (buffer_reasons i k size tape wires board) ≡ lent_found t p u v
   unfolding buffer_reasons lent_found
@@ -51,7 +56,7 @@ module _ (i k : ℕ) (size : Size) (tape wires board : List ℕ) where
   -- what holds if none of them applies
   pub record LentPassed : Type 0 where
     pub tape_length : length tape ≡ size.conditional
-    pub tape_bits : first_above_one 0 tape ≡ Nowhere
+    pub tape_bits : first_above_one 0 tape ≡ None
     pub wires_length : length wires ≡ i + size.gates
     pub board_length : length board ≡ size.conditional + k
 
@@ -71,7 +76,7 @@ module _ (i k : ℕ) (size : Size) (tape wires board : List ℕ) where
   pub lent_passed_back : LentPassed → first_of (buffer_reasons i k size tape wires board) ≡ none
   unfolding lent_found unless found_at first_of
   lent_passed_back l =
-      lent_by true Nowhere true true (eq-eqb (length tape) size.conditional l.tape_length) l.tape_bits
+      lent_by true None true true (eq-eqb (length tape) size.conditional l.tape_length) l.tape_bits
       (eq-eqb (length wires) (i + size.gates) l.wires_length) (eq-eqb (length board) (size.conditional + k) l.board_length)
 
 -- the first reason of three groups of tests

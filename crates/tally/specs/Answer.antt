@@ -1,12 +1,12 @@
 -- What the entry points answer: a reason with its place [order], or the values of [accepted] and [measure].
 use Rattle.std.proofs.Math.Option.{Option, none, some}
-use Rattle.std.specs.Prelude.{Bool, List, ◌++◌, ℕ, length, drop}
+use Rattle.std.specs.Prelude.{Bool, List, ◌++◌, ℕ, length, drop, Result, Ok, Err}
 use Rattle.basics.specs.Lists.{member}
 use Rattle.gates.specs.Gate.{Gate}
 use Rattle.gates.specs.Board.{conditional_count}
+use Rattle.gates.specs.declared.list.ListSize.{ListSize}
 use Rattle.jury.specs.Reason.{Reason, reason_of}
-use Rattle.tally.specs.declared.answer.Answer.{Answer}
-use Rattle.tally.specs.declared.answer.Answer.TheVariants.{Accepted, Refused}
+use Rattle.jury.specs.declared.reason.Refusal.{Refusal}
 
 -- A call is refused for a reason, or accepted with its values.
 pub data Outcome (Values : Type 0) : Type 0 where
@@ -41,7 +41,11 @@ pub record Size : Type 0 where
 unfoldable pub size_of : List Gate → Size
 size_of gs = record { gates = length gs; conditional = conditional_count gs }
 
--- What each case of the program's enum means.
-unfoldable pub outcome_of : Answer → Outcome Size
-outcome_of (Accepted gates conditional) = accepted (record { gates = gates; conditional = conditional })
-outcome_of (Refused r) = refused (reason_of r)
+-- G and C as the program holds them.
+abbrev pub size_in : ListSize → Size
+size_in s = record { gates = s.gates; conditional = s.conditional }
+
+-- What each case of the program's answer means.
+unfoldable pub outcome_of : Result ListSize Refusal → Outcome Size
+outcome_of (Ok s) = accepted (size_in s)
+outcome_of (Err r) = refused (reason_of r)

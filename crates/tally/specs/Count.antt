@@ -1,9 +1,10 @@
 -- The entry point [count].
-use Rattle.std.specs.Prelude.{◌≡◌, List, [], ◌∷◌, ℕ}
+use Rattle.std.specs.Prelude.{◌≡◌, List, [], ◌∷◌, ℕ, Result, Ok, Err}
 use Rattle.std.proofs.Math.Option.{Option, none, some}
 use Rattle.jury.specs.declared.shape.Shape.{Shape}
 use Rattle.jury.specs.Shape.{within_limits}
-use Rattle.jury.specs.Reason.{Reason, unless, first_of}
+use Rattle.jury.specs.declared.reason.Refusal.{Refusal}
+use Rattle.jury.specs.Reason.{Reason, reason_of, unless, first_of}
 use Rattle.jury.specs.Ballots.{ballot_reasons, ballot_reason_numbers}
 use Rattle.jury.specs.ClosingBytes.{eight_bytes}
 use Rattle.tally.specs.Answer.{Outcome, outcome}
@@ -28,6 +29,15 @@ closing_after (some r) bytes = eight_bytes []
 -- The eight bytes that a count answers.
 unfoldable pub plain_closing : Shape → List ℕ → List ℕ
 plain_closing s xs = closing_after (count_reason s xs) (closing_for s xs)
+
+-- The program's answer as a reason and eight bytes. A refusal has no bytes of its own: they are eight zeros.
+unfoldable pub count_refused : Result (List ℕ) Refusal → Option Reason
+count_refused (Ok bytes) = none
+count_refused (Err r) = some (reason_of r)
+
+unfoldable pub count_bytes : Result (List ℕ) Refusal → List ℕ
+count_bytes (Ok bytes) = bytes
+count_bytes (Err r) = eight_bytes []
 
 -- What the entry point promises: `reason` and `bytes` are its answer.
 pub record Counts (s : Shape) (xs : List ℕ) (reason : Option Reason) (bytes : List ℕ) : Type 0 where

@@ -1,9 +1,6 @@
 // What write, test and run answer.
+use gates::list::ListSize;
 use jury::reason::Refusal;
 
 // The list's own G and C, or the first reason that applies.
-#[derive(Drop)]
-pub enum Answer {
-    Accepted { gates: usize, conditional: usize },
-    Refused(Refusal),
-}
+pub type Answer = Result<ListSize, Refusal>;

@@ -1,44 +1,23 @@
 // The entry point [count].
 ghost use Rattle.std.specs.Prelude.{◌≡◌};
-ghost use Rattle.jury.specs.Reason.{refused_for};
 ghost use Rattle.jury.specs.Accepted.{AcceptedBallots};
 ghost use Rattle.jury.specs.ClosingBytes.{eight_bytes};
 ghost use Rattle.tally.specs.Rule.{closing_for};
-ghost use Rattle.tally.specs.Count.{Counts};
+ghost use Rattle.tally.specs.Count.{Counts, count_refused, count_bytes};
 
-use jury::reason::{Refusal, Verdict};
+use jury::reason::Refusal;
 use jury::shape::{ClosingBytes, Shape};
 
-// The verdict of a count, and its closing bytes: 0 after the first k, and all eight 0 on a refusal.
-#[derive(Drop)]
-pub struct Counted {
-    pub verdict: Verdict,
-    pub closing: ClosingBytes,
-}
-
-// Counts the ballots of a jury. The shape may have any numbers: they are tested.
-pub fn count(shape: Shape, ballots: &[u8]) -> Counted
-    ensures { Counts shape ballots.now (refused_for result.verdict) result.closing }
+// Counts the ballots of a jury, and answers its closing bytes: 0 after the first k. The shape may have any numbers:
+// they are tested.
+pub fn count(shape: Shape, ballots: &[u8]) -> Result<ClosingBytes, Refusal>
+    ensures { Counts shape ballots.now (count_refused result) (count_bytes result) }
 {
     if !shape.is_within_limits() {
-        return Counted {
-            verdict: Verdict::Refused(Refusal::Shape),
-            closing: [0u8; Shape::MOST_CANDIDATES],
-        };
+        return Err(Refusal::Shape);
     }
-    match jury::ballots::test(shape, ballots) {
-        Verdict::Refused(reason) => Counted {
-            verdict: Verdict::Refused(reason),
-            closing: [0u8; Shape::MOST_CANDIDATES],
-        },
-        Verdict::Accepted => {
-            let closing = closing_bytes(shape, ballots);
-            Counted {
-                verdict: Verdict::Accepted,
-                closing,
-            }
-        }
-    }
+    jury::ballots::test(shape, ballots)?;
+    Ok(closing_bytes(shape, ballots))
 }
 
 // The closing bytes of accepted ballots, by the rule of the shape's kind.

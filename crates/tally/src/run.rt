@@ -1,41 +1,39 @@
 // The entry point [run].
 ghost use Rattle.std.specs.Prelude.{◌≡◌};
 ghost use Rattle.jury.specs.Reason.{refused_for, first_of};
-ghost use Rattle.tally.specs.Answer.{outcome_of};
+ghost use Rattle.tally.specs.Answer.{outcome_of, size_in};
 ghost use Rattle.tally.specs.Run.{buffer_reasons, run_outcome, run_result};
 
 use crate::answer::Answer;
-use gates::place::Place;
-use jury::reason::{Refusal, Verdict};
+use gates::list::ListSize;
+use jury::reason::Refusal;
 use jury::shape::Shape;
 
-// Tests for reasons 7 to 10, given the list's numbers of inputs, outputs, gates and conditional gates.
+// Tests for reasons 7 to 10, given the list's numbers of inputs and outputs, and its size.
 pub fn test_buffers(
     inputs: usize,
     outputs: usize,
-    gates: usize,
-    conditional: usize,
+    size: ListSize,
     tape: &[u8],
     wires: &[u8],
     board: &[u8],
-) -> Verdict
+) -> Result<(), Refusal>
     ensures { refused_for result
-        ≡ first_of (buffer_reasons inputs outputs (record { gates = gates; conditional = conditional })
-        tape.now wires.now board.now) }
+        ≡ first_of (buffer_reasons inputs outputs (size_in size) tape.now wires.now board.now) }
 {
-    if !gates::lengths::has_length(tape, conditional, 0) {
-        return Verdict::Refused(Refusal::TapeLength);
+    if !gates::lengths::has_length(tape, size.conditional, 0) {
+        return Err(Refusal::TapeLength);
     }
-    if let Place::At(i) = gates::place::first_above_one(tape) {
-        return Verdict::Refused(Refusal::TapeByte(i));
+    if let Some(i) = gates::place::first_above_one(tape) {
+        return Err(Refusal::TapeByte(i));
     }
-    if !gates::lengths::has_length(wires, inputs, gates) {
-        return Verdict::Refused(Refusal::WiresLength);
+    if !gates::lengths::has_length(wires, inputs, size.gates) {
+        return Err(Refusal::WiresLength);
     }
-    if !gates::lengths::has_length(board, conditional, outputs) {
-        return Verdict::Refused(Refusal::BoardLength);
+    if !gates::lengths::has_length(board, size.conditional, outputs) {
+        return Err(Refusal::BoardLength);
     }
-    Verdict::Accepted
+    Ok(())
 }
 
 // All tests of a run: reasons 1 to 10, with 11 and 12 in place of 6 for rankings.
@@ -50,26 +48,17 @@ fn test_run(
     ensures { outcome_of result ≡ run_outcome shape table.now ballots.now tape.now
         wires.now board.now }
 {
-    let answer = crate::test::test(shape, table);
-    let Answer::Accepted { gates, conditional } = answer else {
-        return answer;
-    };
-    if let Verdict::Refused(reason) = jury::ballots::test(shape, ballots) {
-        return Answer::Refused(reason);
-    }
-    let inputs = shape.ballot_bytes();
-    match test_buffers(
-        inputs,
+    let size = crate::test::test(shape, table)?;
+    jury::ballots::test(shape, ballots)?;
+    test_buffers(
+        shape.ballot_bytes(),
         shape.candidates,
-        gates,
-        conditional,
+        size,
         tape,
         wires,
         board,
-    ) {
-        Verdict::Refused(reason) => Answer::Refused(reason),
-        Verdict::Accepted => answer,
-    }
+    )?;
+    Ok(size)
 }
 
 // Runs a list, whoever wrote it, on the ballots of a jury, with one mask for each conditional gate. Meanwhile the
@@ -86,14 +75,8 @@ pub fn run(
         ≡ run_result shape table.now ballots.now tape.now wires.old
         board.old }
 {
-    let answer = test_run(shape, table, ballots, tape, wires, board);
-    if let Answer::Accepted {
-        gates: _,
-        conditional: _,
-    } = answer
-    {
-        gates::step::run(ballots, table, shape.candidates, tape, wires, board);
-        basics::table::empty(wires);
-    }
-    answer
+    let size = test_run(shape, table, ballots, tape, wires, board)?;
+    gates::step::run(ballots, table, shape.candidates, tape, wires, board);
+    wires.fill(0);
+    Ok(size)
 }

@@ -1,13 +1,9 @@
--- `tally::write::write` meets its contract: the writer of the shape's kind writes the own list if the table has room
--- for it.
--- Assumes nothing.
+-- The writer of the shape's kind writes the own list if the table has room for it.
 use mathlib.Core.Path.{◌≡◌, ◌∙◌, sym, ap}
-use mathlib.Core.Bool.{true}
 use Prim.Native.Nat.{ℕ, ◌+◌, ◌*◌, ◌≤◌}
 use native.Mathlib.Omega.{arith}
 use lib.Dec.{T}
 use lib.ListN.{length}
-use borrow.Author.Rules.{rules}
 use borrow.Author.Tests.{le-leb, lt-leb}
 use Rattle.gates.specs.Board.{conditional_count}
 use Rattle.jury.specs.declared.shape.Shape.{Shape}
@@ -19,8 +15,8 @@ use Rattle.tally.specs.Answer.{accepted, outcome_of, size_of}
 use Rattle.tally.specs.Write.{OwnListHolds}
 use Rattle.tally.proofs.OwnList.{own_list_holds}
 use Rattle.tally.proofs.Writing.{write_refused, outside, too_short, fits, write_accepted, stored}
-use Rattle.tally.proofs.write.write.Statement.{statement}
-use Rattle.tally.proofs.write.write.Tie as tie
+use Rattle.tally.proofs.write.write.Goals as goal
+use Rattle.tally.proofs.write.write.Goals.{Else-table-gates}
 
 holds : (s : Shape) → T (within_limits s) → OwnListHolds s
 holds s t = own_list_holds s (T_true (within_limits s) t)
@@ -35,70 +31,45 @@ sized s gates conditional e f =
     ap (λ (n : ℕ). accepted (record { gates = n; conditional = conditional })) g
     ∙ ap (λ (n : ℕ). accepted (record { gates = length (own_list s); conditional = n })) c
 
-is_within_limits_requires : tie.Need-is_within_limits-requires
-is_within_limits_requires c κs = search rules
-
-returns : tie.Need-returns-then-not-is_within_limits
+pub returns-then-not-is_within_limits : goal.returns-then-not-is_within_limits
 unfolding outcome_of reason_of
-returns c =
-    let a = c.args in
+returns-then-not-is_within_limits c = let a = c.args in
     let r = write_refused a.shape a.table.now (reason_at 1 0)
     (outside a.shape a.table.now
     (sym c.is_within_limits.ensures ∙ c.if-not-is_within_limits.true)) in
     record { answers = sym r.0; leaves = sym r.1; own_list = holds a.shape }
 
--- the shape is within its limits
-limits : (c : tie.Else-not-is_within_limits) → within_limits c.args.shape ≡ true
-limits c = sym c.is_within_limits.ensures ∙ c.if-not-is_within_limits.false
+pub gates-requires : goal.gates-requires
+gates-requires c = true_T (within_limits c.args.shape) (sym c.is_within_limits.ensures ∙ c.if-not-is_within_limits.false)
 
-gates_requires : tie.Need-gates-requires
-gates_requires c κs = true_T (within_limits c.args.shape) (limits c)
-
-returns_2 : tie.Need-returns-then-table-gates
+pub returns-then-table-gates : goal.returns-then-table-gates
 unfolding outcome_of reason_of
-returns_2 c =
-    let measured = c in
-    let within = measured in
-    let a = within.args in
+returns-then-table-gates c = let a = c.args in
     let short = lt-leb (4 * length (own_list a.shape)) (length a.table.now)
-    (omega (arith, c.if-table-gates.true, measured.gates.ensures)) in
-    let r = write_refused a.shape a.table.now (reason_at 2 0) (too_short a.shape a.table.now (limits within.before.before) short) in
+    (omega (arith, c.if-table-gates.true, c.gates.ensures)) in
+    let r = write_refused a.shape a.table.now (reason_at 2 0)
+    (too_short a.shape a.table.now (sym c.is_within_limits.ensures ∙ c.if-not-is_within_limits.false) short) in
     record { answers = sym r.0; leaves = sym r.1; own_list = holds a.shape }
 
 -- the table has room
-room : (c : tie.Else-table-gates) → let a = c.args in 4 * length (own_list a.shape) ≤ length a.table.now
+room : (c : Else-table-gates) → let a = c.args in 4 * length (own_list a.shape) ≤ length a.table.now
 room c =
-    let measured = c in
-    let a = measured.args in
-    omega (arith, c.if-table-gates.false, measured.gates.ensures)
+    let a = c.args in
+    omega (arith, c.if-table-gates.false, c.gates.ensures)
 
-own_list_requires : tie.Need-own_list-end-requires
-own_list_requires c κs =
-    let within = c in
-    true_T (within_limits within.args.shape) (limits within.before.before.before)
+pub own_list-end-requires : goal.own_list-end-requires
+own_list-end-requires c = true_T (within_limits c.args.shape) (sym c.is_within_limits.ensures ∙ c.if-not-is_within_limits.false)
 
-same_length : tie.Need-shape_of-table
-same_length c = search rules
-
-returns_3 : tie.Need-returns
+pub returns : goal.returns
 unfolding outcome_of
-returns_3 c =
-    let done = c in
-    let test = done in
-    let within = test in
-    let a = within.args in
-    let h = room test.before.before.before.before in
+returns c = let a = c.args in
+    let h = room (goal.at.returns c).Else-table-gates in
     let r = write_accepted a.shape a.table.now
-    (fits a.shape a.table.now (limits within.before.before.before.before.before.before)
+    (fits a.shape a.table.now (sym c.is_within_limits.ensures ∙ c.if-not-is_within_limits.false)
     (le-leb (4 * length (own_list a.shape)) (length a.table.now) h)) in
-    let w = done.own_list-end in
+    let w = c.own_list-end in
     record {
       answers = sized a.shape w.result.gate w.result.conditional w.ensures.gates w.ensures.conditionals ∙ sym r.0;
       leaves = w.ensures.numbers (omega (arith, h)) ∙ stored a.shape a.table.now h ∙ sym r.1;
       own_list = holds a.shape;
     }
-
-pub write_spec : {M : Type 1} → statement M
-write_spec =
-    tie.close
-    (tie.spec is_within_limits_requires returns gates_requires returns_2 own_list_requires same_length returns_3)

@@ -1,11 +1,9 @@
--- `tally::measure::measure` meets its contract: it measures the own list of a shape within its limits.
--- Assumes nothing.
+-- It measures the own list of a shape within its limits.
 use mathlib.Core.Path.{◌≡◌, ◌∙◌, sym, ap}
 use mathlib.Core.Bool.{Bool, true, false}
 use mathlib.Core.List.{[], ◌∷◌}
 use Prim.Native.Nat.{ℕ}
 use lib.ListN.{length}
-use borrow.Author.Rules.{rules}
 use Rattle.gates.specs.Board.{conditional_count}
 use Rattle.jury.specs.declared.shape.Shape.{Shape}
 use Rattle.jury.specs.Shape.{within_limits, ballot_bytes}
@@ -14,8 +12,7 @@ use Rattle.basics.proofs.Flags.{true_T}
 use Rattle.tally.specs.OwnList.{own_list}
 use Rattle.tally.specs.Answer.{refused, accepted, outcome}
 use Rattle.tally.specs.Measure.{measure_reasons, Measures, measures_of, measure_outcome, measured_by}
-use Rattle.tally.proofs.measure.measure.Statement.{statement}
-use Rattle.tally.proofs.measure.measure.Tie as tie
+use Rattle.tally.proofs.measure.measure.Goals as goal
 
 outside : (s : Shape) → within_limits s ≡ false → measure_outcome s ≡ refused (reason_at 1 0)
 unfolding measure_outcome measure_reasons outcome unless first_of
@@ -32,33 +29,20 @@ measured : (s : Shape) (gates conditional inputs : ℕ) → gates ≡ length (ow
 unfolding measures_of
 measured s gates conditional inputs g c i = rw (g, c, i)
 
-is_within_limits_requires : tie.Need-is_within_limits-requires
-is_within_limits_requires c κs = search rules
-
-returns : tie.Need-returns-then-not-is_within_limits
+pub returns-then-not-is_within_limits : goal.returns-then-not-is_within_limits
 unfolding measured_by reason_of
-returns c = sym (outside c.args.shape
+returns-then-not-is_within_limits c = sym (outside c.args.shape
     (sym c.is_within_limits.ensures ∙ c.if-not-is_within_limits.true))
 
--- the shape is within its limits
-limits : (c : tie.Else-not-is_within_limits) → within_limits c.args.shape ≡ true
-limits c = sym c.is_within_limits.ensures ∙ c.if-not-is_within_limits.false
+pub measure-end-requires : goal.measure-end-requires
+measure-end-requires c = true_T (within_limits c.args.shape) (sym c.is_within_limits.ensures ∙ c.if-not-is_within_limits.false)
 
-measure_requires : tie.Need-measure-end-requires
-measure_requires c κs = true_T (within_limits c.args.shape) (limits c)
+pub ballot_bytes-requires : goal.ballot_bytes-requires
+ballot_bytes-requires c = true_T (within_limits c.args.shape) (sym c.is_within_limits.ensures ∙ c.if-not-is_within_limits.false)
 
-ballot_bytes_requires : tie.Need-ballot_bytes-requires
-ballot_bytes_requires c κs = true_T (within_limits c.args.shape) (limits c.before)
-
-returns_2 : tie.Need-returns
+pub returns : goal.returns
 unfolding measured_by
-returns_2 c =
-    let s = c.args.shape in
+returns c = let s = c.args.shape in
     ap accepted (measured s c.measure-end.result.gate c.measure-end.result.conditional
     c.ballot_bytes.result c.measure-end.ensures.gates c.measure-end.ensures.conditionals
-    c.ballot_bytes.ensures) ∙ sym (inside s (limits c.before.before))
-
-pub measure_spec : {M : Type 1} → statement M
-measure_spec =
-    tie.close
-    (tie.spec is_within_limits_requires returns measure_requires ballot_bytes_requires returns_2)
+    c.ballot_bytes.ensures) ∙ sym (inside s (sym c.is_within_limits.ensures ∙ c.if-not-is_within_limits.false))
