@@ -3,8 +3,7 @@ use Rattle.std.specs.Prelude.{◌≡◌, List, ℕ, ◌+◌, ◌-◌, ◌*◌, �
 use Rattle.gates.specs.Gate.{Gate, numbers_of}
 use Rattle.gates.specs.Board.{conditional_count}
 use Rattle.gates.specs.Wires.{wires_of, outputs_of}
-use Rattle.gates.specs.Test.{tested}
-use Rattle.gates.specs.declared.list.ListCheck.TheVariants.{Accepted}
+use Rattle.gates.specs.Test.{tested, accepted}
 use Rattle.jury.specs.Width.{width_of}
 use Rattle.rule_schulze.specs.Schulze.{schulze_of}
 use Rattle.rule_schulze.specs.Votes.{votes}
@@ -22,7 +21,7 @@ ranking_bound k n w = 2 * k * k * n * w + k * k * k * (12 * w + 4) + k * k * (20
 pub record OwnRankingHolds (k n : ℕ) : Type 0 where
   -- the test accepts the list, for as many inputs as ballot bytes and k outputs, and answers its G and C
   pub passes : tested (n * k * k) k (numbers_of (own_ranking k n))
-      ≡ Accepted (length (own_ranking k n)) (conditional_count (own_ranking k n))
+      ≡ accepted (length (own_ranking k n)) (conditional_count (own_ranking k n))
   -- G is within the bound
   pub bounded : length (own_ranking k n) ≤ ranking_bound k n (width_of n)
   -- for any ballots that are bits, the closing bytes are those of Schulze's rule
