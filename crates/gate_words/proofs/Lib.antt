@@ -4,6 +4,7 @@ pub mod Going
 pub mod Places
 pub mod ChoiceSteps
 pub mod WordSteps
+pub mod RowSteps
 pub mod CounterSteps
 pub mod Numbers
 pub mod GateValues

@@ -2,8 +2,8 @@
 -- that they are well-formed.
 -- Assumes nothing.
 use mathlib.Core.Path.{◌≡◌, ◌∙◌, refl, sym, ap, subst}
-use mathlib.Core.List.{[], ◌∷◌, ◌++◌}
-use Prim.Native.Nat.{ℕ, zero, suc, ◌+◌, ◌-◌, ◌*◌, ◌/◌, ◌%◌, ◌^◌, ◌≤◌, ◌<◌}
+use mathlib.Core.List.{[]}
+use Prim.Native.Nat.{ℕ, zero, suc, ◌+◌, ◌-◌, ◌*◌, ◌/◌, ◌%◌, ◌^◌, ◌<◌}
 use native.Mathlib.Nat.{add-zero, zero-mul, suc-mul, pow-succ'}
 use native.Mathlib.Omega.{arith}
 use lib.ListN.{length}
@@ -16,7 +16,6 @@ use Rattle.gate_words.proofs.Numbers.{Binary, number_none, number_more, ones_non
 use Rattle.gate_words.proofs.GateValues.{holds_first, holds_rest, copy_is, not_is, xor_is}
 use Rattle.gate_words.proofs.CounterSteps.{length_level}
 use Rattle.gate_words.proofs.CounterLaws.{level_law}
-use Rattle.gate_words.proofs.ChoiceSteps.{left_one}
 use Rattle.gate_words.proofs.Places.{below_more}
 use Rattle.gate_words.proofs.PointsBack.{good_xor}
 
@@ -24,16 +23,6 @@ pub length_rows : (x dx y dy m : ℕ) → length (xor_rows x dx y dy m) ≡ m
 unfolding xor_rows
 length_rows x dx y dy zero = refl
 length_rows x dx y dy (suc m) = ap suc (length_rows (x + dx) dx (y + dy) dy m)
-
--- the first sum, and the others
-pub rows_step : (x dx y dy i m : ℕ) → i < m → xor_rows x dx y dy (m - i) ≡ (xor_of x y ∷ [])
-    ++ xor_rows (x + dx) dx (y + dy) dy (m - (i + 1))
-unfolding xor_rows
-rows_step x dx y dy i m h = rw (left_one i m h)
-
-pub rows_none : (x dx y dy i m : ℕ) → m ≤ i → xor_rows x dx y dy (m - i) ≡ []
-unfolding xor_rows
-rows_none x dx y dy i m h = let e : m - i ≡ 0 = omega arith in rw e
 
 pub rows_good : (n x dx y dy m : ℕ) → Below n x dx m → Below n y dy m → AllGood n (xor_rows x dx y dy m)
 unfolding xor_rows

@@ -23,15 +23,6 @@ pub compare_none : (n x y up down i w : ℕ) → w ≤ i → compare_words n x y
 unfolding compare_words
 compare_none n x y up down i w h = let e : w - i ≡ 0 = omega arith in rw e
 
-pub differences_step : (x y i w : ℕ) → i < w → differences (x + i) (y + i) (w - i) ≡ (xor_of (x + i) (y + i) ∷ [])
-    ++ differences (x + (i + 1)) (y + (i + 1)) (w - (i + 1))
-unfolding differences
-differences_step x y i w h = rw (left_one i w h, next_place x i, next_place y i)
-
-pub differences_none : (x y i w : ℕ) → w ≤ i → differences x y (w - i) ≡ []
-unfolding differences
-differences_none x y i w h = let e : w - i ≡ 0 = omega arith in rw e
-
 pub above_step : (n f x s i w : ℕ) → i < w → above n (f + i) (x + i) s (w - i) ≡ (mux_of (f + i) (x + i) s ∷ [])
     ++ above (n + 1) (f + (i + 1)) (x + (i + 1)) n (w - (i + 1))
 unfolding above

@@ -61,11 +61,7 @@ impl Writer {
         requires { WordsReady self digits x y digits }
         ensures { Wrote self table.old (differences x y digits) table.new result }
     {
-        let mut w = self;
-        for i in 0..digits {
-            w = w.emit(table, kind::XOR, x + i, y + i, 0);
-        }
-        w
+        self.rows(table, kind::XOR, x, 1, y, 1, digits)
     }
 
     // Whether the word at x is above another. The wires from `differ` on say in which digits the two differ, and

@@ -31,6 +31,11 @@ pub record RowsReady (w : Writer) (x dx y dy count : ℕ) : Type 0 where
   pub second_below : Below w.wire y dy count
   pub second_near : dy < writer_limit
 
+-- The same, and the kind has two operands.
+pub record KindReady (w : Writer) (kind x dx y dy count : ℕ) : Type 0 where
+  pub rows : RowsReady w x dx y dy count
+  pub two : operands_of kind ≡ 2
+
 -- The operands are `count` wires, a stride apart, and the kind has two operands.
 pub record ChainReady (w : Writer) (kind first stride count : ℕ) : Type 0 where
   pub room : Room w count

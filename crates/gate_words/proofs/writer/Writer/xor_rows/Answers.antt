@@ -1,58 +1,14 @@
--- `gate_words::writer::Writer::xor_rows` meets its contract: after each gate, writing the sums left completes the
--- rows.
+-- `gate_words::writer::Writer::xor_rows` meets its contract: it is `rows` at kind 6.
 -- Assumes nothing.
-use Prim.Native.Nat.{◌-◌}
-use native.Mathlib.Omega.{arith}
-use Rattle.gate_words.specs.Rows.{xor_rows}
-use Rattle.gate_words.proofs.Emitting.{xor_wrote}
-use Rattle.gate_words.proofs.Going.{goes_as, goes_on, goes_room, goes_end}
-use Rattle.gate_words.proofs.Places.{below_first, below_next}
-use Rattle.gate_words.proofs.RowLaws.{rows_step, rows_none, length_rows}
+use Rattle.gates.proofs.Laws.{operand_counts_lem}
+use Rattle.gate_words.proofs.Writing.{wrote_as}
+use Rattle.gate_words.proofs.RowSteps.{rows_xor}
 use Rattle.gate_words.proofs.writer.Writer.xor_rows.Goals as goal
 
-pub emit-w-requires : goal.emit-w-requires
-emit-w-requires c =
-    let a = c.args in
-    let l = c.loop in
-    goes_room a.self a.table.now (xor_rows a.x a.dx a.y a.dy a.count) l.w l.table
-    (xor_rows l.first a.dx l.second a.dy (a.count - l.counter)) 1 a.count l.invariant.0
-    (omega (arith, length_rows l.first a.dx l.second a.dy (a.count - l.counter)))
-    (omega (arith, length_rows a.x a.dx a.y a.dy a.count)) c.requires.room
-
-pub overflow_add-first : goal.overflow_add-first
-overflow_add-first c =
-    let l = c.loop in
-    omega (
-      arith,
-      below_first c.args.self.wire l.first c.args.dx (c.args.count - l.counter) (omega arith) l.invariant.1,
-    )
-
-pub overflow_add-second : goal.overflow_add-second
-overflow_add-second c =
-    let l = c.loop in
-    omega (
-      arith,
-      below_first c.args.self.wire l.second c.args.dy (c.args.count - l.counter) (omega arith) l.invariant.2,
-    )
-
-pub loop-preserved : goal.loop-preserved
-loop-preserved c =
-    let a = c.args in
-    let l = c.loop in
-    let e = c.emit-w in
-    let t = c.loop-test.true in
-    let whole = xor_rows a.x a.dx a.y a.dy a.count in (
-      goes_on a.self a.table.now whole l.w l.table _ _ e.new.table e.result
-          (goes_as a.self a.table.now whole l.w l.table _ _
-          (rows_step l.first a.dx l.second a.dy l.counter a.count t) l.invariant.0)
-          (xor_wrote l.w l.table e.new.table e.result l.first l.second 0 e.ensures),
-      below_next a.self.wire l.first a.dx l.counter a.count t l.invariant.1,
-      below_next a.self.wire l.second a.dy l.counter a.count t l.invariant.2,
-    )
+pub rows-requires : goal.rows-requires
+rows-requires c = record { rows = c.requires; two = operand_counts_lem.6 }
 
 pub returns : goal.returns
 returns c =
     let a = c.args in
-    let l = c.loop in
-    goes_end a.self a.table.now (xor_rows a.x a.dx a.y a.dy a.count) l.w l.table _
-    (rows_none l.first a.dx l.second a.dy l.counter a.count c.loop-test.false) l.invariant.0
+    wrote_as a.self a.table.now _ _ _ _ (rows_xor a.x a.dx a.y a.dy a.count) c.rows.ensures
