@@ -1,5 +1,6 @@
 // Evaluation over words. Nothing here is an entry point: the tests of list and buffers establish what a `requires`
-// asks. The same is asked of words as of bytes in the step over bytes.
+// asks. The same is asked of words as of bytes in the step over bytes, `gates::step`. It stays a function of its own:
+// over bytes one equation says what is left, over words an equation for each lane, and so is each proof.
 ghost use Rattle.std.specs.Prelude.{◌≡◌, ◌++◌, ◌-◌, length, take, drop};
 ghost use Rattle.gates.specs.inner.Step.{StepReady, RunReady};
 ghost use Rattle.batch_lanes.specs.Run.{RunDone};

@@ -12,7 +12,7 @@ use borrow.Author.Tests.{eq-eqb, ne_eqb, eqb-true}
 use Rattle.gates.specs.Gate.{gates_of}
 use Rattle.gates.specs.Board.{conditional_count}
 use Rattle.gates.specs.Test.{first_bad}
-use Rattle.gates.specs.declared.place.Place.TheVariants.{Nowhere}
+use Rattle.std.specs.Prelude.{None}
 use Rattle.gates.proofs.Evaluating.{accepted_list}
 use Rattle.gate_levels.specs.Levels.{levels_of, rounds_of}
 use Rattle.jury.specs.declared.shape.Shape.{Shape}
@@ -33,7 +33,7 @@ pub record ListFacts (s : Shape) (table : List ℕ) (gates conditional : ℕ) : 
   pub some_input : 1 ≤ ballot_bytes s
   pub enough : s.candidates ≤ length (gates_of table)
   pub few : length (gates_of table) ≤ 1048576
-  pub good : first_bad (ballot_bytes s) 0 (gates_of table) ≡ Nowhere
+  pub good : first_bad (ballot_bytes s) 0 (gates_of table) ≡ None
   pub gates_are : gates ≡ length (gates_of table)
   pub conditional_are : conditional ≡ conditional_count (gates_of table)
 

@@ -1,8 +1,9 @@
 // What the calls that use levels answer: `write` here, and the calls of a trustee on its own machine.
 ghost use Rattle.std.specs.Prelude.{◌≡◌};
 ghost use Rattle.levels.specs.Answer.{level_reason_of};
+ghost use Rattle.levels.specs.declared.answer.LevelRefusal.TheVariants.{OfCore};
 
-use jury::reason::Refusal;
+use jury::reason::{Numbered, Refusal};
 
 // Why such a call is refused. The numbers 200 to 202 are our own; those of the requests end at 24.
 #[derive(Clone, Copy)]
@@ -13,22 +14,30 @@ pub enum LevelRefusal {
     Heard,
 }
 
-// G, C and R of the list, or the first reason that applies.
-#[derive(Drop)]
-pub enum Answer {
-    Accepted {
-        gates: usize,
-        conditional: usize,
-        rounds: usize,
-    },
-    Refused(LevelRefusal),
+// G, C and R of the list.
+#[derive(Clone, Copy)]
+pub struct Depths {
+    pub gates: usize,
+    pub conditional: usize,
+    pub rounds: usize,
 }
 
-impl LevelRefusal {
-    // The number of a reason.
-    pub fn number(self) -> usize
-        ensures { result ≡ (level_reason_of self).number }
-    {
+// The list's numbers, or the first reason that applies.
+pub type Answer = Result<Depths, LevelRefusal>;
+
+impl From<Refusal> for LevelRefusal {
+    ghost from_gives = { λ reason refusal. refusal ≡ OfCore reason };
+
+    fn from(reason: Refusal) -> LevelRefusal {
+        LevelRefusal::OfCore(reason)
+    }
+}
+
+impl Numbered for LevelRefusal {
+    ghost told = { level_reason_of };
+
+    #[tactic(auto, unfolding(crate::specs::Answer::level_reason_of, jury::specs::Reason::reason_at))]
+    fn number(self) -> usize {
         match self {
             LevelRefusal::OfCore(reason) => reason.number(),
             LevelRefusal::Levels => 200,
@@ -37,15 +46,11 @@ impl LevelRefusal {
         }
     }
 
-    // The place of a reason, 0 if it has none.
-    pub fn place(self) -> usize
-        ensures { result ≡ (level_reason_of self).place }
-    {
+    #[tactic(auto, unfolding(crate::specs::Answer::level_reason_of, jury::specs::Reason::reason_at))]
+    fn place(self) -> usize {
         match self {
             LevelRefusal::OfCore(reason) => reason.place(),
-            LevelRefusal::Levels => 0,
-            LevelRefusal::Round => 0,
-            LevelRefusal::Heard => 0,
+            _ => 0,
         }
     }
 }

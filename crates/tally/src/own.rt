@@ -16,6 +16,7 @@ pub fn own_list(shape: Shape, table: &mut [u32]) -> Writer
         table.new result }
 {
     if shape.is_ranking() {
+        // Casts: the limits of a ranking make both numbers fit, and a `try_from` would ask for an error.
         ranked_writer::list::ranked_list(shape.candidates as u32, shape.ballots as u32, table)
     } else {
         graded_writer::list::own_list(shape, table)
