@@ -5,8 +5,14 @@ use mathlib.Core.Path.{◌≡◌, ◌∙◌, refl, sym, ap}
 use mathlib.Core.Bool.{Bool, true, false, cond, ◌&&◌, ◌||◌}
 use mathlib.Core.Logic.{◌⊎◌, inl, inr}
 use Prim.Native.Nat.{ℕ, ◌≤◌}
+use mir.Val.{bool_byte}
 use native.Mathlib.Omega.{arith}
 use lib.Dec.{T}
+
+-- a truth value as a bit, as `from` makes it
+pub bit_is : (t : Bool) → bool_byte t ≡ cond {A = ℕ} t 1 0
+bit_is true = refl
+bit_is false = refl
 
 -- the first test held, so the flag is the second test
 pub and_taken : (t u r : Bool) → t ≡ true → r ≡ u → r ≡ (t && u)

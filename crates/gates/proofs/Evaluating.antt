@@ -43,7 +43,15 @@ module _ (inputs k : ℕ) (table : List ℕ) (gates conditional : ℕ) where
       → AcceptedList inputs k table gates conditional
   unfolding judged gates_in conditional_in
   judged_accepted w n m (Some g) q e = let z : ◌≡◌ {A = ℕ} 0 1 = cc in absurd (omega arith)
-  judged_accepted w n m None q e = record { whole = w; enough = n; few = m; good = q; gates_are = sym (ap gates_in e); conditional_are = sym (ap conditional_in e) }
+  judged_accepted w n m None q e =
+      record {
+        whole = w;
+        enough = n;
+        few = m;
+        good = q;
+        gates_are = sym (ap gates_in e);
+        conditional_are = sym (ap conditional_in e);
+      }
 
   pub accepted_list : tested inputs k table ≡ accepted gates conditional → AcceptedList inputs k table gates conditional
   unfolding tested

@@ -38,11 +38,7 @@ pub fn operands(counts: &OperandCounts, kind: u32) -> u32
     requires { counts.now ≡ operand_counts }
     ensures { result ≡ operands_of kind }
 {
-    if kind < KINDS {
-        counts[kind as usize]
-    } else {
-        0
-    }
+    counts.get(kind as usize).copied().unwrap_or(0)
 }
 
 // Whether a kind is conditional: its gate then shows wire a under a mask.
@@ -50,11 +46,7 @@ pub fn conditional(marks: &ConditionalMarks, kind: u32) -> bool
     requires { marks.now ≡ conditional_marks }
     ensures { result ≡ conditional_of kind }
 {
-    if kind < KINDS {
-        marks[kind as usize]
-    } else {
-        false
-    }
+    marks.get(kind as usize).copied().unwrap_or(false)
 }
 
 // What a gate of a kind adds to C: 1 if the kind is conditional, else 0.

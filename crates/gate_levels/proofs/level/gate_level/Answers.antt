@@ -1,18 +1,14 @@
 -- `gate_levels::level::gate_level` meets its contract: the largest level of the operands, plus one for a conditional
 -- gate.
 -- Assumes nothing.
-use mathlib.Core.Path.{◌≡◌, ◌∙◌, refl, ap}
-use mathlib.Core.Bool.{Bool, true, false, cond}
+use mathlib.Core.Path.{◌≡◌, ◌∙◌, ap}
+use mathlib.Core.Bool.{Bool, true, false}
 use mir.Val.{bool_byte}
 use Prim.Native.Nat.{ℕ, ◌+◌, ◌≤◌, max}
 use native.Mathlib.Omega.{arith}
+use Rattle.basics.proofs.Flags.{bit_is}
 use Rattle.gate_levels.proofs.Filling.{level_by, small_level, operands_in}
 use Rattle.gate_levels.proofs.level.gate_level.Goals as goal
-
--- a mark as a number
-mark_is : (t : Bool) → bool_byte t ≡ cond t 1 0
-mark_is true = refl
-mark_is false = refl
 
 mark_most : (t : Bool) → bool_byte t ≤ 1
 mark_most true = omega arith
@@ -49,6 +45,6 @@ returns c = let a = c.args in
     let z = c.wire_level-c in
     let most : c.max-deepest.result ≡ max (max x.result y.result) z.result = c.max-deepest.ensures
     ∙ ap (λ (n : ℕ). max n z.result) c.max.ensures in
-    ap (λ (n : ℕ). c.max-deepest.result + n) (c.from.ensures ∙ mark_is c.conditional.result)
+    ap (λ (n : ℕ). c.max-deepest.result + n) (c.from.ensures ∙ bit_is c.conditional.result)
     ∙ level_by a.inputs a.table.now a.g a.levels.now c.requires.gate x.result y.result
     z.result x.ensures y.ensures z.ensures c.max-deepest.result c.conditional.result most c.conditional.ensures

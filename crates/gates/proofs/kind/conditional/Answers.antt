@@ -1,16 +1,17 @@
 -- `gates::kind::conditional` meets its contract: the lent marks are the definition's.
 -- Assumes nothing.
-use mathlib.Core.Bool.{Bool, false}
+use mathlib.Core.Path.{◌∙◌, ap}
 use mathlib.Core.List.{List}
-use mathlib.Core.Path.{sym, ap}
-use lib.ListN.{get_or, get_or-eq_default}
-use Rattle.gates.specs.Open.Kind.{conditional_marks, conditional_of}
+use mathlib.Core.Bool.{Bool, false}
+use native.Mathlib.Omega.{arith}
+use lib.ListN.{get_or}
+use Rattle.std.specs.Prelude.{Option}
+use Rattle.std.specs.Option.{unwrap_or}
+use Rattle.gates.specs.Open.Kind.{conditional_of}
 use Rattle.gates.proofs.kind.conditional.Goals as goal
 
-pub returns-then-kind-lt-KINDS : goal.returns-then-kind-lt-KINDS
+pub returns : goal.returns
 unfolding conditional_of
-returns-then-kind-lt-KINDS c = ap (λ (m : List Bool). get_or m c.args.kind false) c.requires
-
-pub returns-else-kind-lt-KINDS : goal.returns-else-kind-lt-KINDS
-unfolding conditional_of
-returns-else-kind-lt-KINDS c = sym (get_or-eq_default conditional_marks _ c.if-kind-lt-KINDS.false)
+returns c = let found = c.get.ensures.lookup in
+    c.unwrap_or.ensures ∙ ap (λ (o : Option Bool). unwrap_or o false) c.copied.ensures ∙ found.4 (omega arith) false
+    ∙ ap (λ (t : List Bool). get_or t c.args.kind false) c.requires

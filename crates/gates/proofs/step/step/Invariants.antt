@@ -10,5 +10,8 @@ use Rattle.gates.proofs.step.step.Given as goal
 
 abbrev pub invariant-loop-g : goal.invariant-loop-g
 invariant-loop-g l =
-    Left l.inputs l.table l.to l.tape (length l.initial.wires) (length l.initial.board) (l.shown + conditional_count (range_of l.table l.from l.to))
-    (step_wires l.inputs l.table l.from l.to l.initial.wires) (step_board l.inputs l.table l.from l.to l.tape l.shown l.initial.wires l.initial.board) l.wires l.board l.next l.g
+    let ws = l.initial.wires in
+    let bs = l.initial.board in
+    Left l.inputs l.table l.to l.tape (length ws) (length bs) (l.shown + conditional_count (range_of l.table l.from l.to))
+    (step_wires l.inputs l.table l.from l.to ws) (step_board l.inputs l.table l.from l.to l.tape l.shown ws bs)
+    l.wires l.board l.next l.g

@@ -1,14 +1,14 @@
 -- `rule_schulze::rule::winners` meets its contract: below i the closing bytes are the table's, and by the paths
 -- theorem the table is the rule's.
 -- Assumes nothing.
-use mathlib.Core.Path.{◌≡◌, ◌∙◌, refl, sym, ap}
-use mathlib.Core.Bool.{Bool, true, false, cond}
+use mathlib.Core.Path.{◌∙◌, sym, ap}
+use mathlib.Core.Bool.{Bool, cond}
 use mathlib.Core.List.{List}
-use mir.Val.{bool_byte}
 use Prim.Native.Nat.{ℕ}
 use native.Mathlib.Omega.{arith}
 use native.Mathlib.Numerals.{add-one}
 use lib.ListN.{set}
+use Rattle.basics.proofs.Flags.{bit_is}
 use Rattle.jury.specs.Shape.{most_candidates}
 use Rattle.basics.specs.Lists.{tabulate}
 use Rattle.jury.specs.ClosingBytes.{eight_bytes}
@@ -20,11 +20,6 @@ use Rattle.rule_schulze.proofs.Counting.{table_wins}
 use Rattle.rule_schulze.proofs.rule.winners.Invariants.{winner, filled}
 use Rattle.rule_schulze.proofs.rule.winners.Goals as goal
 
--- a win as a byte
-byte_is : (t : Bool) → bool_byte t ≡ cond t 1 0
-byte_is true = refl
-byte_is false = refl
-
 pub loop-i-init : goal.loop-i-init
 unfolding tabulate
 loop-i-init c = sym (fill_start most_candidates (winner c.strongest_paths-paths.result c.args.k) (λ j. 0))
@@ -35,7 +30,7 @@ loop-i-preserved c = let k = c.args.k in
     let i = c.loop-i.i in
     ap (λ (m : List ℕ). set m i c.from.result) c.loop-i.invariant
     ∙ ap (set (filled paths k i) i)
-    (c.from.ensures ∙ byte_is c.wins.result ∙ ap (λ (t : Bool). cond {A = ℕ} t 1 0) c.wins.ensures)
+    (c.from.ensures ∙ bit_is c.wins.result ∙ ap (λ (t : Bool). cond {A = ℕ} t 1 0) c.wins.ensures)
     ∙ fill_step most_candidates i (winner paths k) (λ j. 0) (omega arith)
     ∙ ap (filled paths k) (sym (add-one i))
 
