@@ -8,45 +8,38 @@ use mathlib.Core.List.{List, [], ◌∷◌}
 use Prim.Native.Nat.{ℕ, suc, ◌+◌, ◌-◌, ◌≤◌, ◌<◌}
 use native.Mathlib.Omega.{arith}
 use lib.Dec.{eqb}
-use lib.ListN.{length, get_or, take, drop, length-take}
-use lib.Seq.{drop-cons, get_or-take, get_or-drop}
+use lib.ListN.{length, take, drop, length-take, get_or-eq_default}
+use lib.Seq.{get_or-take, get_or-drop}
 use borrow.Author.Tests.{eq-eqb, ne_eqb}
 use Rattle.std.specs.Prelude.{Some, None}
 use Rattle.std.specs.Prelude as prelude
+use Rattle.gates.specs.Board.{Bits}
 use Rattle.gates.specs.Test.{first_above_one}
 use Rattle.jury.specs.declared.shape.Shape.{Shape}
 use Rattle.jury.specs.Shape.{is_ranking, ballot_bytes}
 use Rattle.jury.specs.Reason.{Reason, unless, found_at, first_of}
 use Rattle.jury.specs.Ballots.{ones, rows_of, first_bad_row, graded_reasons, ranked_reasons, ballot_kind_reasons, ballot_reasons}
+use Rattle.std.specs.List.{sum}
+use Rattle.std.proofs.lemmas.List.Sums.{sum_by_from}
+use Rattle.basics.proofs.Arithmetic.{bit_cases}
 use Rattle.basics.proofs.Cases.{below_or_not}
 
--- the ones from place i on: first byte i, then the rest
-ones_step : (xs : List ℕ) (i : ℕ) → i < length xs → ones (drop i xs)
-    ≡ cond (eqb (get_or xs i 0) 1) (suc (ones (drop (suc i) xs))) (ones (drop (suc i) xs))
+-- bits add up to the number of ones among them
+pub bits_sum : (xs : List ℕ) → Bits xs → sum xs ≡ ones xs
 unfolding ones
-ones_step xs i h = rw (drop-cons xs i 0)
-
-pub ones_here : (xs : List ℕ) (i : ℕ) → i < length xs → get_or xs i 0 ≡ 1 → ones (drop i xs) ≡ suc (ones (drop (suc i) xs))
-ones_here xs i h e = ones_step xs i h
-    ∙ ap (λ (t : Bool). cond t (suc (ones (drop (suc i) xs))) (ones (drop (suc i) xs))) (eq-eqb (get_or xs i 0) 1 e)
-
-pub ones_later : (xs : List ℕ) (i : ℕ) → i < length xs → (get_or xs i 0 ≡ 1 → ⊥) → ones (drop i xs) ≡ ones (drop (suc i) xs)
-ones_later xs i h e = ones_step xs i h
-    ∙ ap (λ (t : Bool). cond t (suc (ones (drop (suc i) xs))) (ones (drop (suc i) xs))) (ne_eqb (get_or xs i 0) 1 e)
-
--- a bit at place i counts as itself
-pub ones_bit : (xs : List ℕ) (i : ℕ) → i < length xs → get_or xs i 0 ≤ 1 → ones (drop i xs) ≡ get_or xs i 0 + ones (drop (suc i) xs)
-ones_bit xs i h b = ⊎_elim
-    (λ (l : 0 < get_or xs i 0). omega (arith, ones_here xs i h (omega arith)))
-    (λ (l : get_or xs i 0 ≤ 0). omega (arith, ones_later xs i h (λ e. omega arith)))
-    (below_or_not 0 (get_or xs i 0))
+bits_sum [] b = refl
+bits_sum (x ∷ xs) b =
+    ⊎_elim
+    (λ (e : x ≡ 0). rw e (bits_sum xs (λ i. b (suc i))))
+    (λ (e : x ≡ 1). rw e (omega (arith, sum_by_from (λ (y : ℕ). y) 1 xs, bits_sum xs (λ i. b (suc i)))))
+    (bit_cases x (b 0))
 
 -- every part of a list of bits has bits
-pub part_bits : (xs : List ℕ) (from n i : ℕ) → ((j : ℕ) → get_or xs j 0 ≤ 1) → i < length (take n (drop from xs))
-    → get_or (take n (drop from xs)) i 0 ≤ 1
-part_bits xs from n i b l =
-    let short : i < n = omega (arith, length-take n (drop from xs)) in
-    omega (arith, get_or-take n (drop from xs) i 0 short, get_or-drop from xs i 0, b (from + i))
+pub part_bits : (xs : List ℕ) (from n : ℕ) → Bits xs → Bits (take n (drop from xs))
+part_bits xs from n b i =
+    ⊎_elim (λ l. omega (arith, get_or-take n (drop from xs) i 0 l, get_or-drop from xs i 0, b (from + i)))
+    (λ l. omega (arith, length-take n (drop from xs), get_or-eq_default (take n (drop from xs)) 0 {n = i} (omega (arith, length-take n (drop from xs)))))
+    (below_or_not i n)
 
 -- the rows from `row` on: first that row, then the rest
 rows_step : (d row rows : ℕ) (xs : List ℕ) → row < rows → rows_of d (rows - row) xs ≡ take d xs ∷ rows_of d (rows - suc row) (drop d xs)

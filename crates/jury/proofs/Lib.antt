@@ -15,3 +15,4 @@ pub mod BallotOrder
 pub mod RankingLaws
 pub mod Theorems
 pub mod Scores
+mod Chunks

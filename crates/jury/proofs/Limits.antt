@@ -187,10 +187,3 @@ unfolding ballot_bytes
 inputs_bound s b =
     let rows : s.ballots * s.candidates ≤ most_ballots * most_candidates = mul-le-mul b.n_most b.k_most in
     mul-le-mul rows b.c_most
-
--- products of two numbers of a shape fit into a machine number
-pub two_fit : (a b : ℕ) → a ≤ 255 → b ≤ 255 → a * b < 2 ^ 64
-two_fit a b ha hb = let h : a * b ≤ 255 * 255 = mul-le-mul ha hb in omega arith
-
-pub three_fit : (a b c : ℕ) → a ≤ 255 → b ≤ 255 → c ≤ 255 → a * b * c < 2 ^ 64
-three_fit a b c ha hb hc = let h : a * b * c ≤ 255 * 255 * 255 = mul-le-mul (mul-le-mul ha hb) hc in omega arith

@@ -3,12 +3,13 @@
 use mathlib.Core.Path.{◌≡◌, ◌∙◌, refl, ap}
 use mathlib.Core.Bool.{Bool, cond}
 use mathlib.Core.Logic.{⊎_elim}
-use Prim.Native.Nat.{ℕ, zero, suc, ◌/◌, ◌^◌, ◌-◌, ◌≤◌, ◌<◌}
+use Prim.Native.Nat.{ℕ, zero, suc, ◌+◌, ◌*◌, ◌/◌, ◌^◌, ◌-◌, ◌≤◌, ◌<◌}
 use native.Mathlib.Nat.{pow-succ', eq-zero-or-pos}
 use native.Mathlib.Omega.{arith}
 use lib.Dec.{eqb}
 use lib.Pow.{pow_mono}
 use borrow.Author.Tests.{ne_eqb}
+use Rattle.basics.proofs.Cases.{below_or_not}
 use Rattle.jury.specs.Width.{width_within, width_of}
 
 -- one step of the definition, for a number above 0
@@ -73,6 +74,22 @@ least_within (suc steps) m h l = least_step m (least_within steps (m / 2) (omega
 pub least_width : (m : ℕ) → 0 < m → 2 ^ (width_of m - 1) ≤ m
 least_width m h = rw (width_half m h, sub_one_suc (width_of (m / 2))) (least_within m m (omega arith) h)
 
+-- a number from 2 to the power k on, below twice that, has k + 1 digits
+pub width_by_powers : (m k : ℕ) → 2 ^ k ≤ m → m < 2 * 2 ^ k → width_of m ≡ k + 1
+width_by_powers m k low high = ⊎_elim (λ l. absurd (more l)) (λ g. ⊎_elim (λ l. absurd (fewer l)) (λ h. omega arith) (below_or_not (width_of m) (k + 1)))
+    (below_or_not (k + 1) (width_of m))
+  where
+    fewer : width_of m < k + 1 → ⊥
+    fewer l = let p : 2 ^ width_of m ≤ 2 ^ k = pow_mono {i = width_of m} {j = k} (omega arith) in omega (arith, below_width m)
+
+    some : 0 < m
+    some = let p : 2 ^ 0 ≤ 2 ^ k = pow_mono {i = 0} {j = k} (omega arith) in omega arith
+
+    more : k + 1 < width_of m → ⊥
+    more l =
+        let p : 2 ^ suc k ≤ 2 ^ (width_of m - 1) = pow_mono {i = suc k} {j = width_of m - 1} (omega arith) in
+        omega (arith, least_width m some, pow-succ' 2 k)
+
 -- the width of a number up to 255 is at most 8
 pub width_most : (m : ℕ) → m ≤ 255 → width_of m ≤ 8
 width_most m h = ⊎_elim (λ e. rw (width_of_zero m e) (omega arith)) most (eq-zero-or-pos m)
@@ -85,13 +102,3 @@ width_most m h = ⊎_elim (λ e. rw (width_of_zero m e) (omega arith)) most (eq-
 
     most : 0 < m → width_of m ≤ 8
     most l = let no : ¬ (9 ≤ width_of m) = not_nine l in omega arith
-
--- the width never exceeds the number itself
-width_within_lem : (steps m : ℕ) → m ≤ steps → width_of m ≤ m
-width_within_lem zero m h = rw (width_of_zero m (omega arith)) (omega arith)
-width_within_lem (suc steps) m h =
-    let ih : width_of (m / 2) ≤ m / 2 = width_within_lem steps (m / 2) (omega arith) in
-    ⊎_elim (λ e. rw (width_of_zero m e) (omega arith)) (λ l. rw (width_half m l) (omega arith)) (eq-zero-or-pos m)
-
-pub width_le : (m : ℕ) → width_of m ≤ m
-width_le m = width_within_lem m m (omega arith)

@@ -16,34 +16,21 @@ pub fn counts(shape: Shape, ballots: &[u8]) -> GradeCounts
     requires { GradedBallots shape ballots.now }
     ensures { Counted shape ballots.now result }
 {
-    let k = shape.candidates;
-    let d = shape.grades;
-    let n = shape.ballots;
-    let mut counts = [[0u16; Shape::MOST_GRADES]; Shape::MOST_CANDIDATES];
-    let mut at = 0;
-    let mut b = 0;
-    while b < n {
-        let end = at + k * d;
-        add_ballot(&mut counts, &ballots[at..end], k, d);
-        at = end;
-        b += 1;
+    let mut counts = [[0; Shape::MOST_GRADES]; Shape::MOST_CANDIDATES];
+    for ballot in ballots.chunks_exact(shape.candidates * shape.grades) {
+        add_ballot(&mut counts, ballot, shape);
     }
     counts
 }
 
-// Adds one ballot, k rows of d bytes, to the counts. They are lent, not passed by value: copying what was just
-// stored would stall the processor at each row.
-fn add_ballot(counts: &mut GradeCounts, ballot: &[u8], k: usize, d: usize)
-    requires { BallotReady counts.old ballot.now k d }
-    ensures { counts.new ≡ plus_ballot k d counts.old ballot.now }
+// Adds one ballot, a row of grades for each candidate, to the counts. They are lent, not passed by value: copying
+// what was just stored would stall the processor at each row.
+fn add_ballot(counts: &mut GradeCounts, ballot: &[u8], shape: Shape)
+    requires { BallotReady shape counts.old ballot.now }
+    ensures { counts.new ≡ plus_ballot shape.candidates shape.grades counts.old ballot.now }
 {
-    let mut at = 0;
-    let mut c = 0;
-    while c < k {
-        let end = at + d;
-        add_row(&mut counts[c], &ballot[at..end]);
-        at = end;
-        c += 1;
+    for (c, row) in ballot.chunks_exact(shape.grades).enumerate() {
+        add_row(&mut counts[c], row);
     }
 }
 
@@ -53,9 +40,7 @@ fn add_row(counts: &mut CandidateCounts, row: &[u8])
     requires { RowReady counts.old row.now }
     ensures { counts.new ≡ plus_row counts.old row.now }
 {
-    let mut g = 0;
-    while g < row.len() {
-        counts[g] += row[g] as u16;
-        g += 1;
+    for (g, byte) in row.iter().enumerate() {
+        counts[g] += u16::from(*byte);
     }
 }

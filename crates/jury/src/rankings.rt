@@ -2,40 +2,29 @@
 ghost use Rattle.std.specs.Prelude.{◌≡◌, ◌+◌, ◌*◌, ◌≤◌, ◌<◌, length};
 ghost use Rattle.jury.specs.Rankings as spec;
 
+// One ballot among all: a row of bytes for each candidate, and in each row a byte for each candidate.
+#[derive(Clone, Copy)]
+struct Ranking<'a> {
+    ballots: &'a [u8],
+    candidates: usize,
+    ballot: usize,
+    ghost inside: { (ballot + 1) * candidates * candidates ≤ length ballots.now },
+}
+
 // Reason 11: the first byte, through all ballots, that is 1 and whose opposite is 1 too.
+#[tactic(auto, using(crate::proofs::Searches::first_later, crate::proofs::Searches::first_here, crate::proofs::Searches::ballot_within,), unfolding(crate::specs::Rankings::first_not_asymmetric, crate::specs::Rankings::first_over),)]
 pub fn first_not_asymmetric(ballots: &[u8], k: usize, n: usize) -> Option<usize>
     requires { length ballots.now ≡ n * k * k }
     ensures { result ≡ spec.first_not_asymmetric k n ballots.now }
 {
-    for b in 0..n {
-        if let Some(place) = not_asymmetric_in_ballot(ballots, k, b) {
+    for ballot in 0..n {
+        let ranking = Ranking {
+            ballots,
+            candidates: k,
+            ballot,
+        };
+        if let Some(place) = ranking.not_asymmetric() {
             return Some(place);
-        }
-    }
-    None
-}
-
-// Reason 11 in ballot b only.
-fn not_asymmetric_in_ballot(ballots: &[u8], k: usize, b: usize) -> Option<usize>
-    requires { (b + 1) * k * k ≤ length ballots.now }
-    ensures { result ≡ spec.not_asymmetric_in_ballot k ballots.now b }
-{
-    for i in 0..k {
-        if let Some(place) = not_asymmetric_in_row(ballots, k, b, i) {
-            return Some(place);
-        }
-    }
-    None
-}
-
-// Reason 11 in row i of ballot b only.
-fn not_asymmetric_in_row(ballots: &[u8], k: usize, b: usize, i: usize) -> Option<usize>
-    requires { ((b + 1) * k * k ≤ length ballots.now) × (i < k) }
-    ensures { result ≡ spec.not_asymmetric_in_row k ballots.now b i }
-{
-    for j in 0..k {
-        if is_before(ballots, k, b, i, j) && is_before(ballots, k, b, j, i) {
-            return Some((b * k + i) * k + j);
         }
     }
     None
@@ -43,68 +32,109 @@ fn not_asymmetric_in_row(ballots: &[u8], k: usize, b: usize, i: usize) -> Option
 
 // Reason 12: the first ballot in which some i is before some j, and a third candidate is not after i and not before
 // j.
+#[tactic(auto, using(crate::proofs::Searches::first_later, crate::proofs::Searches::first_here, crate::proofs::Searches::ballot_within,), unfolding(crate::specs::Rankings::first_not_weak_order, crate::specs::Rankings::first_over),)]
 pub fn first_not_weak_order(ballots: &[u8], k: usize, n: usize) -> Option<usize>
     requires { length ballots.now ≡ n * k * k }
     ensures { result ≡ spec.first_not_weak_order k n ballots.now }
 {
-    for b in 0..n {
-        if not_weak_order(ballots, k, b) {
-            return Some(b);
+    for ballot in 0..n {
+        let ranking = Ranking {
+            ballots,
+            candidates: k,
+            ballot,
+        };
+        if ranking.is_not_weak_order() {
+            return Some(ballot);
         }
     }
     None
 }
 
-// Whether reason 12 applies to ballot b.
-fn not_weak_order(ballots: &[u8], k: usize, b: usize) -> bool
-    requires { (b + 1) * k * k ≤ length ballots.now }
-    ensures { result ≡ spec.not_weak_order k ballots.now b }
-{
-    let mut i = 0;
-    while i < k {
-        if not_weak_order_after(ballots, k, b, i) {
-            return true;
+impl<'a> Ranking<'a> {
+    // The first byte of this ballot with reason 11.
+    #[tactic(auto, using(crate::proofs::Searches::first_later, crate::proofs::Searches::first_here), unfolding(crate::specs::Rankings::not_asymmetric_in_ballot, crate::specs::Rankings::first_over),)]
+    fn not_asymmetric(&self) -> Option<usize>
+        ensures { result ≡ spec.not_asymmetric_in_ballot self.now.candidates self.now.ballots.now self.now.ballot }
+    {
+        for i in 0..self.candidates {
+            if let Some(place) = self.not_asymmetric_in_row(i) {
+                return Some(place);
+            }
         }
-        i += 1;
+        None
     }
-    false
-}
 
-// Whether i is before some j, and a third candidate is not after i and not before j.
-fn not_weak_order_after(ballots: &[u8], k: usize, b: usize, i: usize) -> bool
-    requires { ((b + 1) * k * k ≤ length ballots.now) × (i < k) }
-    ensures { result ≡ spec.not_weak_order_after k ballots.now b i }
-{
-    let mut j = 0;
-    while j < k {
-        if is_before(ballots, k, b, i, j) && neither_after_nor_before(ballots, k, b, i, j) {
-            return true;
+    // The first byte of row i with reason 11.
+    #[tactic(auto, using(crate::proofs::Searches::first_later, crate::proofs::Searches::first_here, crate::proofs::Searches::clash_here, crate::proofs::Searches::clash_not_forth, crate::proofs::Searches::clash_not_back,), unfolding(crate::specs::Rankings::not_asymmetric_in_row, crate::specs::Rankings::first_over, crate::specs::Rankings::rank_place,),)]
+    fn not_asymmetric_in_row(&self, i: usize) -> Option<usize>
+        requires { i < self.now.candidates }
+        ensures { result ≡ spec.not_asymmetric_in_row self.now.candidates self.now.ballots.now self.now.ballot i }
+    {
+        for j in 0..self.candidates {
+            if self.is_before(i, j) && self.is_before(j, i) {
+                return Some(self.place(i, j));
+            }
         }
-        j += 1;
+        None
     }
-    false
-}
 
-// Whether some candidate is not after i and not before j.
-fn neither_after_nor_before(ballots: &[u8], k: usize, b: usize, i: usize, j: usize) -> bool
-    requires { ((b + 1) * k * k ≤ length ballots.now) × (i < k) × (j < k) }
-    ensures { result ≡ spec.neither_after_nor_before k ballots.now b i j }
-{
-    let mut l = 0;
-    while l < k {
-        if !is_before(ballots, k, b, i, l) && !is_before(ballots, k, b, l, j) {
-            return true;
+    // Whether reason 12 applies to this ballot.
+    #[tactic(auto, using(crate::proofs::Searches::some_later, crate::proofs::Searches::some_here), unfolding(crate::specs::Rankings::not_weak_order, basics::specs::Below::some_below),)]
+    fn is_not_weak_order(&self) -> bool
+        ensures { result ≡ spec.not_weak_order self.now.candidates self.now.ballots.now self.now.ballot }
+    {
+        for i in 0..self.candidates {
+            if self.is_not_weak_order_after(i) {
+                return true;
+            }
         }
-        l += 1;
+        false
     }
-    false
-}
 
-// Whether ballot b puts i strictly before j.
-fn is_before(ballots: &[u8], k: usize, b: usize, i: usize, j: usize) -> bool
-    requires { ((b + 1) * k * k ≤ length ballots.now) × (i < k) × (j < k) }
-    ensures { result ≡ spec.before k ballots.now b i j }
-{
-    let at = (b * k + i) * k + j;
-    ballots[at] == 1
+    // Whether i is before some j, and a third candidate is not after i and not before j.
+    #[tactic(auto, using(crate::proofs::Searches::some_later, crate::proofs::Searches::some_here), unfolding(crate::specs::Rankings::not_weak_order_after, basics::specs::Below::some_below),)]
+    fn is_not_weak_order_after(&self, i: usize) -> bool
+        requires { i < self.now.candidates }
+        ensures { result ≡ spec.not_weak_order_after self.now.candidates self.now.ballots.now self.now.ballot i }
+    {
+        for j in 0..self.candidates {
+            if self.is_before(i, j) && self.neither_after_nor_before(i, j) {
+                return true;
+            }
+        }
+        false
+    }
+
+    // Whether some candidate is not after i and not before j.
+    #[tactic(auto, using(crate::proofs::Searches::some_later, crate::proofs::Searches::some_here), unfolding(crate::specs::Rankings::neither_after_nor_before, basics::specs::Below::some_below),)]
+    fn neither_after_nor_before(&self, i: usize, j: usize) -> bool
+        requires { (i < self.now.candidates) × (j < self.now.candidates) }
+        ensures { result ≡ spec.neither_after_nor_before self.now.candidates self.now.ballots.now self.now.ballot i j }
+    {
+        for l in 0..self.candidates {
+            if !self.is_before(i, l) && !self.is_before(l, j) {
+                return true;
+            }
+        }
+        false
+    }
+
+    // Whether this ballot puts i strictly before j.
+    #[tactic(auto, unfolding(crate::specs::Rankings::before))]
+    fn is_before(&self, i: usize, j: usize) -> bool
+        requires { (i < self.now.candidates) × (j < self.now.candidates) }
+        ensures { result ≡ spec.before self.now.candidates self.now.ballots.now self.now.ballot i j }
+    {
+        self.ballots[self.place(i, j)] == 1
+    }
+
+    // The place of the byte in row i and column j.
+    #[tactic(auto, unfolding(crate::specs::Rankings::rank_place))]
+    fn place(&self, i: usize, j: usize) -> usize
+        requires { (i < self.now.candidates) × (j < self.now.candidates) }
+        ensures place { result ≡ spec.rank_place self.now.candidates self.now.ballot i j }
+        ensures inside { result < length self.now.ballots.now }
+    {
+        (self.ballot * self.candidates + i) * self.candidates + j
+    }
 }

@@ -36,7 +36,8 @@ impl From<ListFault> for Refusal {
     #[tactic(auto, unfolding(crate::specs::Reason::refusal_of))]
     fn from(fault: ListFault) -> Refusal {
         match fault {
-            ListFault::PartOfAGate | ListFault::TooFewGates | ListFault::TooManyGates => Refusal::Table,
+            ListFault::PartOfAGate | ListFault::TooFewGates | ListFault::TooManyGates =>
+                Refusal::Table,
             ListFault::BadGate(g) => Refusal::Gate(g),
         }
     }

@@ -33,6 +33,7 @@ impl Shape {
     pub const MOST_BALLOTS: usize = 255;
 
     // The shape with these numbers, or the refusal if one of them is outside its limits.
+    #[tactic(auto, unfolding(crate::specs::Reason::shaped_for, crate::specs::Reason::unless, crate::specs::Reason::reason_of, crate::specs::Reason::reason_at,),)]
     pub fn new(candidates: usize, grades: usize, ballots: usize) -> Result<Shape, Refusal>
         ensures { Shaped (record { candidates = candidates; grades = grades; ballots = ballots }) result }
     {
@@ -49,6 +50,7 @@ impl Shape {
     }
 
     // Whether the jurors rank the candidates.
+    #[tactic(auto, unfolding(crate::specs::Shape::is_ranking))]
     pub fn is_ranking(self) -> bool
         ensures { result ≡ is_ranking self }
     {
@@ -56,30 +58,28 @@ impl Shape {
     }
 
     // Whether a shape is within the limits of a graded jury.
+    #[tactic(auto, unfolding(crate::specs::Shape::graded_limits))]
     pub fn is_within_graded_limits(self) -> bool
         ensures { result ≡ graded_limits self }
     {
-        Shape::LEAST_CANDIDATES <= self.candidates
-            && self.candidates <= Shape::MOST_CANDIDATES
-            && Shape::LEAST_GRADES <= self.grades
-            && self.grades <= Shape::MOST_GRADES
-            && Shape::LEAST_BALLOTS <= self.ballots
-            && self.ballots <= Shape::MOST_BALLOTS
+        (Shape::LEAST_CANDIDATES..=Shape::MOST_CANDIDATES).contains(&self.candidates)
+            && (Shape::LEAST_GRADES..=Shape::MOST_GRADES).contains(&self.grades)
+            && (Shape::LEAST_BALLOTS..=Shape::MOST_BALLOTS).contains(&self.ballots)
     }
 
     // Whether a shape is within the limits of a ranked jury.
+    #[tactic(auto, unfolding(crate::specs::Shape::ranked_limits, crate::specs::Shape::is_ranking))]
     pub fn is_within_ranked_limits(self) -> bool
         ensures { result ≡ ranked_limits self }
     {
-        Shape::LEAST_CANDIDATES <= self.candidates
-            && self.candidates <= Shape::MOST_CANDIDATES
+        (Shape::LEAST_CANDIDATES..=Shape::MOST_CANDIDATES).contains(&self.candidates)
             && self.grades == 0
-            && Shape::LEAST_BALLOTS <= self.ballots
-            && self.ballots <= Shape::MOST_BALLOTS
+            && (Shape::LEAST_BALLOTS..=Shape::MOST_BALLOTS).contains(&self.ballots)
     }
 
     // Whether a shape is within the limits of either kind. The fields are public, so not every shape comes from
     // `new`.
+    #[tactic(auto, using(crate::proofs::Limits::not_graded, crate::proofs::Limits::not_ranked), unfolding(crate::specs::Shape::within_limits),)]
     pub fn is_within_limits(self) -> bool
         ensures { result ≡ within_limits self }
     {
@@ -91,6 +91,7 @@ impl Shape {
     }
 
     // How many bytes a row has: one for each grade or, in a ranking, one for each candidate.
+    #[tactic(auto, unfolding(crate::specs::Shape::columns, crate::specs::Shape::is_ranking))]
     pub fn columns(self) -> usize
         ensures { result ≡ spec.columns self }
     {
@@ -102,6 +103,7 @@ impl Shape {
     }
 
     // I, the number of ballot bytes.
+    #[tactic(auto, using(crate::proofs::Limits::bounds_T, crate::proofs::Limits::inputs_bound), unfolding(crate::specs::Shape::ballot_bytes),)]
     pub fn ballot_bytes(self) -> usize
         requires { T (within_limits self) }
         ensures { result ≡ ballot_bytes self }

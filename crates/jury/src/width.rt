@@ -3,14 +3,12 @@ ghost use Rattle.std.specs.Prelude.{◌≡◌};
 ghost use Rattle.jury.specs.Width.{width_of};
 
 // How many binary digits n has; 0 has none.
+#[tactic(auto, using(crate::proofs::WidthLaws::width_zero, crate::proofs::WidthLaws::width_by_powers))]
 pub fn width(n: usize) -> usize
     ensures { result ≡ width_of n }
 {
-    let mut digits = 0;
-    let mut rest = n;
-    while 0 < rest {
-        digits += 1;
-        rest = rest / 2;
+    match n.checked_ilog2() {
+        Some(last) => last as usize + 1,
+        None => 0,
     }
-    digits
 }

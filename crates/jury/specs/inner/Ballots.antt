@@ -1,5 +1,5 @@
 -- What the tests of ballots require of each other.
-use Rattle.std.specs.Prelude.{◌≡◌, List, ℕ, ◌*◌, T, length}
+use Rattle.std.specs.Prelude.{◌≡◌, List, ℕ, ◌*◌, ◌<◌, T, length}
 use Rattle.gates.specs.Board.{Bits}
 use Rattle.jury.specs.declared.shape.Shape.{Shape}
 use Rattle.jury.specs.Shape.{graded_limits}
@@ -9,12 +9,8 @@ pub record GradedSize (s : Shape) (xs : List ℕ) : Type 0 where
   pub within : T (graded_limits s)
   pub size : length xs ≡ s.ballots * s.candidates * s.grades
 
--- The same, and all bytes are 0 or 1.
+-- The same, so there are grades, and all bytes are 0 or 1.
 pub record GradedBits (s : Shape) (xs : List ℕ) : Type 0 where
   pub sized : GradedSize s xs
-  pub bits : Bits xs
-
--- xs has `rows` rows of d bits each.
-pub record RowsOfBits (xs : List ℕ) (d rows : ℕ) : Type 0 where
-  pub size : length xs ≡ rows * d
+  pub some : 0 < s.grades
   pub bits : Bits xs

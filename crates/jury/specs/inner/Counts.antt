@@ -18,11 +18,12 @@ pub record RowReady (counts row : List ℕ) : Type 0 where
   pub short : length row ≤ most_grades
   pub small : (g : ℕ) → get_or counts g 0 < 256
 
--- A ballot, k rows of d bytes, can be added to the array of counts.
-pub record BallotReady (counts : List (List ℕ)) (ballot : List ℕ) (k d : ℕ) : Type 0 where
-  pub few_rows : k ≤ most_candidates
-  pub few_columns : d ≤ most_grades
-  pub size : length ballot ≡ k * d
+-- A ballot of this shape can be added to the array of counts.
+pub record BallotReady (s : Shape) (counts : List (List ℕ)) (ballot : List ℕ) : Type 0 where
+  pub few_rows : s.candidates ≤ most_candidates
+  pub few_columns : s.grades ≤ most_grades
+  pub some_columns : 0 < s.grades
+  pub size : length ballot ≡ s.candidates * s.grades
   pub array : EightBySeven counts
 
 -- A row of counts with one row of a ballot added.

@@ -1,13 +1,21 @@
--- What the test of rankings by scores shows. r is the number of bytes that are astray.
-use Rattle.std.specs.Prelude.{◌≡◌, List, ℕ, ◌+◌, ◌*◌, ◌≤◌, ◌<◌, eqb, ltb, get_or}
+-- What the test of rankings by scores requires and shows. r is the number of bytes that are astray.
+use Rattle.std.specs.Prelude.{◌≡◌, List, ℕ, ◌+◌, ◌*◌, ◌≤◌, ◌<◌, eqb, ltb, length, get_or}
+use Rattle.jury.specs.declared.shape.Shape.{Shape}
+use Rattle.jury.specs.Shape.{most_candidates}
 use Rattle.jury.specs.WeakOrder.{StrictWeakOrder}
 
--- If none is astray in the row at this place, a byte is 1 exactly if the own score is above the column's.
-pub record AstrayInRow (k : ℕ) (xs : List ℕ) (row : ℕ) (scores : List ℕ) (own r : ℕ) : Type 0 where
-  pub most : r ≤ k
-  pub agrees : r ≡ 0 → (j : ℕ) → j < k → eqb (get_or xs (row + j) 0) 1 ≡ ltb (get_or scores j 0) own
+-- There are candidates, not too many, and the ballots are as long as rankings of them.
+pub record RankedSize (s : Shape) (xs : List ℕ) : Type 0 where
+  pub some : 0 < s.candidates
+  pub few : s.candidates ≤ most_candidates
+  pub size : length xs ≡ s.ballots * s.candidates * s.candidates
 
--- If none is astray in the ballot at this place, the ballot is a strict weak order.
-pub record AstrayInBallot (k : ℕ) (xs : List ℕ) (at r : ℕ) : Type 0 where
+-- If none is astray in this row, a byte is 1 exactly if the own score is above the column's.
+pub record AstrayInRow (row scores : List ℕ) (own r : ℕ) : Type 0 where
+  pub most : r ≤ length row
+  pub agrees : r ≡ 0 → (j : ℕ) → j < length row → eqb (get_or row j 0) 1 ≡ ltb (get_or scores j 0) own
+
+-- If none is astray in this ballot, it is a strict weak order.
+pub record AstrayInBallot (k : ℕ) (ballot : List ℕ) (r : ℕ) : Type 0 where
   pub most : r ≤ k * k
-  pub ordered : r ≡ 0 → StrictWeakOrder k (λ i j. eqb (get_or xs (at + i * k + j) 0) 1)
+  pub ordered : r ≡ 0 → StrictWeakOrder k (λ i j. eqb (get_or ballot (i * k + j) 0) 1)

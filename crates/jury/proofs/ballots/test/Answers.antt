@@ -3,18 +3,18 @@
 -- Assumes nothing.
 use mathlib.Core.Path.{◌≡◌, ◌∙◌, refl, sym, ap}
 use mathlib.Core.Bool.{true, false}
+use native.Mathlib.Omega.{arith}
 use lib.ListN.{length}
 use borrow.Author.Tests.{eq-eqb, ne_eqb}
-use borrow.Author.Rules.{rules}
 use Rattle.std.specs.Prelude.{List, ℕ, Some, None}
 use Rattle.jury.specs.declared.shape.Shape.{Shape}
 use Rattle.gates.specs.Test.{first_above_one}
 use Rattle.gates.proofs.Hiding.{all_bits}
-use Rattle.jury.specs.Shape.{is_ranking, graded_limits, within_limits, ballot_bytes}
+use Rattle.jury.specs.Shape.{graded_limits, within_limits, ballot_bytes}
 use Rattle.jury.specs.Reason.{reason_of, refused_for, unless, found_at, first_of}
 use Rattle.jury.specs.Ballots.{ballot_kind_reasons, ballot_reasons}
 use Rattle.basics.proofs.Flags.{T_true, true_T}
-use Rattle.jury.proofs.Limits.{bounds_T, grades_columns, ranked_bytes, graded_kind}
+use Rattle.jury.proofs.Limits.{bounds_T, within, grades_columns, ranked_bytes, graded_kind}
 use Rattle.jury.proofs.BallotLaws.{judged, judged_by, judged_kind, graded_reasons_lem, ranked_reasons_lem}
 use Rattle.jury.proofs.ballots.test.Goals as goal
 
@@ -41,10 +41,11 @@ by_kind s xs e f =
     ∙ judged_kind (first_of (ballot_kind_reasons s xs))
 
 pub test_orders-requires : goal.test_orders-requires
-test_orders-requires c = let s = c.args.shape in (
-      (bounds_T s c.requires).k_most,
-      c.if-ballots-ballot_bytes.false ∙ c.ballot_bytes.ensures ∙ ranked_bytes s (sym c.is_ranking.ensures ∙ c.if-is_ranking.true),
-    )
+test_orders-requires c = let s = c.args.shape in record {
+  some = (bounds_T s c.requires).k_least;
+  few = (bounds_T s c.requires).k_most;
+  size = c.if-ballots-ballot_bytes.false ∙ c.ballot_bytes.ensures ∙ ranked_bytes s (sym c.is_ranking.ensures ∙ c.if-is_ranking.true);
+}
 
 pub test_grades-requires : goal.test_grades-requires
 test_grades-requires c = let s = c.args.shape in
@@ -56,6 +57,7 @@ test_grades-requires c = let s = c.args.shape in
         size = c.if-ballots-ballot_bytes.false ∙ c.ballot_bytes.ensures
             ∙ grades_columns s graded;
       };
+      some = let w = within s (graded_kind s (T_true (within_limits s) c.requires) graded) in omega (arith, w.d_least);
       bits = all_bits 0 c.args.ballots.now (sym c.first_above_one.ensures ∙ c.in_default.is);
     }
 
