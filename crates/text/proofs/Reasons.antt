@@ -10,8 +10,8 @@ use lib.ListN.{length, drop}
 use borrow.Author.Tests.{le-leb, lt-leb}
 use Rattle.gates.specs.Gate.{gates_of, numbers_of}
 use Rattle.gates.specs.Test.{first_bad}
-use Rattle.gates.specs.declared.place.Place.{Place}
-use Rattle.gates.specs.declared.place.Place.TheVariants.{At, Nowhere}
+use Rattle.std.specs.Prelude as rust
+use Rattle.std.specs.Prelude.{Some, None}
 use Rattle.jury.specs.declared.shape.Shape.{Shape}
 use Rattle.jury.specs.Shape.{within_limits, ballot_bytes}
 use Rattle.jury.specs.Reason.{Reason, reason_at, unless, found_at, first_of}
@@ -69,10 +69,10 @@ module _ (s : Shape) (table output : List ℕ) where
 
 module _ (s : Shape) (text output : List ℕ) where
   -- the first reason of reading, from the outcomes of the tests
-  found : Bool → Bool → Bool → Place → Place → Bool → Option Reason
+  found : Bool → Bool → Bool → rust.Option ℕ → rust.Option ℕ → Bool → Option Reason
   found w k m p q o = first_of (unless w 1 ∷ unless (k && m) 2 ∷ found_at 23 p ∷ found_at 3 q ∷ unless o 24 ∷ [])
 
-  module _ (w k m : Bool) (p q : Place) (o : Bool) where
+  module _ (w k m : Bool) (p q : rust.Option ℕ) (o : Bool) where
     read_by : within_limits s ≡ w → leb s.candidates (length (lines_of text)) ≡ k
         → leb (length (lines_of text)) 1048576 ≡ m → first_malformed 0 (lines_of text) ≡ p
         → first_bad (ballot_bytes s) 0 (gates_in (lines_of text)) ≡ q → leb (4 * length (lines_of text)) (length output)
@@ -96,28 +96,28 @@ module _ (s : Shape) (text output : List ℕ) where
           (lt-leb (length (lines_of text)) 1048576 h) refl refl refl
 
       module _ (c : length (lines_of text) ≤ 1048576) where
-        pub other_line : (i : ℕ) → first_malformed 0 (lines_of text) ≡ At i → first_of (read_reasons s text output) ≡ some (reason_at 23 i)
+        pub other_line : (i : ℕ) → first_malformed 0 (lines_of text) ≡ Some i → first_of (read_reasons s text output) ≡ some (reason_at 23 i)
         unfolding found unless found_at first_of
-        other_line i d = read_by true true true (At i) _ _ a (le-leb s.candidates (length (lines_of text)) b)
+        other_line i d = read_by true true true (Some i) _ _ a (le-leb s.candidates (length (lines_of text)) b)
             (le-leb (length (lines_of text)) 1048576 c) d refl refl
 
-        module _ (d : first_malformed 0 (lines_of text) ≡ Nowhere) where
-          pub bad_gate : (g : ℕ) → first_bad (ballot_bytes s) 0 (gates_in (lines_of text)) ≡ At g
+        module _ (d : first_malformed 0 (lines_of text) ≡ None) where
+          pub bad_gate : (g : ℕ) → first_bad (ballot_bytes s) 0 (gates_in (lines_of text)) ≡ Some g
               → first_of (read_reasons s text output) ≡ some (reason_at 3 g)
           unfolding found unless found_at first_of
-          bad_gate g e = read_by true true true Nowhere (At g) _ a
+          bad_gate g e = read_by true true true None (Some g) _ a
               (le-leb s.candidates (length (lines_of text)) b) (le-leb (length (lines_of text)) 1048576 c) d e refl
 
-          module _ (e : first_bad (ballot_bytes s) 0 (gates_in (lines_of text)) ≡ Nowhere) where
+          module _ (e : first_bad (ballot_bytes s) 0 (gates_in (lines_of text)) ≡ None) where
             pub numbers_short : length output < 4 * length (lines_of text) → first_of (read_reasons s text output) ≡ some (reason_at 24 0)
             unfolding found unless found_at first_of
-            numbers_short h = read_by true true true Nowhere Nowhere false a
+            numbers_short h = read_by true true true None None false a
                 (le-leb s.candidates (length (lines_of text)) b) (le-leb (length (lines_of text)) 1048576 c) d e
                 (lt-leb (4 * length (lines_of text)) (length output) h)
 
             pub numbers_good : 4 * length (lines_of text) ≤ length output → first_of (read_reasons s text output) ≡ none
             unfolding found unless found_at first_of
-            numbers_good h = read_by true true true Nowhere Nowhere true a
+            numbers_good h = read_by true true true None None true a
                 (le-leb s.candidates (length (lines_of text)) b) (le-leb (length (lines_of text)) 1048576 c) d e
                 (le-leb (4 * length (lines_of text)) (length output) h)
 

@@ -14,8 +14,8 @@ use borrow.Author.Tests.{leb-true}
 use Rattle.gates.specs.Gate.{gates_of, numbers_of}
 use Rattle.gates.specs.Board.{conditional_count}
 use Rattle.gates.specs.Test.{first_bad}
-use Rattle.gates.specs.declared.place.Place.{Place}
-use Rattle.gates.specs.declared.place.Place.TheVariants.{At, Nowhere}
+use Rattle.std.specs.Prelude as rust
+use Rattle.std.specs.Prelude.{Some, None}
 use Rattle.gates.proofs.Laws.{AllGood, all_good, read_whole, length_numbers}
 use Rattle.gates.proofs.Accepting.{good_list_accepted}
 use Rattle.gates.proofs.Evaluating.{accepted_list}
@@ -62,8 +62,8 @@ record ReadPassed (s : Shape) (text output : List ℕ) : Type 0 where
   limits : within_limits s ≡ true
   enough : s.candidates ≤ length (lines_of text)
   few : length (lines_of text) ≤ 1048576
-  all_gates : first_malformed 0 (lines_of text) ≡ Nowhere
-  good : first_bad (ballot_bytes s) 0 (gates_in (lines_of text)) ≡ Nowhere
+  all_gates : first_malformed 0 (lines_of text) ≡ None
+  good : first_bad (ballot_bytes s) 0 (gates_in (lines_of text)) ≡ None
 
 read_passed : (s : Shape) (text output : List ℕ) → first_of (read_reasons s text output) ≡ none → ReadPassed s text output
 unfolding read_reasons first_of unless found_at
@@ -74,12 +74,12 @@ read_passed s text output e =
     room : Option Reason
     room = unless (leb (4 * length (lines_of text)) (length output)) 24
 
-    by : (w k m : Bool) (p q : Place) → within_limits s ≡ w → leb s.candidates (length (lines_of text)) ≡ k
+    by : (w k m : Bool) (p q : rust.Option ℕ) → within_limits s ≡ w → leb s.candidates (length (lines_of text)) ≡ k
         → leb (length (lines_of text)) 1048576 ≡ m → first_malformed 0 (lines_of text) ≡ p
         → first_bad (ballot_bytes s) 0 (gates_in (lines_of text)) ≡ q
         → first_of (unless w 1 ∷ unless (k && m) 2 ∷ found_at 23 p ∷ found_at 3 q ∷ room ∷ []) ≡ none
         → ReadPassed s text output
-    by true true true Nowhere Nowhere a b c d f e =
+    by true true true None None a b c d f e =
         record {
           limits = a;
           enough = leb-true s.candidates (length (lines_of text)) b;
@@ -88,8 +88,8 @@ read_passed s text output e =
           all_gates = d;
           good = f;
         }
-    by true true true Nowhere (At g) a b c d f e = impossible _ e
-    by true true true (At i) q a b c d f e = impossible _ e
+    by true true true None (Some g) a b c d f e = impossible _ e
+    by true true true (Some i) q a b c d f e = impossible _ e
     by true true false p q a b c d f e = impossible _ e
     by true false m p q a b c d f e = impossible _ e
     by false k m p q a b c d f e = impossible _ e
@@ -176,13 +176,13 @@ read_room s text output e =
     (first_malformed 0 (lines_of text)) (first_bad (ballot_bytes s) 0 (gates_in (lines_of text)))
     (leb (4 * length (lines_of text)) (length output)) refl e
   where
-    by : (w k : Bool) (p q : Place) (t : Bool) → leb (4 * length (lines_of text)) (length output) ≡ t
+    by : (w k : Bool) (p q : rust.Option ℕ) (t : Bool) → leb (4 * length (lines_of text)) (length output) ≡ t
         → first_of (unless w 1 ∷ unless k 2 ∷ found_at 23 p ∷ found_at 3 q ∷ unless t 24 ∷ []) ≡ none → 4
         * length (lines_of text) ≤ length output
-    by true true Nowhere Nowhere true f e = leb-true (4 * length (lines_of text)) (length output) f
-    by true true Nowhere Nowhere false f e = impossible _ e
-    by true true Nowhere (At g) t f e = impossible _ e
-    by true true (At i) q t f e = impossible _ e
+    by true true None None true f e = leb-true (4 * length (lines_of text)) (length output) f
+    by true true None None false f e = impossible _ e
+    by true true None (Some g) t f e = impossible _ e
+    by true true (Some i) q t f e = impossible _ e
     by true false p q t f e = impossible _ e
     by false k p q t f e = impossible _ e
 

@@ -12,7 +12,7 @@ use lib.ListN.{length, length-append}
 use borrow.Author.Tests.{ne_eqb}
 use Rattle.gates.specs.Kind.{operands_of}
 use Rattle.gates.specs.Gate.{Gate}
-use Rattle.gates.specs.declared.place.Place.TheVariants.{At}
+use Rattle.std.specs.Prelude.{Some}
 use Rattle.text_lines.specs.Decimal.{decimal_within, decimal, Taken}
 use Rattle.text_lines.specs.Line.{operand_text, line_of, gate_in, gate_of}
 use Rattle.text.specs.Text.{in_front, lines_of, malformed_at, first_malformed, gate_before, gates_in}
@@ -159,7 +159,7 @@ other_first c cs e = by (gate_of f.line) refl
         (sym e ∙ ap gate_in whole ∙ read_line g (flatten f.later) w.0))
 
 -- The first malformed line, and the gates, line by line.
-pub other_here : (i : ℕ) (cs : List ℕ) (o : OtherFirst cs) → first_malformed i (lines_of cs) ≡ At i
+pub other_here : (i : ℕ) (cs : List ℕ) (o : OtherFirst cs) → first_malformed i (lines_of cs) ≡ Some i
 unfolding first_malformed malformed_at
 other_here i cs o = ap (first_malformed i) o.lines ∙ rw o.reads
 

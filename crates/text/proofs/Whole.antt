@@ -9,7 +9,7 @@ use lib.Dec.{T}
 use lib.ListN.{length}
 use Rattle.gates.specs.Gate.{Gate}
 use Rattle.gates.specs.Test.{good_gate}
-use Rattle.gates.specs.declared.place.Place.TheVariants.{Nowhere}
+use Rattle.std.specs.Prelude.{None}
 use Rattle.gates.proofs.Laws.{AllGood}
 use Rattle.gates.proofs.Goodness.{good_gate_lem}
 use Rattle.gates.proofs.Reading.{good_unused}
@@ -19,29 +19,29 @@ use Rattle.text_lines.proofs.LineLaws.{Writable, line_read, line_wrote}
 use Rattle.text.proofs.TextLaws.{lines_cons, flatten_lines}
 
 -- if all lines are gates, there are as many gates as lines, and the lines are the text of those gates
-pub gates_many : (ls : List (List ℕ)) (i : ℕ) → first_malformed i ls ≡ Nowhere → length (gates_in ls) ≡ length ls
+pub gates_many : (ls : List (List ℕ)) (i : ℕ) → first_malformed i ls ≡ None → length (gates_in ls) ≡ length ls
 unfolding first_malformed malformed_at gates_in gate_before
 gates_many [] i e = refl
 gates_many (l ∷ ls) i e = by (gate_of l) e (gates_many ls (suc i))
   where
-    by : (o : Option Gate) → malformed_at o i (first_malformed (suc i) ls) ≡ Nowhere
-        → (first_malformed (suc i) ls ≡ Nowhere → length (gates_in ls) ≡ length ls)
+    by : (o : Option Gate) → malformed_at o i (first_malformed (suc i) ls) ≡ None
+        → (first_malformed (suc i) ls ≡ None → length (gates_in ls) ≡ length ls)
         → length (gate_before o (gates_in ls)) ≡ suc (length ls)
     by none e ih = let z : ◌≡◌ {A = ℕ} 0 1 = cc in absurd (omega arith)
     by (some g) e ih = ap suc (ih e)
 
-lines_text : (ls : List (List ℕ)) (i : ℕ) → first_malformed i ls ≡ Nowhere → flatten ls ≡ text_of (gates_in ls)
+lines_text : (ls : List (List ℕ)) (i : ℕ) → first_malformed i ls ≡ None → flatten ls ≡ text_of (gates_in ls)
 unfolding first_malformed malformed_at gates_in gate_before text_of flatten
 lines_text [] i e = refl
 lines_text (l ∷ ls) i e = by (gate_of l) refl e (lines_text ls (suc i))
   where
-    by : (o : Option Gate) → gate_of l ≡ o → malformed_at o i (first_malformed (suc i) ls) ≡ Nowhere
-        → (first_malformed (suc i) ls ≡ Nowhere → flatten ls ≡ text_of (gates_in ls)) → l ++ flatten ls
+    by : (o : Option Gate) → gate_of l ≡ o → malformed_at o i (first_malformed (suc i) ls) ≡ None
+        → (first_malformed (suc i) ls ≡ None → flatten ls ≡ text_of (gates_in ls)) → l ++ flatten ls
         ≡ text_of (gate_before o (gates_in ls))
     by none p e ih = let z : ◌≡◌ {A = ℕ} 0 1 = cc in absurd (omega arith)
     by (some g) p e ih = ap (λ (x : List ℕ). x ++ flatten ls) (line_wrote l g p).1 ∙ ap (λ (x : List ℕ). line_of g ++ x) (ih e)
 
-pub text_is : (text : List ℕ) → first_malformed 0 (lines_of text) ≡ Nowhere → text ≡ text_of (gates_in (lines_of text))
+pub text_is : (text : List ℕ) → first_malformed 0 (lines_of text) ≡ None → text ≡ text_of (gates_in (lines_of text))
 text_is text e = sym (flatten_lines text) ∙ lines_text (lines_of text) 0 e
 
 -- gates that are good for wires below 2 ^ 32 are writable
@@ -66,7 +66,7 @@ all_writable own (g ∷ gs) few p = (good_writable own g (omega arith) p.0, all_
 
 -- the lines of the text of writable gates
 pub record TextLines (gs : List Gate) : Type 0 where
-  pub all_gates : (i : ℕ) → first_malformed i (lines_of (text_of gs)) ≡ Nowhere
+  pub all_gates : (i : ℕ) → first_malformed i (lines_of (text_of gs)) ≡ None
   pub read_back : gates_in (lines_of (text_of gs)) ≡ gs
   pub as_many : length (lines_of (text_of gs)) ≡ length gs
 

@@ -1,7 +1,6 @@
 -- Examples of numbers and lines as characters.
-use Rattle.std.specs.Prelude.{◌≡◌, List, [], ◌∷◌, ℕ}
+use Rattle.std.specs.Prelude.{◌≡◌, List, [], ◌∷◌, ℕ, Some}
 use Rattle.std.proofs.Math.Option.{none, some}
-use Rattle.gates.specs.declared.place.Place.TheVariants.{At}
 use Rattle.text_lines.specs.Decimal.{decimal, taken, number_in}
 use Rattle.text_lines.specs.Line.{gate_of}
 use Rattle.text.specs.Text.{lines_of, first_malformed}
@@ -32,4 +31,4 @@ pub record TextExamples : Type 0 where
   pub too_large : number_in too_large_text ≡ none
   pub copy_gate : gate_of copy_line ≡ some (record { kind = 2; a = 1; b = 0; c = 0 })
   pub leading_zero : gate_of zero_first ≡ none
-  pub open_line : first_malformed 0 (lines_of open_end) ≡ At 1
+  pub open_line : first_malformed 0 (lines_of open_end) ≡ Some 1

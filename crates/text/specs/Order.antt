@@ -1,9 +1,8 @@
 -- The order of reasons in words: which reason writing and reading a text answer. Every line holds whatever the later
 -- tests would find, so the order is fixed here and not only by the lists in the definitions.
-use Rattle.std.specs.Prelude.{◌≡◌, true, false, List, ℕ, ◌*◌, ◌≤◌, ◌<◌, length}
+use Rattle.std.specs.Prelude.{◌≡◌, true, false, List, ℕ, ◌*◌, ◌≤◌, ◌<◌, length, Some, None}
 use Rattle.gates.specs.Gate.{gates_of}
 use Rattle.gates.specs.Test.{first_bad, most_gates}
-use Rattle.gates.specs.declared.place.Place.TheVariants.{At, Nowhere}
 use Rattle.jury.specs.declared.shape.Shape.{Shape}
 use Rattle.jury.specs.Shape.{within_limits, ballot_bytes}
 use Rattle.jury.specs.Reason.{Reason, reason_at}
@@ -31,8 +30,8 @@ pub record GoodLines (s : Shape) (text : List ℕ) : Type 0 where
 -- Also every line is a gate, and no gate is bad.
 pub record GoodList (s : Shape) (text : List ℕ) : Type 0 where
   pub lines : GoodLines s text
-  pub well_formed : first_malformed 0 (lines_of text) ≡ Nowhere
-  pub good : first_bad (ballot_bytes s) 0 (gates_in (lines_of text)) ≡ Nowhere
+  pub well_formed : first_malformed 0 (lines_of text) ≡ None
+  pub good : first_bad (ballot_bytes s) 0 (gates_in (lines_of text)) ≡ None
 
 -- Reading: 1, 2, then 23 over all lines, 3 over all gates, and 24.
 pub record ReadOrder (s : Shape) (text output : List ℕ) : Type 0 where
@@ -41,10 +40,10 @@ pub record ReadOrder (s : Shape) (text output : List ℕ) : Type 0 where
       → read_outcome s text output ≡ refused (reason_at 2 0)
   pub too_many : within_limits s ≡ true → s.candidates ≤ length (lines_of text) → most_gates < length (lines_of text)
       → read_outcome s text output ≡ refused (reason_at 2 0)
-  pub malformed : (i : ℕ) → GoodLines s text → first_malformed 0 (lines_of text) ≡ At i
+  pub malformed : (i : ℕ) → GoodLines s text → first_malformed 0 (lines_of text) ≡ Some i
       → read_outcome s text output ≡ refused (reason_at 23 i)
-  pub bad_gate : (g : ℕ) → GoodLines s text → first_malformed 0 (lines_of text) ≡ Nowhere
-      → first_bad (ballot_bytes s) 0 (gates_in (lines_of text)) ≡ At g
+  pub bad_gate : (g : ℕ) → GoodLines s text → first_malformed 0 (lines_of text) ≡ None
+      → first_bad (ballot_bytes s) 0 (gates_in (lines_of text)) ≡ Some g
       → read_outcome s text output ≡ refused (reason_at 3 g)
   pub short : GoodList s text → length output < 4 * length (lines_of text)
       → read_outcome s text output ≡ refused (reason_at 24 0)

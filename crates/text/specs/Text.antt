@@ -1,9 +1,8 @@
 -- A list of gates as text, and the lines of a text.
-use Rattle.std.specs.Prelude.{cond, List, [], ◌∷◌, ◌++◌, ℕ, suc, eqb}
+use Rattle.std.specs.Prelude.{cond, List, [], ◌∷◌, ◌++◌, ℕ, suc, eqb, Some, None}
+use Rattle.std.specs.Prelude as rust
 use Rattle.std.proofs.Math.Option.{Option, none, some}
 use Rattle.gates.specs.Gate.{Gate}
-use Rattle.gates.specs.declared.place.Place.{Place}
-use Rattle.gates.specs.declared.place.Place.TheVariants.{At, Nowhere}
 use Rattle.text_lines.specs.Line.{line_feed, line_of, gate_of}
 
 -- The text of a list: one line for each gate.
@@ -22,13 +21,13 @@ lines_of [] = []
 lines_of (c ∷ cs) = cond (eqb c line_feed) ((c ∷ []) ∷ lines_of cs) (in_front c (lines_of cs))
 
 -- Place i if line i has no gate; else what was found in later lines.
-unfoldable pub malformed_at : Option Gate → ℕ → Place → Place
-malformed_at none i later = At i
+unfoldable pub malformed_at : Option Gate → ℕ → rust.Option ℕ → rust.Option ℕ
+malformed_at none i later = Some i
 malformed_at (some g) i later = later
 
 -- The first malformed line. The first of these lines is line i.
-unfoldable pub first_malformed : ℕ → List (List ℕ) → Place
-first_malformed i [] = Nowhere
+unfoldable pub first_malformed : ℕ → List (List ℕ) → rust.Option ℕ
+first_malformed i [] = None
 first_malformed i (line ∷ lines) = malformed_at (gate_of line) i (first_malformed (suc i) lines)
 
 -- Puts the gate of a line, if it has one, before the gates of later lines.

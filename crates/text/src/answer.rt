@@ -1,8 +1,9 @@
 // What writing and reading a text answer.
 ghost use Rattle.std.specs.Prelude.{◌≡◌};
+ghost use Rattle.text.specs.declared.answer.TextRefusal.TheVariants.{OfList};
 ghost use Rattle.text.specs.Answer.{text_reason_of};
 
-use jury::reason::Refusal;
+use jury::reason::{Numbered, Refusal};
 
 // Why a text, or a list to be written as text, is refused. The number in `Line` is the line, counted from 0.
 #[derive(Clone, Copy)]
@@ -13,17 +14,21 @@ pub enum TextRefusal {
 }
 
 // How many characters or numbers were written, or the first reason that applies.
-#[derive(Drop)]
-pub enum Answer {
-    Accepted { length: usize },
-    Refused(TextRefusal),
+pub type Answer = Result<usize, TextRefusal>;
+
+impl From<Refusal> for TextRefusal {
+    ghost from_gives = { λ reason refusal. refusal ≡ OfList reason };
+
+    fn from(reason: Refusal) -> TextRefusal {
+        TextRefusal::OfList(reason)
+    }
 }
 
-impl TextRefusal {
-    // The number of a reason.
-    pub fn number(self) -> usize
-        ensures { result ≡ (text_reason_of self).number }
-    {
+impl Numbered for TextRefusal {
+    ghost told = { text_reason_of };
+
+    #[tactic(auto, unfolding(crate::specs::Answer::text_reason_of, jury::specs::Reason::reason_at))]
+    fn number(self) -> usize {
         match self {
             TextRefusal::OfList(reason) => reason.number(),
             TextRefusal::Line(_) => 23,
@@ -31,10 +36,8 @@ impl TextRefusal {
         }
     }
 
-    // The place of a reason, 0 if it has none.
-    pub fn place(self) -> usize
-        ensures { result ≡ (text_reason_of self).place }
-    {
+    #[tactic(auto, unfolding(crate::specs::Answer::text_reason_of, jury::specs::Reason::reason_at))]
+    fn place(self) -> usize {
         match self {
             TextRefusal::OfList(reason) => reason.place(),
             TextRefusal::Line(i) => i,

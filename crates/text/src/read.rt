@@ -6,7 +6,6 @@ ghost use Rattle.text.specs.Read.{read_text_result};
 use crate::answer::{Answer, TextRefusal};
 use crate::scan;
 use gates::list::MOST_GATES;
-use gates::place::Place;
 use jury::reason::Refusal;
 use jury::shape::Shape;
 
@@ -16,24 +15,24 @@ pub fn read(shape: Shape, text: &[u8], output: &mut [u32]) -> Answer
         ≡ read_text_result shape text.now output.old }
 {
     if !shape.is_within_limits() {
-        return Answer::Refused(TextRefusal::OfList(Refusal::Shape));
+        return Err(TextRefusal::OfList(Refusal::Shape));
     }
     let lines = scan::line_count(text);
     if lines < shape.candidates {
-        return Answer::Refused(TextRefusal::OfList(Refusal::Table));
+        return Err(TextRefusal::OfList(Refusal::Table));
     }
     if MOST_GATES < lines {
-        return Answer::Refused(TextRefusal::OfList(Refusal::Table));
+        return Err(TextRefusal::OfList(Refusal::Table));
     }
-    if let Place::At(i) = scan::first_malformed(text) {
-        return Answer::Refused(TextRefusal::Line(i));
+    if let Some(i) = scan::first_malformed(text) {
+        return Err(TextRefusal::Line(i));
     }
-    if let Place::At(g) = scan::first_bad(shape.ballot_bytes(), text) {
-        return Answer::Refused(TextRefusal::OfList(Refusal::Gate(g)));
+    if let Some(g) = scan::first_bad(shape.ballot_bytes(), text) {
+        return Err(TextRefusal::OfList(Refusal::Gate(g)));
     }
     if output.len() < 4 * lines {
-        return Answer::Refused(TextRefusal::Output);
+        return Err(TextRefusal::Output);
     }
     scan::put_gates(text, output);
-    Answer::Accepted { length: 4 * lines }
+    Ok(4 * lines)
 }

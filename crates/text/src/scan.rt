@@ -6,7 +6,6 @@ ghost use Rattle.gates.specs.Test.{first_bad};
 ghost use Rattle.text.specs.Text.{lines_of, first_malformed, gates_in};
 ghost use Rattle.text.specs.inner.Scan.{ScanReady, PutReady};
 
-use gates::place::Place;
 use text_lines::line;
 use text_lines::line::{LINE_FEED, Line};
 
@@ -14,86 +13,64 @@ use text_lines::line::{LINE_FEED, Line};
 pub(crate) fn line_count(text: &[u8]) -> usize
     ensures { result ≡ length (lines_of text.now) }
 {
-    let mut lines: usize = 0;
-    let mut i = 0;
-    while i < text.len() {
-        if text[i] == LINE_FEED {
-            lines += 1;
-        }
-        i += 1;
-    }
-    if i == 0 {
+    if text.is_empty() {
         return 0;
     }
-    if text[i - 1] == LINE_FEED {
-        lines
+    let feeds = text.iter().filter(|c| **c == LINE_FEED).count();
+    if text[text.len() - 1] == LINE_FEED {
+        feeds
     } else {
-        lines + 1
+        feeds + 1
     }
 }
 
 // The number of the first malformed line.
-pub(crate) fn first_malformed(text: &[u8]) -> Place
+pub(crate) fn first_malformed(text: &[u8]) -> Option<usize>
     ensures { result ≡ first_malformed 0 (lines_of text.now) }
 {
     let mut at = 0;
     let mut i = 0;
+    // A `while`, here and below: each line says where the next one begins.
     while at < text.len() {
-        let Line::Gate {
-            kind: _,
-            a: _,
-            b: _,
-            c: _,
-            next,
-        } = line::gate_at(text, at)
-        else {
-            return Place::At(i);
+        let Some(line) = line::gate_at(text, at) else {
+            return Some(i);
         };
-        at = next;
+        at = line.next;
         i += 1;
     }
-    Place::Nowhere
+    None
 }
 
 // Whether all operands name wires before the gate's own one. An unused operand is read as 0, and wire 0 is an
 // input.
-fn are_below(own: usize, a: u32, b: u32, c: u32) -> bool
-    ensures { result ≡ (ltb a own && ltb b own && ltb c own) }
+fn are_below(own: usize, line: Line) -> bool
+    ensures { result ≡ (ltb line.a own && ltb line.b own && ltb line.c own) }
 {
-    if own <= a as usize {
+    if own <= line.a as usize {
         return false;
     }
-    if own <= b as usize {
+    if own <= line.b as usize {
         return false;
     }
-    (c as usize) < own
+    (line.c as usize) < own
 }
 
 // The first bad gate of a text whose lines are all gates.
-pub(crate) fn first_bad(inputs: usize, text: &[u8]) -> Place
+pub(crate) fn first_bad(inputs: usize, text: &[u8]) -> Option<usize>
     requires { ScanReady inputs text.now }
     ensures { result ≡ first_bad inputs 0 (gates_in (lines_of text.now)) }
 {
     let mut at = 0;
     let mut i = 0;
     while at < text.len() {
-        let Line::Gate {
-            kind,
-            a,
-            b,
-            c,
-            next,
-        } = line::gate_at(text, at)
-        else {
-            return Place::Nowhere;
-        };
-        if !are_below(inputs + i, a, b, c) {
-            return Place::At(i);
+        let line = line::gate_at(text, at)?;
+        if !are_below(inputs + i, line) {
+            return Some(i);
         }
-        at = next;
+        at = line.next;
         i += 1;
     }
-    Place::Nowhere
+    None
 }
 
 // Stores the numbers of a text whose lines are all gates.
@@ -105,21 +82,14 @@ pub(crate) fn put_gates(text: &[u8], output: &mut [u32])
     let mut at = 0;
     let mut i = 0;
     while at < text.len() {
-        let Line::Gate {
-            kind,
-            a,
-            b,
-            c,
-            next,
-        } = line::gate_at(text, at)
-        else {
+        let Some(line) = line::gate_at(text, at) else {
             return;
         };
-        output[i] = kind;
-        output[i + 1] = a;
-        output[i + 2] = b;
-        output[i + 3] = c;
-        at = next;
+        output[i] = line.kind;
+        output[i + 1] = line.a;
+        output[i + 2] = line.b;
+        output[i + 3] = line.c;
+        at = line.next;
         i += 4;
     }
 }

@@ -16,13 +16,10 @@ fn text_length(table: &[u32]) -> usize
     requires { length (gates_of table.now) ≤ most_gates }
     ensures { result ≡ length (text_of (gates_of table.now)) }
 {
-    let gates = table.len() / 4;
     let mut total: usize = 0;
-    let mut g: usize = 0;
-    while g < gates {
+    for g in 0..table.len() / 4 {
         let at = 4 * g;
         total += print::line_length(table[at], table[at + 1], table[at + 2], table[at + 3]);
-        g += 1;
     }
     total
 }
@@ -32,10 +29,8 @@ fn put_text(table: &[u32], output: &mut [u8])
     requires { length (text_of (gates_of table.now)) ≤ length output.old }
     ensures { output.new ≡ sets output.old 0 (text_of (gates_of table.now)) }
 {
-    let gates = table.len() / 4;
     let mut place = 0;
-    let mut g: usize = 0;
-    while g < gates {
+    for g in 0..table.len() / 4 {
         let at = 4 * g;
         place = print::put_line(
             table[at],
@@ -45,7 +40,6 @@ fn put_text(table: &[u32], output: &mut [u8])
             place,
             output,
         );
-        g += 1;
     }
 }
 
@@ -54,14 +48,11 @@ pub fn write(shape: Shape, table: &[u32], output: &mut [u8]) -> Answer
     ensures { record { answer = length_outcome result; output = output.new }
         ≡ write_text_result shape table.now output.old }
 {
-    let tested = tally::test::test(shape, table);
-    if let tally::answer::Answer::Refused(reason) = tested {
-        return Answer::Refused(TextRefusal::OfList(reason));
-    }
+    tally::test::test(shape, table)?;
     let length = text_length(table);
     if output.len() < length {
-        return Answer::Refused(TextRefusal::Output);
+        return Err(TextRefusal::Output);
     }
     put_text(table, output);
-    Answer::Accepted { length }
+    Ok(length)
 }

@@ -9,7 +9,7 @@ ghost use Rattle.urn.specs.inner.Ready.{DecideReady, Admissible};
 use crate::answer::Answer;
 use crate::facts::Facts;
 use crate::{facts, put};
-use jury::reason::{Refusal, Verdict};
+use jury::reason::Refusal;
 use jury::shape::Shape;
 
 // The largest number of a juror: it is kept in a byte.
@@ -50,9 +50,7 @@ fn decide(k: usize, d: usize, facts: Facts, juror: usize, ballot: &[u8]) -> Answ
         grades: d,
         ballots: 1,
     };
-    if let Verdict::Refused(reason) = jury::ballots::test(shape, ballot) {
-        return Err(reason);
-    }
+    jury::ballots::test(shape, ballot)?;
     if facts.full {
         return Err(Refusal::FullUrn);
     }

@@ -12,7 +12,10 @@ use lib.ListN.{length}
 use borrow.Author.Tests.{le-leb, lt-leb, leb-true, eq-eqb}
 use Rattle.jury.specs.declared.shape.Shape.{Shape}
 use Rattle.jury.specs.Shape.{graded_limits}
-use Rattle.jury.specs.Reason.{Reason, first_of}
+use Rattle.std.specs.Prelude.{Result, Ok, Err}
+use Rattle.std.specs.Result.{is_ok}
+use Rattle.jury.specs.declared.reason.Refusal.{Refusal}
+use Rattle.jury.specs.Reason.{Reason, refused_for, first_of}
 use Rattle.jury.specs.Ballots.{ballot_reasons}
 use Rattle.basics.proofs.Flags.{and_second, and_both, and_second_fails, T_true}
 use Rattle.jury.proofs.Limits.{within_T, graded_within, bytes_are}
@@ -56,3 +59,9 @@ good_graded k d xs h = by (no_reason o) refl
     by : (t : Bool) → no_reason o ≡ t → (eqb (length xs) (k * d) && no_reason o) ≡ no_reason o
     by true e = and_both (eqb (length xs) (k * d)) (no_reason o) (eq-eqb (length xs) (k * d) (long e)) e ∙ sym e
     by false e = and_second_fails (eqb (length xs) (k * d)) (no_reason o) e ∙ sym e
+
+-- no reason was found exactly if the test answers Ok
+pub passed_is_ok : (r : Result (Unit {0}) Refusal) → no_reason (refused_for r) ≡ is_ok r
+unfolding refused_for no_reason
+passed_is_ok (Ok u) = refl
+passed_is_ok (Err e) = refl

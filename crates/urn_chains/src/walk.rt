@@ -6,7 +6,6 @@ ghost use Rattle.urn_chains.specs.Sound.{graded_shape, good_juror, good_ballot, 
 ghost use Rattle.urn_chains.specs.inner.Table.{SlotTable, GradedTable};
 ghost use Rattle.urn_chains.specs.inner.Walk.{BallotLook, FreeLook, walked, no_marks, looked, ballot_at, free_at, ballots_from, free_from};
 
-use jury::reason::Verdict;
 use jury::shape::Shape;
 
 // What a walk along a chain of sound slots found: marks for all slots met so far, and the chain's length.
@@ -44,10 +43,8 @@ fn holds_ballot(k: usize, d: usize, juror: u8, ballot: &[u8]) -> bool
         grades: d,
         ballots: 1,
     };
-    match jury::ballots::test(shape, ballot) {
-        Verdict::Accepted => true,
-        Verdict::Refused(_) => false,
-    }
+    let tested = jury::ballots::test(shape, ballot);
+    tested.is_ok()
 }
 
 // Looks at a slot of the ballot chain.

@@ -10,6 +10,7 @@ use Rattle.jury.proofs.Limits.{graded_T}
 use Rattle.urn_chains.specs.Sound.{jury_of_one, good_juror}
 use Rattle.urn.specs.Facts.{counted_by}
 use Rattle.urn.specs.Admit.{admit_outcome_by}
+use Rattle.std.proofs.lemmas.Result.{err_from_is_err_and}
 use Rattle.urn.proofs.Outcomes.{admit_first_lem, admit_14, admit_ballot, admit_15, admit_none, outcome_refused, outcome_accepted, juror_present, juror_absent}
 use Rattle.basics.proofs.Flags.{and_first_fails}
 use Rattle.urn.proofs.admit.decide.Goals as goal
@@ -34,14 +35,16 @@ pub test-requires : goal.test-requires
 unfolding jury_of_one
 test-requires c = graded_T (jury_of_one c.args.k c.args.d) (c.requires.graded)
 
-pub returns-in-Refused : goal.returns-in-Refused
+pub returns-in_err-test : goal.returns-in_err-test
 unfolding admit_outcome_by counted_by jury_of_one refused_for
-returns-in-Refused c = let a = c.args in
-    outcome_refused _ _ _ (admit_first_lem a.k a.d (Some a.facts) a.juror a.ballot.now
+returns-in_err-test c =
+    let a = c.args in
+    let p = err_from_is_err_and c.from_residual.result c.from_residual.ensures.1 in
+    rw (p.1, p.2) (outcome_refused _ _ _ (admit_first_lem a.k a.d (Some a.facts) a.juror a.ballot.now
     ∙ admit_ballot _ _ _ _ _ _ (T_true _ c.requires.graded) refl
     (juror_absent (good_juror a.juror) a.facts.present
     (sym c.is_juror.ensures ∙ c.if-not-is_juror.false) c.if-facts.false)
-    (sym c.test.ensures ∙ ap refused_for c.in-Refused.is))
+    (sym c.in_err-test.ensures)))
 
 pub returns-then-facts-2 : goal.returns-then-facts-2
 unfolding admit_outcome_by counted_by jury_of_one refused_for reason_of
@@ -50,7 +53,7 @@ returns-then-facts-2 c = let a = c.args in
     ∙ admit_15 _ _ _ _ _ (T_true _ c.requires.graded) refl
     (juror_absent (good_juror a.juror) a.facts.present
     (sym c.is_juror.ensures ∙ c.if-not-is_juror.false) c.if-facts.false)
-    (sym c.test.ensures ∙ ap refused_for c.in_default.is) (ap not c.if-facts-2.true))
+    (sym c.in_ok-test.ensures) (ap not c.if-facts-2.true))
 
 pub returns : goal.returns
 unfolding admit_outcome_by counted_by jury_of_one refused_for
@@ -59,4 +62,4 @@ returns c = let a = c.args in
     ∙ admit_none _ _ _ _ _ (T_true _ c.requires.graded) refl
     (juror_absent (good_juror a.juror) a.facts.present
     (sym c.is_juror.ensures ∙ c.if-not-is_juror.false) c.if-facts.false)
-    (sym c.test.ensures ∙ ap refused_for c.in_default.is) (ap not c.if-facts-2.false))
+    (sym c.in_ok-test.ensures) (ap not c.if-facts-2.false))
