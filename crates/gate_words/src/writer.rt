@@ -24,7 +24,8 @@ fn operand(i: u32, count: u32, wire: u32) -> u32
     if i < count { wire } else { 0 }
 }
 
-// Stores the four numbers of a gate if the table has room for them.
+// Stores the four numbers of a gate if the table has room for them. One by one: `copy_from_slice` from an array was
+// measured to make each gate nearly twice as slow to write.
 fn store(table: &mut [u32], at: usize, kind: u32, a: u32, b: u32, c: u32)
     requires { at < 4 * writer_limit }
     ensures { table.new
@@ -32,7 +33,10 @@ fn store(table: &mut [u32], at: usize, kind: u32, a: u32, b: u32, c: u32)
         table.old }
 {
     if at + 3 < table.len() {
-        table[at..at + 4].copy_from_slice(&[kind, a, b, c]);
+        table[at] = kind;
+        table[at + 1] = a;
+        table[at + 2] = b;
+        table[at + 3] = c;
     }
 }
 
