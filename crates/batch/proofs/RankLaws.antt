@@ -1,6 +1,7 @@
 -- The tests of ranked ballots on words: a word that collects the findings of each turn says for each lane whether
 -- anything was found.
 -- Assumes nothing.
+use Rattle.std.specs.Prelude.{Option, Some, None}
 use mathlib.Core.Path.{◌≡◌, ◌∙◌, refl, sym, ap, ap₂}
 use mathlib.Core.Bool.{Bool, true, false, cond, not, ◌&&◌, ◌||◌}
 use mathlib.Core.List.{List}
@@ -10,8 +11,6 @@ use native.Mathlib.Omega.{arith}
 use lib.Bits.{bit_and, bit_or, bit_xor}
 use lib.Dec.{eqb}
 use lib.ListN.{get_or}
-use Rattle.gates.specs.declared.place.Place.{Place}
-use Rattle.gates.specs.declared.place.Place.TheVariants.{At, Nowhere}
 use Rattle.jury.specs.Rankings.{or_else, first_over}
 use Rattle.basics.specs.Below.{some_below}
 use Rattle.batch_lanes.specs.Lane.{lane_count, lane, lane_of}
@@ -44,11 +43,11 @@ pub both_lane : (u v w : ℕ) (s t : Bool) → lane u v ≡ bit s → lane u w �
 both_lane u v w s t e f = lane_and u v w ∙ ap₂ min e f ∙ min_and s t
 
 pub clash_lane : (u v w place : ℕ) (s t : Bool) → lane u v ≡ bit s → lane u w ≡ bit t → lane u (bit_and v w)
-    ≡ found_bit (cond (s && t) (At place) Nowhere)
+    ≡ found_bit (cond (s && t) (Some place) None)
 unfolding found_bit
 clash_lane u v w place s t e f = both_lane u v w s t e f ∙ found (s && t)
   where
-    found : (t : Bool) → bit t ≡ found_bit (cond t (At place) Nowhere)
+    found : (t : Bool) → bit t ≡ found_bit (cond t (Some place) None)
     found true = refl
     found false = refl
 
@@ -61,24 +60,24 @@ not_lane u w t h e = lane_xor u w 18446744073709551615 ∙ ap₂ (λ (x y : ℕ)
     flip false = refl
 
 -- the search that a test decides
-pub test_found : (t : Bool) (place : ℕ) → bit t ≡ found_bit (cond t (At place) Nowhere)
+pub test_found : (t : Bool) (place : ℕ) → bit t ≡ found_bit (cond t (Some place) None)
 unfolding found_bit
 test_found true place = refl
 test_found false place = refl
 
 -- the larger of two bits stands for two searches in order
-or_found : (p q : Place) → max (found_bit p) (found_bit q) ≡ found_bit (or_else p q)
+or_found : (p q : Option ℕ) → max (found_bit p) (found_bit q) ≡ found_bit (or_else p q)
 unfolding found_bit or_else
-or_found (At i) (At j) = refl
-or_found (At i) Nowhere = refl
-or_found Nowhere (At j) = refl
-or_found Nowhere Nowhere = refl
+or_found (Some i) (Some j) = refl
+or_found (Some i) None = refl
+or_found None (Some j) = refl
+or_found None None = refl
 
-pub found_none : (u : ℕ) (f : ℕ → Place) → lane u 0 ≡ found_bit (first_over 0 f)
+pub found_none : (u : ℕ) (f : ℕ → Option ℕ) → lane u 0 ≡ found_bit (first_over 0 f)
 unfolding found_bit first_over
 found_none u f = lane_none u
 
-pub found_more : (u i : ℕ) (f : ℕ → Place) (acc w : ℕ) → lane u acc ≡ found_bit (first_over i f) → lane u w
+pub found_more : (u i : ℕ) (f : ℕ → Option ℕ) (acc w : ℕ) → lane u acc ≡ found_bit (first_over i f) → lane u w
     ≡ found_bit (f i) → lane u (bit_or acc w) ≡ found_bit (first_over (i + 1) f)
 unfolding first_over
 found_more u i f acc w e g = lane_or u acc w ∙ ap₂ max e g ∙ or_found (first_over i f) (f i)

@@ -1,5 +1,7 @@
 -- The reasons of a run for 64 juries: which of them is the first, and what holds if none applies.
 -- Assumes nothing.
+use Rattle.std.specs.Prelude.{Some, None}
+use Rattle.std.specs.Prelude as prelude
 use mathlib.Core.Path.{◌≡◌, ◌∙◌, refl, sym, ap, subst}
 use mathlib.Core.Bool.{Bool, true, false, cond}
 use mathlib.Core.Option.{Option, none, some}
@@ -15,8 +17,6 @@ use Rattle.gates.specs.Gate.{gates_of}
 use Rattle.gates.specs.Board.{conditional_count}
 use Rattle.gates.specs.inner.Step.{RunReady}
 use Rattle.gates.specs.Test.{first_bad}
-use Rattle.gates.specs.declared.place.Place.{Place}
-use Rattle.gates.specs.declared.place.Place.TheVariants.{At, Nowhere}
 use Rattle.gates.proofs.Evaluating.{accepted_list}
 use Rattle.jury.specs.declared.shape.Shape.{Shape}
 use Rattle.jury.specs.Shape.{is_ranking, ballot_bytes}
@@ -39,7 +39,7 @@ use Rattle.tally.proofs.RunReasons.{three_passed}
 module _ (i k : ℕ) (size : Size) (tape wires board : List ℕ) where
   pub lent_by : (t u v : Bool) → eqb (length tape) size.conditional ≡ t → eqb (length wires) (i + size.gates)
       ≡ u → eqb (length board) (size.conditional + k) ≡ v
-      → first_of (word_buffer_reasons i k size tape wires board) ≡ lent_found t Nowhere u v
+      → first_of (word_buffer_reasons i k size tape wires board) ≡ lent_found t None u v
   unfolding word_buffer_reasons lent_found unless found_at first_of
   lent_by true u v e f g = rw (e, f, g)
   lent_by false u v e f g = rw e
@@ -60,7 +60,7 @@ module _ (i k : ℕ) (size : Size) (tape wires board : List ℕ) where
       let t = eqb (length tape) size.conditional in
       let u = eqb (length wires) (i + size.gates) in
       let v = eqb (length board) (size.conditional + k) in
-      let q = passed_by t Nowhere u v (sym (lent_by t u v refl refl refl) ∙ e) in
+      let q = passed_by t None u v (sym (lent_by t u v refl refl refl) ∙ e) in
       record {
         tape_length = eqb-true (length tape) size.conditional q.0;
         wires_length = eqb-true (length wires) (i + size.gates) q.2;
@@ -75,58 +75,58 @@ module _ (i k : ℕ) (size : Size) (tape wires board : List ℕ) where
       (eq-eqb (length board) (size.conditional + k) l.board_length)
 
 -- the searches in the ballots of one jury
-abbrev pub bad_row : Shape → List ℕ → Place
+abbrev pub bad_row : Shape → List ℕ → prelude.Option ℕ
 bad_row s xs = first_bad_row 0 (rows_of s.grades (s.ballots * s.candidates) xs)
 
-abbrev pub clash : Shape → List ℕ → Place
+abbrev pub clash : Shape → List ℕ → prelude.Option ℕ
 clash s = first_not_asymmetric s.candidates s.ballots
 
-abbrev pub not_weak_order : Shape → List ℕ → Place
+abbrev pub not_weak_order : Shape → List ℕ → prelude.Option ℕ
 not_weak_order s = first_not_weak_order s.candidates s.ballots
 
 -- the first reason of the tests of the shape's kind, from their outcomes
-unfoldable pub kind_found : Bool → Place → Place → Place → Option Reason
+unfoldable pub kind_found : Bool → prelude.Option ℕ → prelude.Option ℕ → prelude.Option ℕ → Option Reason
 kind_found ranking row clash not_weak_order = first_of (cond ranking (found_at 11 clash ∷ found_at 12 not_weak_order ∷ []) (found_at 6 row ∷ []))
 
 -- the tests of the shape's kind find nothing
-unfoldable pub Clear : Bool → Place → Place → Place → Type 0
-Clear true row clash not_weak_order = (clash ≡ Nowhere) × (not_weak_order ≡ Nowhere)
-Clear false row clash not_weak_order = row ≡ Nowhere
+unfoldable pub Clear : Bool → prelude.Option ℕ → prelude.Option ℕ → prelude.Option ℕ → Type 0
+Clear true row clash not_weak_order = (clash ≡ None) × (not_weak_order ≡ None)
+Clear false row clash not_weak_order = row ≡ None
 
-kind_clear : (t : Bool) (p c g : Place) → kind_found t p c g ≡ none → Clear t p c g
+kind_clear : (t : Bool) (p c g : prelude.Option ℕ) → kind_found t p c g ≡ none → Clear t p c g
 unfolding kind_found Clear found_at first_of
-kind_clear true p (At i) g e = let z : ◌≡◌ {A = ℕ} 0 1 = cc in absurd (omega arith)
-kind_clear true p Nowhere (At i) e = let z : ◌≡◌ {A = ℕ} 0 1 = cc in absurd (omega arith)
-kind_clear true p Nowhere Nowhere e = (refl, refl)
-kind_clear false (At i) c g e = let z : ◌≡◌ {A = ℕ} 0 1 = cc in absurd (omega arith)
-kind_clear false Nowhere c g e = refl
+kind_clear true p (Some i) g e = let z : ◌≡◌ {A = ℕ} 0 1 = cc in absurd (omega arith)
+kind_clear true p None (Some i) e = let z : ◌≡◌ {A = ℕ} 0 1 = cc in absurd (omega arith)
+kind_clear true p None None e = (refl, refl)
+kind_clear false (Some i) c g e = let z : ◌≡◌ {A = ℕ} 0 1 = cc in absurd (omega arith)
+kind_clear false None c g e = refl
 
-clear_kind : (t : Bool) (p c g : Place) → Clear t p c g → kind_found t p c g ≡ none
+clear_kind : (t : Bool) (p c g : prelude.Option ℕ) → Clear t p c g → kind_found t p c g ≡ none
 unfolding kind_found Clear found_at first_of
-clear_kind true p c g h = ap (λ (q : Place). kind_found true p q g) h.0 ∙ ap (kind_found true p Nowhere) h.1
-clear_kind false p c g h = ap (λ (q : Place). kind_found false q c g) h
+clear_kind true p c g h = ap (λ (q : prelude.Option ℕ). kind_found true p q g) h.0 ∙ ap (kind_found true p None) h.1
+clear_kind false p c g h = ap (λ (q : prelude.Option ℕ). kind_found false q c g) h
 
 -- the first jury in which a search finds something
-abbrev pub over : (ℕ → Place) → Place
+abbrev pub over : (ℕ → prelude.Option ℕ) → prelude.Option ℕ
 over f = first_over lane_count (λ j. in_jury j (f j))
 
-pub in_no_jury : (j : ℕ) (p : Place) → in_jury j p ≡ Nowhere → p ≡ Nowhere
+pub in_no_jury : (j : ℕ) (p : prelude.Option ℕ) → in_jury j p ≡ None → p ≡ None
 unfolding in_jury
-in_no_jury j (At i) e = let z : ◌≡◌ {A = ℕ} 0 1 = cc in absurd (omega arith)
-in_no_jury j Nowhere e = refl
+in_no_jury j (Some i) e = let z : ◌≡◌ {A = ℕ} 0 1 = cc in absurd (omega arith)
+in_no_jury j None e = refl
 
-not_in_jury : (j : ℕ) (p : Place) → p ≡ Nowhere → in_jury j p ≡ Nowhere
+not_in_jury : (j : ℕ) (p : prelude.Option ℕ) → p ≡ None → in_jury j p ≡ None
 unfolding in_jury
 not_in_jury j p e = ap (in_jury j) e
 
-pub none_over : (f : ℕ → Place) → over f ≡ Nowhere → (j : ℕ) → j < lane_count → f j ≡ Nowhere
+pub none_over : (f : ℕ → prelude.Option ℕ) → over f ≡ None → (j : ℕ) → j < lane_count → f j ≡ None
 none_over f e j h = in_no_jury j (f j) (none_first (λ j. in_jury j (f j)) lane_count e j h)
 
-over_none : (f : ℕ → Place) → ((j : ℕ) → j < lane_count → f j ≡ Nowhere) → over f ≡ Nowhere
+over_none : (f : ℕ → prelude.Option ℕ) → ((j : ℕ) → j < lane_count → f j ≡ None) → over f ≡ None
 over_none f e = first_none (λ j. in_jury j (f j)) lane_count (λ j h. not_in_jury j (f j) (e j h))
 
 -- if the tests over all juries find nothing, those of each jury find nothing
-pub none_in_juries : (t : Bool) (p c g : ℕ → Place) → kind_found t (over p) (over c) (over g) ≡ none → (j : ℕ) → j
+pub none_in_juries : (t : Bool) (p c g : ℕ → prelude.Option ℕ) → kind_found t (over p) (over c) (over g) ≡ none → (j : ℕ) → j
     < lane_count → kind_found t (p j) (c j) (g j) ≡ none
 unfolding Clear
 none_in_juries t p c g e j h = clear_kind t (p j) (c j) (g j) (each t (kind_clear t (over p) (over c) (over g) e))
@@ -135,7 +135,7 @@ none_in_juries t p c g e j h = clear_kind t (p j) (c j) (g j) (each t (kind_clea
     each true q = (none_over c q.0 j h, none_over g q.1 j h)
     each false q = none_over p q j h
 
-juries_none : (t : Bool) (p c g : ℕ → Place) → ((j : ℕ) → j < lane_count → kind_found t (p j) (c j) (g j) ≡ none)
+juries_none : (t : Bool) (p c g : ℕ → prelude.Option ℕ) → ((j : ℕ) → j < lane_count → kind_found t (p j) (c j) (g j) ≡ none)
     → kind_found t (over p) (over c) (over g) ≡ none
 unfolding Clear
 juries_none t p c g e = clear_kind t (over p) (over c) (over g) (all t (λ j h. kind_clear t (p j) (c j) (g j) (e j h)))

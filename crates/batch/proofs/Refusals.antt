@@ -1,5 +1,7 @@
 -- A refused call for 64 juries, compared with their single runs.
 -- Assumes nothing.
+use Rattle.std.specs.Prelude.{Some, None}
+use Rattle.std.specs.Prelude as prelude
 use mathlib.Core.Path.{◌≡◌, ◌∙◌, refl, sym, ap, subst}
 use mathlib.Core.Bool.{Bool, true, false, not, true≢false}
 use mathlib.Core.Logic.{◌≢◌}
@@ -12,8 +14,6 @@ use lib.ListN.{length}
 use Rattle.basics.specs.Lists.{all, member}
 use Rattle.basics.proofs.Flags.{T_true, true_T, never_true}
 use Rattle.gates.specs.Gate.{gates_of}
-use Rattle.gates.specs.declared.place.Place.{Place}
-use Rattle.gates.specs.declared.place.Place.TheVariants.{At, Nowhere}
 use Rattle.gates.proofs.Hiding.{none_above}
 use Rattle.jury.specs.declared.shape.Shape.{Shape}
 use Rattle.jury.specs.Shape.{is_ranking, ballot_bytes}
@@ -42,9 +42,9 @@ number_is : (n place : ℕ) (r : Reason) → some (reason_at n place) ≡ some r
 unfolding reason_at
 number_is n place r e = let same : reason_at n place ≡ r = cc in ap (λ (x : Reason). x.number) same
 
-place_is : (n place : ℕ) (r : Reason) → some (reason_at n place) ≡ some r → At place ≡ At r.place
+place_is : (n place : ℕ) (r : Reason) → some (reason_at n place) ≡ some r → Some place ≡ Some r.place
 unfolding reason_at
-place_is n place r e = let same : reason_at n place ≡ r = cc in ap (λ (x : Reason). At x.place) same
+place_is n place r e = let same : reason_at n place ≡ r = cc in ap (λ (x : Reason). Some x.place) same
 
 -- a reason with one of these numbers is not about the contents of ballots
 other : (ns : List ℕ) → T (all (λ n. not (member n ballot_kind_reason_numbers)) ns) → (r : Reason) → T (has_number_in ns r)
@@ -59,23 +59,23 @@ unfolding all member reason_at
 test_other s table r e = other test_reason_numbers tt r (first_number test_reason_numbers (test_reasons s table) (test_all s table) r e)
 
 -- p is the first of m juries in which something is found
-abbrev Found : ℕ → ℕ → (ℕ → Place) → Type 0
-Found m p f = (p < m) × ((row : ℕ) × (f p ≡ At row)) × ((j : ℕ) → j < p → f j ≡ Nowhere)
+abbrev Found : ℕ → ℕ → (ℕ → prelude.Option ℕ) → Type 0
+Found m p f = (p < m) × ((row : ℕ) × (f p ≡ Some row)) × ((j : ℕ) → j < p → f j ≡ None)
 
-found_here : (m p : ℕ) (f : ℕ → Place) (q : Place) → f m ≡ q → in_jury m q ≡ At p → ((j : ℕ) → j < m → f j ≡ Nowhere) → Found (suc m) p f
+found_here : (m p : ℕ) (f : ℕ → prelude.Option ℕ) (q : prelude.Option ℕ) → f m ≡ q → in_jury m q ≡ Some p → ((j : ℕ) → j < m → f j ≡ None) → Found (suc m) p f
 unfolding in_jury
-found_here m p f (At row) q e before =
+found_here m p f (Some row) q e before =
     let same : m ≡ p = cc in
     (omega arith, (row, ap f (sym same) ∙ q), λ j h. before j (omega arith))
-found_here m p f Nowhere q e before = let z : ◌≡◌ {A = ℕ} 0 1 = cc in absurd (omega arith)
+found_here m p f None q e before = let z : ◌≡◌ {A = ℕ} 0 1 = cc in absurd (omega arith)
 
-found_by : (m p : ℕ) (f : ℕ → Place) (q : Place) → first_over m (λ j. in_jury j (f j)) ≡ q → (q ≡ At p → Found m p f)
-    → or_else q (in_jury m (f m)) ≡ At p → Found (suc m) p f
+found_by : (m p : ℕ) (f : ℕ → prelude.Option ℕ) (q : prelude.Option ℕ) → first_over m (λ j. in_jury j (f j)) ≡ q → (q ≡ Some p → Found m p f)
+    → or_else q (in_jury m (f m)) ≡ Some p → Found (suc m) p f
 unfolding or_else
-found_by m p f (At x) q rest e = let r = rest e in (omega (arith, r.0), r.1, r.2)
-found_by m p f Nowhere q rest e = found_here m p f (f m) refl e (λ j h. in_no_jury j (f j) (none_first (λ j. in_jury j (f j)) m q j h))
+found_by m p f (Some x) q rest e = let r = rest e in (omega (arith, r.0), r.1, r.2)
+found_by m p f None q rest e = found_here m p f (f m) refl e (λ j h. in_no_jury j (f j) (none_first (λ j. in_jury j (f j)) m q j h))
 
-first_found : (m p : ℕ) (f : ℕ → Place) → first_over m (λ j. in_jury j (f j)) ≡ At p → Found m p f
+first_found : (m p : ℕ) (f : ℕ → prelude.Option ℕ) → first_over m (λ j. in_jury j (f j)) ≡ Some p → Found m p f
 unfolding first_over
 first_found zero p f e = let z : ◌≡◌ {A = ℕ} 0 1 = cc in absurd (omega arith)
 first_found (suc m) p f e = found_by m p f (first_over m (λ j. in_jury j (f j))) refl (first_found m p f) e
@@ -110,47 +110,47 @@ kind_number s words r e =
 
 -- a fault over all juries is one of jury j₀, and no jury before has a fault with the same number; if the number is
 -- 12, no jury has 11
-abbrev Faulty : Bool → (ℕ → Place) → (ℕ → Place) → (ℕ → Place) → ℕ → ℕ → Type 0
+abbrev Faulty : Bool → (ℕ → prelude.Option ℕ) → (ℕ → prelude.Option ℕ) → (ℕ → prelude.Option ℕ) → ℕ → ℕ → Type 0
 Faulty t p c g n j₀ =
     (j₀ < lane_count) × ((place : ℕ) × (kind_found t (p j₀) (c j₀) (g j₀) ≡ some (reason_at n place)))
     × ((j place : ℕ) → j < j₀ → kind_found t (p j) (c j) (g j) ≡ some (reason_at n place) → ⊥)
     × (n ≡ 12 → (j place : ℕ) → j < lane_count → kind_found t (p j) (c j) (g j) ≡ some (reason_at 11 place) → ⊥)
 
 -- the answers of the tests of each kind, given an outcome
-row_at : (p c g : Place) (i : ℕ) → p ≡ At i → kind_found false p c g ≡ some (reason_at 6 i)
+row_at : (p c g : prelude.Option ℕ) (i : ℕ) → p ≡ Some i → kind_found false p c g ≡ some (reason_at 6 i)
 unfolding kind_found found_at first_of
-row_at p c g i e = ap (λ (x : Place). kind_found false x c g) e
+row_at p c g i e = ap (λ (x : prelude.Option ℕ). kind_found false x c g) e
 
-row_not : (p c g : Place) (r : Reason) → p ≡ Nowhere → kind_found false p c g ≡ some r → ⊥
+row_not : (p c g : prelude.Option ℕ) (r : Reason) → p ≡ None → kind_found false p c g ≡ some r → ⊥
 unfolding kind_found found_at first_of
-row_not p c g r e f = let h = sym (ap (λ (x : Place). kind_found false x c g) e) ∙ f in let z : ◌≡◌ {A = ℕ} 0 1 = cc in omega arith
+row_not p c g r e f = let h = sym (ap (λ (x : prelude.Option ℕ). kind_found false x c g) e) ∙ f in let z : ◌≡◌ {A = ℕ} 0 1 = cc in omega arith
 
-clash_at : (p c g : Place) (i : ℕ) → c ≡ At i → kind_found true p c g ≡ some (reason_at 11 i)
+clash_at : (p c g : prelude.Option ℕ) (i : ℕ) → c ≡ Some i → kind_found true p c g ≡ some (reason_at 11 i)
 unfolding kind_found found_at first_of
-clash_at p c g i e = ap (λ (x : Place). kind_found true p x g) e
+clash_at p c g i e = ap (λ (x : prelude.Option ℕ). kind_found true p x g) e
 
-clash_not : (p c g : Place) (i : ℕ) → c ≡ Nowhere → kind_found true p c g ≡ some (reason_at 11 i) → ⊥
+clash_not : (p c g : prelude.Option ℕ) (i : ℕ) → c ≡ None → kind_found true p c g ≡ some (reason_at 11 i) → ⊥
 unfolding kind_found found_at first_of reason_at
-clash_not p c g i e f = only g (sym (ap (λ (x : Place). kind_found true p x g) e) ∙ f)
+clash_not p c g i e f = only g (sym (ap (λ (x : prelude.Option ℕ). kind_found true p x g) e) ∙ f)
   where
-    only : (g : Place) → kind_found true p Nowhere g ≡ some (reason_at 11 i) → ⊥
-    only (At x) f = let z = number_is 12 x (reason_at 11 i) f in omega arith
-    only Nowhere f = let z : ◌≡◌ {A = ℕ} 0 1 = cc in omega arith
+    only : (g : prelude.Option ℕ) → kind_found true p None g ≡ some (reason_at 11 i) → ⊥
+    only (Some x) f = let z = number_is 12 x (reason_at 11 i) f in omega arith
+    only None f = let z : ◌≡◌ {A = ℕ} 0 1 = cc in omega arith
 
-gap_at : (p c g : Place) (i : ℕ) → c ≡ Nowhere → g ≡ At i → kind_found true p c g ≡ some (reason_at 12 i)
+gap_at : (p c g : prelude.Option ℕ) (i : ℕ) → c ≡ None → g ≡ Some i → kind_found true p c g ≡ some (reason_at 12 i)
 unfolding kind_found found_at first_of
-gap_at p c g i e f = ap (λ (x : Place). kind_found true p x g) e ∙ ap (kind_found true p Nowhere) f
+gap_at p c g i e f = ap (λ (x : prelude.Option ℕ). kind_found true p x g) e ∙ ap (kind_found true p None) f
 
-gap_not : (p c g : Place) (r : Reason) → c ≡ Nowhere → g ≡ Nowhere → kind_found true p c g ≡ some r → ⊥
+gap_not : (p c g : prelude.Option ℕ) (r : Reason) → c ≡ None → g ≡ None → kind_found true p c g ≡ some r → ⊥
 unfolding kind_found found_at first_of
 gap_not p c g r e f h =
-    let k = sym (ap (λ (x : Place). kind_found true p x g) e ∙ ap (kind_found true p Nowhere) f) ∙ h in
+    let k = sym (ap (λ (x : prelude.Option ℕ). kind_found true p x g) e ∙ ap (kind_found true p None) f) ∙ h in
     let z : ◌≡◌ {A = ℕ} 0 1 = cc in omega arith
 
-faulty : (t : Bool) (p c g : ℕ → Place) (x y z : Place) (r : Reason) → over p ≡ x → over c ≡ y → over g ≡ z
+faulty : (t : Bool) (p c g : ℕ → prelude.Option ℕ) (x y z : prelude.Option ℕ) (r : Reason) → over p ≡ x → over c ≡ y → over g ≡ z
     → kind_found t x y z ≡ some r → Faulty t p c g r.number r.place
 unfolding kind_found found_at first_of
-faulty false p c g (At i) y z r ep ec eg e =
+faulty false p c g (Some i) y z r ep ec eg e =
     let f = first_found lane_count r.place p (ep ∙ place_is 6 i r e) in
     subst (λ (n : ℕ). Faulty false p c g n r.place) (number_is 6 i r e) (
       f.0,
@@ -158,8 +158,8 @@ faulty false p c g (At i) y z r ep ec eg e =
       λ j place h. row_not (p j) (c j) (g j) (reason_at 6 place) (f.2 j h),
       λ n j place h x. omega (arith, n),
     )
-faulty false p c g Nowhere y z r ep ec eg e = let o : ◌≡◌ {A = ℕ} 0 1 = cc in absurd (omega arith)
-faulty true p c g x (At i) z r ep ec eg e =
+faulty false p c g None y z r ep ec eg e = let o : ◌≡◌ {A = ℕ} 0 1 = cc in absurd (omega arith)
+faulty true p c g x (Some i) z r ep ec eg e =
     let f = first_found lane_count r.place c (ec ∙ place_is 11 i r e) in
     subst (λ (n : ℕ). Faulty true p c g n r.place) (number_is 11 i r e) (
       f.0,
@@ -167,7 +167,7 @@ faulty true p c g x (At i) z r ep ec eg e =
       λ j place h. clash_not (p j) (c j) (g j) place (f.2 j h),
       λ n j place h x. omega (arith, n),
     )
-faulty true p c g x Nowhere (At i) r ep ec eg e =
+faulty true p c g x None (Some i) r ep ec eg e =
     let f = first_found lane_count r.place g (eg ∙ place_is 12 i r e) in
     subst (λ (n : ℕ). Faulty true p c g n r.place) (number_is 12 i r e) (
       f.0,
@@ -175,10 +175,10 @@ faulty true p c g x Nowhere (At i) r ep ec eg e =
       λ j place h. gap_not (p j) (c j) (g j) (reason_at 12 place) (none_over c ec j (omega (arith, f.0))) (f.2 j h),
       λ n j place h. clash_not (p j) (c j) (g j) place (none_over c ec j h),
     )
-faulty true p c g x Nowhere Nowhere r ep ec eg e = let o : ◌≡◌ {A = ℕ} 0 1 = cc in absurd (omega arith)
+faulty true p c g x None None r ep ec eg e = let o : ◌≡◌ {A = ℕ} 0 1 = cc in absurd (omega arith)
 
 -- if all bytes are bits, 5 never applies
-judged_bits : (sz : Bool) (k : Option Reason) → judged sz Nowhere k ≡ ballots_found sz k
+judged_bits : (sz : Bool) (k : Option Reason) → judged sz None k ≡ ballots_found sz k
 unfolding judged ballots_found unless found_at first_of
 judged_bits true k = refl
 judged_bits false k = refl
@@ -198,7 +198,7 @@ module _ (c : Call) where
 
   batch_reason : first_of (batch_reasons c)
       ≡ single.first_of_three (first_of (test_reasons c.shape c.table))
-      (ballots_found size_right (first_of (word_ballot_kind_reasons c.shape c.ballots))) (lent_found tape_right Nowhere wires_right board_right)
+      (ballots_found size_right (first_of (word_ballot_kind_reasons c.shape c.ballots))) (lent_found tape_right None wires_right board_right)
   batch_reason =
       batch_first c
       ∙ ap (λ (o : Option Reason). single.first_of_three (first_of (test_reasons c.shape c.table)) o
@@ -215,13 +215,13 @@ module _ (c : Call) where
       (lane_of j c.board))
       ≡ single.first_of_three (first_of (test_reasons c.shape c.table))
       (ballots_found size_right (first_of (ballot_kind_reasons c.shape (lane_of j c.ballots))))
-      (lent_found tape_right Nowhere wires_right board_right)
+      (lent_found tape_right None wires_right board_right)
   alone_reason j =
       single.run_first c.shape c.table (lane_of j c.ballots) (lane_of j c.tape) (lane_of j c.wires) (lane_of j c.board)
       ∙ ap (λ (o : Option Reason). single.first_of_three (first_of (test_reasons c.shape c.table)) o
       (first_of (buffer_reasons (ballot_bytes c.shape) c.shape.candidates (size_of (gates_of c.table))
       (lane_of j c.tape) (lane_of j c.wires) (lane_of j c.board))))
-      (judged_by c.shape (lane_of j c.ballots) size_right Nowhere
+      (judged_by c.shape (lane_of j c.ballots) size_right None
       (first_of (ballot_kind_reasons c.shape (lane_of j c.ballots)))
       (ap (λ (n : ℕ). eqb n (ballot_bytes c.shape)) (lanes_length j c.ballots))
       (none_above 0 (lane_of j c.ballots) (lanes_bits j c.ballots)) refl
@@ -229,14 +229,14 @@ module _ (c : Call) where
       ∙ ap (single.first_of_three (first_of (test_reasons c.shape c.table))
       (ballots_found size_right (first_of (ballot_kind_reasons c.shape (lane_of j c.ballots)))))
       (single.lent_by (ballot_bytes c.shape) c.shape.candidates (size_of (gates_of c.table))
-      (lane_of j c.tape) (lane_of j c.wires) (lane_of j c.board) tape_right Nowhere wires_right board_right
+      (lane_of j c.tape) (lane_of j c.wires) (lane_of j c.board) tape_right None wires_right board_right
       (ap (λ (n : ℕ). eqb n (size_of (gates_of c.table)).conditional) (lanes_length j c.tape))
       (none_above 0 (lane_of j c.tape) (lanes_bits j c.tape))
       (ap (λ (n : ℕ). eqb n (ballot_bytes c.shape + (size_of (gates_of c.table)).gates)) (lanes_length j c.wires))
       (ap (λ (n : ℕ). eqb n ((size_of (gates_of c.table)).conditional + c.shape.candidates)) (lanes_length j c.board)))
 
   -- no reason of the buffers is about the contents of ballots
-  lent_other : (r : Reason) → lent_found tape_right Nowhere wires_right board_right ≡ some r → is_of_ballots r ≡ false
+  lent_other : (r : Reason) → lent_found tape_right None wires_right board_right ≡ some r → is_of_ballots r ≡ false
   unfolding all member reason_at
   lent_other r e =
       let size = size_of (gates_of c.table) in
@@ -287,13 +287,13 @@ module _ (c : Call) where
         (lane_of j c.board) (some r) e)
 
 -- the three searches, for jury j
-abbrev rows : Shape → List ℕ → ℕ → Place
+abbrev rows : Shape → List ℕ → ℕ → prelude.Option ℕ
 rows s ballots j = bad_row s (lane_of j ballots)
 
-abbrev clashes : Shape → List ℕ → ℕ → Place
+abbrev clashes : Shape → List ℕ → ℕ → prelude.Option ℕ
 clashes s ballots j = clash s (lane_of j ballots)
 
-abbrev disorders : Shape → List ℕ → ℕ → Place
+abbrev disorders : Shape → List ℕ → ℕ → prelude.Option ℕ
 disorders s ballots j = not_weak_order s (lane_of j ballots)
 
 pub refused_as_alone : RefusedAsAlone
@@ -326,7 +326,7 @@ clash_of_ballots place = refl
 
 pub fault_as_alone : FaultAsAlone
 fault_as_alone c r e n =
-    let l = lent_found (tape_right c) Nowhere (wires_right c) (board_right c) in
+    let l = lent_found (tape_right c) None (wires_right c) (board_right c) in
     let o = is_of_kind (first_of (test_reasons c.shape c.table)) (size_right c)
     (first_of (word_ballot_kind_reasons c.shape c.ballots)) l r (λ t. true≢false (sym n ∙ test_other c.shape c.table r t))
     (λ t. true≢false (sym n ∙ lent_other c r t)) (not_4 r n) (sym (batch_reason c) ∙ batch_refused c r e) in
@@ -350,7 +350,7 @@ fault_as_alone c r e n =
         → first_of (run_reasons c.shape c.table (lane_of j c.ballots) (lane_of j c.tape)
         (lane_of j c.wires) (lane_of j c.board))
         ≡ single.first_of_three none (ballots_found true (first_of (ballot_kind_reasons c.shape (lane_of j c.ballots))))
-        (lent_found (tape_right c) Nowhere (wires_right c) (board_right c))
+        (lent_found (tape_right c) None (wires_right c) (board_right c))
     passed a b j = alone_reason c j ∙ rw (a, b)
 
     -- a single run that is refused for the contents of its ballots
@@ -361,5 +361,5 @@ fault_as_alone c r e n =
     its_kind a b j q m x =
         sym (alone_kind c.shape (lane_of j c.ballots))
         ∙ (is_of_kind none true (first_of (ballot_kind_reasons c.shape (lane_of j c.ballots)))
-        (lent_found (tape_right c) Nowhere (wires_right c) (board_right c)) q
+        (lent_found (tape_right c) None (wires_right c) (board_right c)) q
         (λ z. no_reason q z) (λ t. true≢false (sym m ∙ lent_other c q t)) (not_4 q m) (sym (passed a b j) ∙ alone_refused c j q x)).2

@@ -1,18 +1,20 @@
 -- Rows of 64 juries at once: what the words `once` and `twice` say about each lane, and what a word of faults says
 -- about each lane's first bad row.
 -- Assumes nothing.
+use Rattle.std.specs.Prelude.{Option, Some, None}
 use mathlib.Core.Path.{◌≡◌, ◌∙◌, refl, sym, ap, ap₂}
 use mathlib.Core.Bool.{Bool, true, false, cond}
 use mathlib.Core.Logic.{⊎_elim}
 use mathlib.Core.List.{List}
-use Prim.Native.Nat.{ℕ, zero, suc, ◌+◌, ◌-◌, ◌%◌, ◌≤◌, ◌<◌, min, max}
+use Prim.Native.Nat.{ℕ, zero, suc, ◌+◌, ◌-◌, ◌*◌, ◌%◌, ◌≤◌, ◌<◌, min, max}
+use native.Mathlib.Nat.{zero-mul, suc-mul, sub-zero, zero-max}
+use native.Mathlib.Numerals.{add-one}
 use native.Mathlib.Omega.{arith}
 use lib.Bits.{bit_and, bit_or, bit_xor}
 use lib.Dec.{eqb}
 use lib.ListN.{length, get_or, take, drop}
+use lib.Seq.{drop-drop}
 use borrow.Author.Tests.{ne_eqb, eqb-true, eqb-false}
-use Rattle.gates.specs.declared.place.Place.{Place}
-use Rattle.gates.specs.declared.place.Place.TheVariants.{At, Nowhere}
 use Rattle.jury.specs.Ballots.{ones, rows_of, first_bad_row}
 use Rattle.jury.proofs.BallotLaws.{ones_here, ones_later, bad_here, bad_later}
 use Rattle.batch_lanes.specs.Lane.{lane_count, lane, lane_of}
@@ -108,10 +110,10 @@ row_end j h words once twice i r e =
     ∙ bad_by r.count ∙ ap (λ (n : ℕ). cond {A = ℕ} (eqb n 1) 0 1) m
 
 -- the faults so far, and those of the rows that are left
-found_bit_lem : (p : Place) → found_bit p ≤ 1
+found_bit_lem : (p : Option ℕ) → found_bit p ≤ 1
 unfolding found_bit
-found_bit_lem (At i) = omega arith
-found_bit_lem Nowhere = omega arith
+found_bit_lem (Some i) = omega arith
+found_bit_lem None = omega arith
 
 pub rows_turn : (j d row rows faults fault : ℕ) (xs : List ℕ) → row < rows → lane j fault ≡ cond (eqb (ones (take d xs)) 1) 0 1
     → max (lane j (bit_or faults fault)) (found_bit (first_bad_row (suc row) (rows_of d (rows - suc row) (drop d xs))))
@@ -126,13 +128,32 @@ rows_turn j d row rows faults fault xs h e = go (eqb (ones (take d xs)) 1) refl
     go true p =
         let f : lane j fault ≡ 0 = e ∙ ap (λ (t : Bool). cond {A = ℕ} t 0 1) p in
         let o : lane j (bit_or faults fault) ≡ lane j faults = lane_or j faults fault ∙ omega arith in
-        ap₂ (λ (x : ℕ) (q : Place). max x (found_bit q)) o (sym (bad_later d row rows xs h (eqb-true (ones (take d xs)) 1 p)))
+        ap₂ (λ (x : ℕ) (q : Option ℕ). max x (found_bit q)) o (sym (bad_later d row rows xs h (eqb-true (ones (take d xs)) 1 p)))
     go false p =
         let f : lane j fault ≡ 1 = e ∙ ap (λ (t : Bool). cond {A = ℕ} t 0 1) p in
         let o : lane j (bit_or faults fault) ≡ 1 = lane_or j faults fault ∙ omega (arith, lane_bit j faults) in
-        let here : first_bad_row row (rows_of d (rows - row) xs) ≡ At row = bad_here d row rows xs h (eqb-false (ones (take d xs)) 1 p) in
+        let here : first_bad_row row (rows_of d (rows - row) xs) ≡ Some row = bad_here d row rows xs h (eqb-false (ones (take d xs)) 1 p) in
         let rest = found_bit_lem (first_bad_row (suc row) (rows_of d (rows - suc row) (drop d xs))) in
         let left : max (lane j (bit_or faults fault))
         (found_bit (first_bad_row (suc row) (rows_of d (rows - suc row) (drop d xs)))) ≡ 1 = omega arith in
         let right : max (lane j faults) 1 ≡ 1 = omega (arith, lane_bit j faults) in
-        left ∙ sym (ap (λ (q : Place). max (lane j faults) (found_bit q)) here ∙ right)
+        left ∙ sym (ap (λ (q : Option ℕ). max (lane j faults) (found_bit q)) here ∙ right)
+
+-- the same with the rows that are left as those from row `row` on
+pub rows_start : (j d rows : ℕ) (xs : List ℕ) → max (lane j 0) (found_bit (first_bad_row 0 (rows_of d (rows - 0) (drop (0 * d) xs))))
+    ≡ found_bit (first_bad_row 0 (rows_of d rows xs))
+rows_start j d rows xs = rw (lane_none j, zero-mul d, sub-zero rows) (zero-max (found_bit (first_bad_row 0 (rows_of d rows xs))))
+
+pub rows_more : (j d row rows faults fault : ℕ) (xs : List ℕ) → row < rows
+    → lane j fault ≡ cond (eqb (ones (take d (drop (row * d) xs))) 1) 0 1
+    → max (lane j (bit_or faults fault))
+    (found_bit (first_bad_row (row + 1) (rows_of d (rows - (row + 1)) (drop ((row + 1) * d) xs))))
+    ≡ max (lane j faults) (found_bit (first_bad_row row (rows_of d (rows - row) (drop (row * d) xs))))
+rows_more j d row rows faults fault xs h e =
+    let new = lane j (bit_or faults fault) in
+    let next : (row + 1) * d ≡ row * d + d = omega (arith, ap (λ (n : ℕ). n * d) (add-one row), suc-mul row d) in
+    ap (λ (n : ℕ). max new (found_bit (first_bad_row (row + 1) (rows_of d (rows - (row + 1)) (drop n xs))))) next
+    ∙ ap (λ (n : ℕ). max new (found_bit (first_bad_row n (rows_of d (rows - n) (drop (row * d + d) xs))))) (add-one row)
+    ∙ ap (λ (ys : List ℕ). max new (found_bit (first_bad_row (suc row) (rows_of d (rows - suc row) ys))))
+    (sym (drop-drop d (row * d) xs))
+    ∙ rows_turn j d row rows faults fault (drop (row * d) xs) h e

@@ -1,5 +1,6 @@
 -- Each jury's bits in a run for 64 are those of its single run, so the three demands hold for it.
 -- Assumes nothing.
+use Rattle.std.specs.Prelude.{None}
 use mathlib.Core.Path.{◌≡◌, ◌∙◌, refl, sym, ap, subst}
 use mathlib.Core.Bool.{true}
 use mathlib.Core.Option.{Option, none, some}
@@ -18,7 +19,6 @@ use Rattle.gates.specs.Hiding.{Finished}
 use Rattle.gates.proofs.WireLaws.{length_wires}
 use Rattle.gates.proofs.Evaluating.{accepted_list}
 use Rattle.gates.proofs.Laws.{AllGood, all_good, wires_bits, wire_bit, output_is}
-use Rattle.gates.specs.declared.place.Place.TheVariants.{Nowhere}
 use Rattle.gates.proofs.Hiding.{board_finished, none_above}
 use Rattle.jury.specs.declared.shape.Shape.{Shape}
 use Rattle.jury.specs.Shape.{ballot_bytes}
@@ -82,7 +82,7 @@ board_bits ws gs k tape good bits enough l x = ⊎_elim shown closing (below_or_
 by_kind : (s : Shape) (xs : List ℕ) → length xs ≡ ballot_bytes s → ((i : ℕ) → get_or xs i 0 ≤ 1)
     → first_of (ballot_reasons s xs) ≡ first_of (ballot_kind_reasons s xs)
 by_kind s xs size bits =
-    judged_by s xs true Nowhere (first_of (ballot_kind_reasons s xs)) (eq-eqb (length xs) (ballot_bytes s) size) (none_above 0 xs bits)
+    judged_by s xs true None (first_of (ballot_kind_reasons s xs)) (eq-eqb (length xs) (ballot_bytes s) size) (none_above 0 xs bits)
     refl ∙ judged_kind (first_of (ballot_kind_reasons s xs))
 
 module _ (c : Call) where

@@ -1,8 +1,7 @@
 -- The tests of the ballots of 64 juries.
-use Rattle.std.specs.Prelude.{cond, List, [], ◌∷◌, ℕ, ◌*◌, eqb, length}
+use Rattle.std.specs.Prelude.{cond, List, [], ◌∷◌, ℕ, ◌*◌, eqb, length, Some, None}
+use Rattle.std.specs.Prelude as prelude
 use Rattle.std.proofs.Math.Option.{Option}
-use Rattle.gates.specs.declared.place.Place.{Place}
-use Rattle.gates.specs.declared.place.Place.TheVariants.{At, Nowhere}
 use Rattle.jury.specs.declared.shape.Shape.{Shape}
 use Rattle.jury.specs.Shape.{is_ranking, ballot_bytes}
 use Rattle.jury.specs.Reason.{Reason, unless, found_at}
@@ -11,12 +10,12 @@ use Rattle.jury.specs.Rankings.{first_over, first_not_asymmetric, first_not_weak
 use Rattle.batch_lanes.specs.Lane.{lane_count, lane_of}
 
 -- What a search in jury j found: if anything, the jury is the place.
-unfoldable pub in_jury : ℕ → Place → Place
-in_jury j (At place) = At j
-in_jury j Nowhere = Nowhere
+unfoldable pub in_jury : ℕ → prelude.Option ℕ → prelude.Option ℕ
+in_jury j (Some place) = Some j
+in_jury j None = None
 
 -- The first jury in whose bytes the search finds something.
-unfoldable pub first_jury : (List ℕ → Place) → List ℕ → Place
+unfoldable pub first_jury : (List ℕ → prelude.Option ℕ) → List ℕ → prelude.Option ℕ
 first_jury search words = first_over lane_count (λ j. in_jury j (search (lane_of j words)))
 
 -- The reason of graded ballots, over all juries: 6.

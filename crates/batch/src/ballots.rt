@@ -9,20 +9,19 @@ ghost use Rattle.batch.specs.inner.Found.{found_bit, first_set};
 ghost use Rattle.jury.specs.inner.Ballots.{GradedSize};
 
 use batch_lanes::word;
-use gates::place::Place;
-use jury::reason::{Refusal, Verdict};
+use jury::reason::Refusal;
 use jury::shape::Shape;
 
 // How many juries a word serves.
 const JURIES: u32 = 64;
 
 // Tests for reason 4, then for those of the shape's kind: 6 for grades, 11 and 12 for rankings.
-pub fn test(shape: Shape, ballots: &[u64]) -> Verdict
+pub fn test(shape: Shape, ballots: &[u64]) -> Result<(), Refusal>
     requires { T (within_limits shape) }
     ensures { refused_for result ≡ first_of (word_ballot_reasons shape ballots.now) }
 {
     if ballots.len() != shape.ballot_bytes() {
-        return Verdict::Refused(Refusal::BallotsLength);
+        return Err(Refusal::BallotsLength);
     }
     if shape.is_ranking() {
         test_rankings(shape, ballots)
@@ -32,30 +31,30 @@ pub fn test(shape: Shape, ballots: &[u64]) -> Verdict
 }
 
 // Tests graded ballots for reason 6.
-fn test_grades(shape: Shape, ballots: &[u64]) -> Verdict
+fn test_grades(shape: Shape, ballots: &[u64]) -> Result<(), Refusal>
     requires { GradedSize shape ballots.now }
     ensures { refused_for result ≡ first_of (word_graded_reasons shape ballots.now) }
 {
     let faults = bad_rows(ballots, shape.grades, shape.ballots * shape.candidates);
     match first_jury(faults) {
-        Place::At(j) => Verdict::Refused(Refusal::BallotRow(j)),
-        Place::Nowhere => Verdict::Accepted,
+        Some(j) => Err(Refusal::BallotRow(j)),
+        None => Ok(()),
     }
 }
 
 // Tests rankings: all juries for reason 11, then all juries for 12.
-fn test_rankings(shape: Shape, ballots: &[u64]) -> Verdict
+fn test_rankings(shape: Shape, ballots: &[u64]) -> Result<(), Refusal>
     requires { length ballots.now ≡ shape.ballots * shape.candidates * shape.candidates }
     ensures { refused_for result ≡ first_of (word_ranked_reasons shape ballots.now) }
 {
     let not_asymmetric = crate::rankings::not_asymmetric(ballots, shape.candidates, shape.ballots);
-    if let Place::At(j) = first_jury(not_asymmetric) {
-        return Verdict::Refused(Refusal::NotAsymmetric(j));
+    if let Some(j) = first_jury(not_asymmetric) {
+        return Err(Refusal::NotAsymmetric(j));
     }
     let not_weak_order = crate::rankings::not_weak_order(ballots, shape.candidates, shape.ballots);
     match first_jury(not_weak_order) {
-        Place::At(j) => Verdict::Refused(Refusal::NotWeakOrder(j)),
-        Place::Nowhere => Verdict::Accepted,
+        Some(j) => Err(Refusal::NotWeakOrder(j)),
+        None => Ok(()),
     }
 }
 
@@ -66,41 +65,33 @@ fn bad_rows(words: &[u64], d: usize, rows: usize) -> u64
         (rows_of d rows (lane_of j words.now))) }
 {
     let mut faults: u64 = 0;
-    let mut row = 0;
-    let mut at = 0;
-    while row < rows {
-        let end = at + d;
-        faults = faults | bad_row(&words[at..end]);
-        row += 1;
-        at = end;
+    // By index: `chunks_exact` would ask that d is above 0.
+    for row in 0..rows {
+        let at = row * d;
+        faults |= bad_row(&words[at..at + d]);
     }
     faults
 }
 
 // The juries in which this row has no 1 or several.
+#[tactic(auto, using(crate::proofs::RowLaws::row_start, crate::proofs::RowLaws::row_turn, crate::proofs::RowLaws::row_end),)]
 fn bad_row(words: &[u64]) -> u64
     ensures { (j : ℕ) → j < lane_count → lane j result ≡ cond (eqb (ones (lane_of j words.now)) 1) 0 1 }
 {
     let mut once: u64 = 0;
     let mut twice: u64 = 0;
-    let mut i = 0;
-    while i < words.len() {
-        let word = words[i];
-        twice = twice | (once & word);
-        once = once | word;
-        i += 1;
+    for word in words {
+        twice |= once & *word;
+        once |= *word;
     }
     twice | (once ^ word::ALL)
 }
 
 // The first jury whose bit is set.
-fn first_jury(faults: u64) -> Place
+#[tactic(auto, using(crate::proofs::JuryLaws::first_at, crate::proofs::JuryLaws::first_nowhere))]
+fn first_jury(faults: u64) -> Option<usize>
     ensures { result ≡ first_set faults }
 {
-    let j = u64::trailing_zeros(faults);
-    if j < JURIES {
-        Place::At(j as usize)
-    } else {
-        Place::Nowhere
-    }
+    let j = faults.trailing_zeros();
+    if j < JURIES { Some(j as usize) } else { None }
 }

@@ -1,5 +1,8 @@
 // The tests of ranked ballots for 64 juries at once, each over all ballots: bit j of a word says whether jury j has
-// the fault. `jury::rankings` has the same tests for one jury.
+// the fault. `jury::rankings` has the same tests for one jury. It stays apart, because it ends at the first fault and
+// answers its place; here a jury's fault ends no search, because the others' are still looked for.
+#![tactic(auto, using(crate::proofs::RankLaws::byte_lane, crate::proofs::RankLaws::both_lane, crate::proofs::RankLaws::clash_lane, crate::proofs::RankLaws::not_lane, crate::proofs::RankLaws::test_found, crate::proofs::RankLaws::found_none, crate::proofs::RankLaws::found_more, crate::proofs::RankLaws::some_none, crate::proofs::RankLaws::some_more,), unfolding(jury::specs::Rankings::before, jury::specs::Rankings::rank_place, jury::specs::Rankings::not_asymmetric_at, jury::specs::Rankings::not_asymmetric_in_row, jury::specs::Rankings::not_asymmetric_in_ballot, jury::specs::Rankings::first_not_asymmetric, jury::specs::Rankings::neither_after_nor_before, jury::specs::Rankings::not_weak_order_after, jury::specs::Rankings::not_weak_order, jury::specs::Rankings::first_not_weak_order,),)]
+
 ghost use Rattle.std.specs.Prelude.{◌≡◌, cond, ℕ, ◌+◌, ◌*◌, ◌≤◌, ◌<◌, length};
 ghost use Rattle.jury.specs.Rankings as spec;
 ghost use Rattle.batch_lanes.specs.Lane.{lane_count, lane, lane_of};
@@ -15,10 +18,8 @@ pub fn not_asymmetric(words: &[u64], k: usize, n: usize) -> u64
         (lane_of u words.now)) }
 {
     let mut faults: u64 = 0;
-    let mut b = 0;
-    while b < n {
-        faults = faults | not_asymmetric_in_ballot(words, k, b);
-        b += 1;
+    for b in 0..n {
+        faults |= not_asymmetric_in_ballot(words, k, b);
     }
     faults
 }
@@ -31,10 +32,8 @@ fn not_asymmetric_in_ballot(words: &[u64], k: usize, b: usize) -> u64
         b) }
 {
     let mut faults: u64 = 0;
-    let mut i = 0;
-    while i < k {
-        faults = faults | not_asymmetric_in_row(words, k, b, i);
-        i += 1;
+    for i in 0..k {
+        faults |= not_asymmetric_in_row(words, k, b, i);
     }
     faults
 }
@@ -47,12 +46,10 @@ fn not_asymmetric_in_row(words: &[u64], k: usize, b: usize, i: usize) -> u64
         i) }
 {
     let mut faults: u64 = 0;
-    let mut j = 0;
-    while j < k {
+    for j in 0..k {
         let forth = puts_before(words, k, b, i, j);
         let back = puts_before(words, k, b, j, i);
-        faults = faults | (forth & back);
-        j += 1;
+        faults |= forth & back;
     }
     faults
 }
@@ -65,10 +62,8 @@ pub fn not_weak_order(words: &[u64], k: usize, n: usize) -> u64
         (lane_of u words.now)) }
 {
     let mut faults: u64 = 0;
-    let mut b = 0;
-    while b < n {
-        faults = faults | not_weak_order_in_ballot(words, k, b);
-        b += 1;
+    for b in 0..n {
+        faults |= not_weak_order_in_ballot(words, k, b);
     }
     faults
 }
@@ -80,10 +75,8 @@ fn not_weak_order_in_ballot(words: &[u64], k: usize, b: usize) -> u64
         → lane u result ≡ cond (spec.not_weak_order k (lane_of u words.now) b) 1 0 }
 {
     let mut faults: u64 = 0;
-    let mut i = 0;
-    while i < k {
-        faults = faults | not_weak_order_after(words, k, b, i);
-        i += 1;
+    for i in 0..k {
+        faults |= not_weak_order_after(words, k, b, i);
     }
     faults
 }
@@ -96,12 +89,10 @@ fn not_weak_order_after(words: &[u64], k: usize, b: usize, i: usize) -> u64
         0 }
 {
     let mut faults: u64 = 0;
-    let mut j = 0;
-    while j < k {
+    for j in 0..k {
         let forth = puts_before(words, k, b, i, j);
         let third = neither_after_nor_before(words, k, b, i, j);
-        faults = faults | (forth & third);
-        j += 1;
+        faults |= forth & third;
     }
     faults
 }
@@ -114,12 +105,10 @@ fn neither_after_nor_before(words: &[u64], k: usize, b: usize, i: usize, j: usiz
         j) 1 0 }
 {
     let mut found: u64 = 0;
-    let mut l = 0;
-    while l < k {
+    for l in 0..k {
         let after = puts_before(words, k, b, i, l);
         let ahead = puts_before(words, k, b, l, j);
-        found = found | ((after ^ word::ALL) & (ahead ^ word::ALL));
-        l += 1;
+        found |= (after ^ word::ALL) & (ahead ^ word::ALL);
     }
     found
 }

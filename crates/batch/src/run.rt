@@ -2,39 +2,38 @@
 ghost use Rattle.std.specs.Prelude.{◌≡◌};
 ghost use Rattle.gates.specs.Gate.{gates_of};
 ghost use Rattle.jury.specs.Reason.{refused_for, first_of};
-ghost use Rattle.tally.specs.Answer.{outcome_of, outcome, size_of};
+ghost use Rattle.tally.specs.Answer.{outcome_of, outcome, size_of, size_in};
 ghost use Rattle.tally.specs.Run.{RunResult};
 ghost use Rattle.batch.specs.Run.{word_buffer_reasons, batch_reasons, batch_result};
 
-use batch_lanes::word;
-use jury::reason::{Refusal, Verdict};
+use gates::lengths::has_length;
+use gates::list::ListSize;
+use jury::reason::Refusal;
 use jury::shape::Shape;
 use tally::answer::Answer;
 
-// Tests for reasons 7, 9 and 10, given the list's numbers of inputs, outputs, gates and conditional gates.
+// Tests for reasons 7, 9 and 10, given the list's numbers of inputs and outputs, and its size.
 fn test_buffers(
     inputs: usize,
     outputs: usize,
-    gates: usize,
-    conditional: usize,
+    size: ListSize,
     tape: &[u64],
     wires: &[u64],
     board: &[u64],
-) -> Verdict
+) -> Result<(), Refusal>
     ensures { refused_for result
-        ≡ first_of (word_buffer_reasons inputs outputs (record { gates = gates; conditional = conditional })
-        tape.now wires.now board.now) }
+        ≡ first_of (word_buffer_reasons inputs outputs (size_in size) tape.now wires.now board.now) }
 {
-    if !word::has_length(tape, conditional, 0) {
-        return Verdict::Refused(Refusal::TapeLength);
+    if !has_length(tape, size.conditional, 0) {
+        return Err(Refusal::TapeLength);
     }
-    if !word::has_length(wires, inputs, gates) {
-        return Verdict::Refused(Refusal::WiresLength);
+    if !has_length(wires, inputs, size.gates) {
+        return Err(Refusal::WiresLength);
     }
-    if !word::has_length(board, conditional, outputs) {
-        return Verdict::Refused(Refusal::BoardLength);
+    if !has_length(board, size.conditional, outputs) {
+        return Err(Refusal::BoardLength);
     }
-    Verdict::Accepted
+    Ok(())
 }
 
 // All tests of the call: reasons 1, 2, 3, 4, then 6 or 11 and 12, then 7, 9 and 10.
@@ -57,26 +56,17 @@ fn test_run(
         })))
         (size_of (gates_of table.now)) }
 {
-    let answer = tally::test::test(shape, table);
-    let Answer::Accepted { gates, conditional } = answer else {
-        return answer;
-    };
-    if let Verdict::Refused(reason) = crate::ballots::test(shape, ballots) {
-        return Answer::Refused(reason);
-    }
-    let inputs = shape.ballot_bytes();
-    match test_buffers(
-        inputs,
+    let size = tally::test::test(shape, table)?;
+    crate::ballots::test(shape, ballots)?;
+    test_buffers(
+        shape.ballot_bytes(),
         shape.candidates,
-        gates,
-        conditional,
+        size,
         tape,
         wires,
         board,
-    ) {
-        Verdict::Refused(reason) => Answer::Refused(reason),
-        Verdict::Accepted => answer,
-    }
+    )?;
+    Ok(size)
 }
 
 // Runs a list, whoever wrote it, on the ballots of 64 juries of one shape; bit j of each number is jury j's.
@@ -101,14 +91,8 @@ pub fn run(
           board = board.old;
         })) }
 {
-    let answer = test_run(shape, table, ballots, tape, wires, board);
-    if let Answer::Accepted {
-        gates: _,
-        conditional: _,
-    } = answer
-    {
-        batch_lanes::step::run(ballots, table, shape.candidates, tape, wires, board);
-        basics::table::empty_words(wires);
-    }
-    answer
+    let size = test_run(shape, table, ballots, tape, wires, board)?;
+    batch_lanes::step::run(ballots, table, shape.candidates, tape, wires, board);
+    wires.fill(0);
+    Ok(size)
 }
