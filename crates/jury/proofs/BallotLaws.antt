@@ -17,7 +17,11 @@ use Rattle.gates.specs.Board.{Bits}
 use Rattle.gates.specs.Test.{first_above_one}
 use Rattle.jury.specs.declared.shape.Shape.{Shape}
 use Rattle.jury.specs.Shape.{is_ranking, ballot_bytes}
-use Rattle.jury.specs.Reason.{Reason, unless, found_at, first_of}
+use Rattle.jury.specs.declared.reason.Refusal.TheVariants.{NotAsymmetric, NotWeakOrder}
+use Rattle.jury.specs.Rankings.{before, first_not_asymmetric, first_not_weak_order}
+use Rattle.jury.specs.WeakOrder.{StrictWeakOrder}
+use Rattle.jury.proofs.RankingLaws.{passes_orders}
+use Rattle.jury.specs.Reason.{reason_of, reason_at, Reason, unless, found_at, first_of}
 use Rattle.jury.specs.Ballots.{ones, rows_of, first_bad_row, graded_reasons, ranked_reasons, ballot_kind_reasons, ballot_reasons}
 use Rattle.std.specs.List.{sum}
 use Rattle.std.proofs.lemmas.List.Sums.{sum_by_from}
@@ -107,3 +111,25 @@ pub judged_kind : (kind : Option Reason) → judged true None kind ≡ kind
 unfolding judged unless found_at first_of
 judged_kind none = refl
 judged_kind (some r) = refl
+
+-- what the tests of rankings answer, from what their searches find
+pub found_11 : (s : Shape) (xs : List ℕ) (i : ℕ) → first_not_asymmetric s.candidates s.ballots xs ≡ Some i
+    → first_of (ranked_reasons s xs) ≡ some (reason_of (NotAsymmetric i))
+unfolding ranked_reasons found_at first_of reason_of reason_at
+found_11 s xs i e = rw e refl
+
+pub found_12 : (s : Shape) (xs : List ℕ) (b : ℕ) → first_not_asymmetric s.candidates s.ballots xs ≡ None
+    → first_not_weak_order s.candidates s.ballots xs ≡ Some b → first_of (ranked_reasons s xs) ≡ some (reason_of (NotWeakOrder b))
+unfolding ranked_reasons found_at first_of reason_of reason_at
+found_12 s xs b e f = rw (e, f) refl
+
+pub found_none : (s : Shape) (xs : List ℕ) → first_not_asymmetric s.candidates s.ballots xs ≡ None
+    → first_not_weak_order s.candidates s.ballots xs ≡ None → first_of (ranked_reasons s xs) ≡ none
+unfolding ranked_reasons found_at first_of
+found_none s xs e f = rw (e, f) refl
+
+pub orders_none : (s : Shape) (xs : List ℕ) → ((b : ℕ) → b < s.ballots → StrictWeakOrder s.candidates (before s.candidates xs b))
+    → first_of (ranked_reasons s xs) ≡ none
+orders_none s xs o = let none = (passes_orders s.candidates s.ballots xs).1 o in found_none s xs none.0 none.1
+
+pub ruleset ranked_found = (found_11, found_12, found_none, orders_none)

@@ -3,7 +3,7 @@
 use mathlib.Core.Path.{◌≡◌, ◌∙◌, sym, ap, subst}
 use mathlib.Core.Bool.{Bool, true, false, cond, ◌&&◌, true≢false}
 use mathlib.Core.Logic.{◌⊎◌, ⊎_elim}
-use Prim.Native.Nat.{ℕ, ◌≤◌, ◌<◌, ◌*◌, ◌^◌}
+use Prim.Native.Nat.{◌≤◌, ◌<◌, ◌*◌}
 use native.Mathlib.Nat.{mul-le-mul, mul-pos}
 use native.Mathlib.Omega.{arith}
 use lib.Dec.{T, leb}
@@ -187,3 +187,8 @@ unfolding ballot_bytes
 inputs_bound s b =
     let rows : s.ballots * s.candidates ≤ most_ballots * most_candidates = mul-le-mul b.n_most b.k_most in
     mul-le-mul rows b.c_most
+
+-- what the shape's tests and sizes need
+pub ruleset kinds_apart = (not_graded, not_ranked)
+
+pub ruleset sizes = (bounds_T, inputs_bound)

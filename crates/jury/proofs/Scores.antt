@@ -1,19 +1,18 @@
 -- A ballot that agrees with scores of its candidates is a strict weak order.
 -- Assumes nothing.
 use mathlib.Core.Path.{◌≡◌, ◌∙◌, sym, ap}
-use mathlib.Core.Bool.{Bool, true, false, cond}
-use Prim.Native.Nat.{ℕ, ◌+◌, ◌*◌, ◌≤◌, ◌<◌}
+use mathlib.Core.Bool.{Bool}
+use Prim.Native.Nat.{ℕ, ◌+◌, ◌*◌, ◌<◌}
 use native.Mathlib.Nat.{add-mul, mul_assoc}
 use native.Mathlib.Omega.{arith}
 use mathlib.Core.List.{List}
 use lib.Dec.{eqb, ltb}
 use lib.ListN.{get_or, take, drop}
 use lib.Seq.{get_or-take, get_or-drop}
-use borrow.Author.Tests.{ltb-true, ltb-false, le-ltb, ne_eqb, eqb-true}
+use borrow.Author.Tests.{ltb-true, ltb-false, le-ltb}
 use Rattle.jury.specs.Rankings.{rank_place, before}
 use Rattle.jury.specs.WeakOrder.{StrictWeakOrder}
 use Rattle.basics.proofs.Arithmetic.{row_within}
-use Rattle.basics.proofs.Flags.{either}
 
 pub order_by_scores : (k : ℕ) (before : ℕ → ℕ → Bool) (s : ℕ → ℕ)
     → ((i : ℕ) → i < k → (j : ℕ) → j < k → before i j ≡ ltb (s j) (s i)) → StrictWeakOrder k before

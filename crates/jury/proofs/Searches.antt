@@ -1,7 +1,7 @@
 -- Searches in order, and tests of the numbers below m: the facts that loops over them need.
 -- Assumes nothing.
 use mathlib.Core.Path.{◌≡◌, ◌∙◌, refl, ap}
-use mathlib.Core.Bool.{Bool, true, false, ◌||◌}
+use mathlib.Core.Bool.{Bool, true, false, cond, not, ◌&&◌, ◌||◌}
 use mathlib.Core.Logic.{⊎_elim}
 use mathlib.Core.List.{List}
 use Prim.Native.Nat.{ℕ, zero, suc, ◌+◌, ◌*◌, ◌≤◌, ◌<◌}
@@ -9,11 +9,16 @@ use native.Mathlib.Nat.{mul-le-mul}
 use native.Mathlib.Numerals.{add-one}
 use native.Mathlib.Omega.{arith}
 use Rattle.std.specs.Prelude.{Option, Some, None}
-use Rattle.jury.specs.Rankings.{rank_place, before, or_else, first_over, not_asymmetric_at}
+use Rattle.jury.specs.Rankings.{rank_place, before, or_else, first_over, not_asymmetric_at, neither_after_nor_before, not_weak_order_after, not_weak_order, first_not_weak_order}
 use Rattle.basics.specs.Below.{some_below}
 use Rattle.basics.proofs.Cases.{below_or_not}
 use Rattle.basics.proofs.Flags.{or_first, or_second}
 use Rattle.basics.proofs.Arithmetic.{row_within}
+
+-- no search has found anything yet
+pub first_start : (found : ℕ → Option ℕ) → first_over 0 found ≡ None
+unfolding first_over
+first_start found = refl
 
 -- if the searches below i and search i find nothing, those below i + 1 find nothing
 pub first_later : (found : ℕ → Option ℕ) (i : ℕ) → first_over i found ≡ None → found i ≡ None → first_over (i + 1) found ≡ None
@@ -53,6 +58,10 @@ none_first found (suc m) e i h =
     (λ l. let s : i ≡ m = omega arith in ap found s ∙ or_else_second (first_over m found) (found m) e) (below_or_not i m)
 
 -- the same for a test of the numbers below m
+pub some_start : (test : ℕ → Bool) → some_below 0 test ≡ false
+unfolding some_below
+some_start test = refl
+
 pub some_later : (test : ℕ → Bool) (i : ℕ) → some_below i test ≡ false → test i ≡ false → some_below (i + 1) test ≡ false
 unfolding some_below
 some_later test i none here = ap (λ (m : ℕ). some_below m test) (add-one i) ∙ ap (λ (t : Bool). t || test i) none ∙ here
@@ -119,3 +128,27 @@ pub clash_not_back : (k : ℕ) (xs : List ℕ) (b i j : ℕ) → before k xs b i
     → not_asymmetric_at k xs b i j ≡ None
 unfolding not_asymmetric_at
 clash_not_back k xs b i j e f = rw (e, f)
+
+-- the parts of test 12, each found at one candidate or one ballot
+module _ (k : ℕ) (xs : List ℕ) (b : ℕ) where
+  pub apart_here : (i j l : ℕ) → l < k → before k xs b i l ≡ false → before k xs b l j ≡ false → neither_after_nor_before k xs b i j ≡ true
+  unfolding neither_after_nor_before
+  apart_here i j l h e f = some_here (λ m. not (before k xs b i m) && not (before k xs b m j)) k l h (rw (e, f) refl)
+
+  pub gap_here : (i j : ℕ) → j < k → before k xs b i j ≡ true → neither_after_nor_before k xs b i j ≡ true → not_weak_order_after k xs b i ≡ true
+  unfolding not_weak_order_after
+  gap_here i j h e f = some_here (λ m. before k xs b i m && neither_after_nor_before k xs b i m) k j h (rw (e, f) refl)
+
+  pub fault_here : (i : ℕ) → i < k → not_weak_order_after k xs b i ≡ true → not_weak_order k xs b ≡ true
+  unfolding not_weak_order
+  fault_here i h e = some_here (not_weak_order_after k xs b) k i h e
+
+pub faulty_here : (k n : ℕ) (xs : List ℕ) (b : ℕ) → b < n → first_over b (λ a. cond (not_weak_order k xs a) (Some a) None) ≡ None
+    → not_weak_order k xs b ≡ true → first_not_weak_order k n xs ≡ Some b
+unfolding first_not_weak_order
+faulty_here k n xs b h none e = first_here (λ a. cond (not_weak_order k xs a) (Some a) None) n b b h none (rw e refl)
+
+-- what the loops of the searches need
+pub ruleset finds = (first_start, first_later, first_here, ballot_within, clash_here, clash_not_forth, clash_not_back)
+
+pub ruleset tests = (some_start, some_later, some_here, apart_here, gap_here, fault_here)

@@ -44,7 +44,7 @@ fn test_grades(shape: Shape, ballots: &[u8]) -> Result<(), Refusal>
 
 // Tests rankings. The searches for what is wrong end early and branch on the ballots, so only a refused call makes
 // them.
-#[tactic(auto, using(crate::proofs::RankingLaws::passes_orders), unfolding(crate::specs::Ballots::ranked_reasons, crate::specs::Reason::refused_for, crate::specs::Reason::found_at, crate::specs::Reason::first_of, crate::specs::Reason::reason_of, crate::specs::Reason::reason_at,),)]
+#[tactic(auto, using(crate::proofs::BallotLaws::ranked_found), unfolding(crate::specs::Reason::refused_for))]
 fn test_orders(shape: Shape, ballots: &[u8]) -> Result<(), Refusal>
     requires { RankedSize shape ballots.now }
     ensures { refused_for result ≡ first_of (ranked_reasons shape ballots.now) }
@@ -56,7 +56,7 @@ fn test_orders(shape: Shape, ballots: &[u8]) -> Result<(), Refusal>
 }
 
 // Tests rankings: all ballots for reason 11, then all ballots for 12.
-#[tactic(auto, unfolding(crate::specs::Ballots::ranked_reasons, crate::specs::Reason::refused_for, crate::specs::Reason::found_at, crate::specs::Reason::first_of, crate::specs::Reason::reason_of, crate::specs::Reason::reason_at,),)]
+#[tactic(auto, using(crate::proofs::BallotLaws::ranked_found), unfolding(crate::specs::Reason::refused_for))]
 fn test_rankings(shape: Shape, ballots: &[u8]) -> Result<(), Refusal>
     requires { length ballots.now ≡ shape.ballots * shape.candidates * shape.candidates }
     ensures { refused_for result ≡ first_of (ranked_reasons shape ballots.now) }

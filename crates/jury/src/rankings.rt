@@ -12,7 +12,7 @@ struct Ranking<'a> {
 }
 
 // Reason 11: the first byte, through all ballots, that is 1 and whose opposite is 1 too.
-#[tactic(auto, using(crate::proofs::Searches::first_later, crate::proofs::Searches::first_here, crate::proofs::Searches::ballot_within,), unfolding(crate::specs::Rankings::first_not_asymmetric, crate::specs::Rankings::first_over),)]
+#[tactic(auto, using(crate::proofs::Searches::finds), unfolding(crate::specs::Rankings::first_not_asymmetric))]
 pub fn first_not_asymmetric(ballots: &[u8], k: usize, n: usize) -> Option<usize>
     requires { length ballots.now ≡ n * k * k }
     ensures { result ≡ spec.first_not_asymmetric k n ballots.now }
@@ -32,7 +32,7 @@ pub fn first_not_asymmetric(ballots: &[u8], k: usize, n: usize) -> Option<usize>
 
 // Reason 12: the first ballot in which some i is before some j, and a third candidate is not after i and not before
 // j.
-#[tactic(auto, using(crate::proofs::Searches::first_later, crate::proofs::Searches::first_here, crate::proofs::Searches::ballot_within,), unfolding(crate::specs::Rankings::first_not_weak_order, crate::specs::Rankings::first_over),)]
+#[tactic(auto, using(crate::proofs::Searches::finds), unfolding(crate::specs::Rankings::first_not_weak_order))]
 pub fn first_not_weak_order(ballots: &[u8], k: usize, n: usize) -> Option<usize>
     requires { length ballots.now ≡ n * k * k }
     ensures { result ≡ spec.first_not_weak_order k n ballots.now }
@@ -52,7 +52,7 @@ pub fn first_not_weak_order(ballots: &[u8], k: usize, n: usize) -> Option<usize>
 
 impl<'a> Ranking<'a> {
     // The first byte of this ballot with reason 11.
-    #[tactic(auto, using(crate::proofs::Searches::first_later, crate::proofs::Searches::first_here), unfolding(crate::specs::Rankings::not_asymmetric_in_ballot, crate::specs::Rankings::first_over),)]
+    #[tactic(auto, using(crate::proofs::Searches::finds), unfolding(crate::specs::Rankings::not_asymmetric_in_ballot))]
     fn not_asymmetric(&self) -> Option<usize>
         ensures { result ≡ spec.not_asymmetric_in_ballot self.now.candidates self.now.ballots.now self.now.ballot }
     {
@@ -65,7 +65,7 @@ impl<'a> Ranking<'a> {
     }
 
     // The first byte of row i with reason 11.
-    #[tactic(auto, using(crate::proofs::Searches::first_later, crate::proofs::Searches::first_here, crate::proofs::Searches::clash_here, crate::proofs::Searches::clash_not_forth, crate::proofs::Searches::clash_not_back,), unfolding(crate::specs::Rankings::not_asymmetric_in_row, crate::specs::Rankings::first_over, crate::specs::Rankings::rank_place,),)]
+    #[tactic(auto, using(crate::proofs::Searches::finds), unfolding(crate::specs::Rankings::not_asymmetric_in_row))]
     fn not_asymmetric_in_row(&self, i: usize) -> Option<usize>
         requires { i < self.now.candidates }
         ensures { result ≡ spec.not_asymmetric_in_row self.now.candidates self.now.ballots.now self.now.ballot i }
@@ -79,7 +79,7 @@ impl<'a> Ranking<'a> {
     }
 
     // Whether reason 12 applies to this ballot.
-    #[tactic(auto, using(crate::proofs::Searches::some_later, crate::proofs::Searches::some_here), unfolding(crate::specs::Rankings::not_weak_order, basics::specs::Below::some_below),)]
+    #[tactic(auto, using(crate::proofs::Searches::tests), unfolding(crate::specs::Rankings::not_weak_order))]
     fn is_not_weak_order(&self) -> bool
         ensures { result ≡ spec.not_weak_order self.now.candidates self.now.ballots.now self.now.ballot }
     {
@@ -92,7 +92,7 @@ impl<'a> Ranking<'a> {
     }
 
     // Whether i is before some j, and a third candidate is not after i and not before j.
-    #[tactic(auto, using(crate::proofs::Searches::some_later, crate::proofs::Searches::some_here), unfolding(crate::specs::Rankings::not_weak_order_after, basics::specs::Below::some_below),)]
+    #[tactic(auto, using(crate::proofs::Searches::tests), unfolding(crate::specs::Rankings::not_weak_order_after))]
     fn is_not_weak_order_after(&self, i: usize) -> bool
         requires { i < self.now.candidates }
         ensures { result ≡ spec.not_weak_order_after self.now.candidates self.now.ballots.now self.now.ballot i }
@@ -106,10 +106,11 @@ impl<'a> Ranking<'a> {
     }
 
     // Whether some candidate is not after i and not before j.
-    #[tactic(auto, using(crate::proofs::Searches::some_later, crate::proofs::Searches::some_here), unfolding(crate::specs::Rankings::neither_after_nor_before, basics::specs::Below::some_below),)]
+    #[tactic(auto, using(crate::proofs::Searches::tests), unfolding(crate::specs::Rankings::neither_after_nor_before))]
     fn neither_after_nor_before(&self, i: usize, j: usize) -> bool
         requires { (i < self.now.candidates) × (j < self.now.candidates) }
-        ensures { result ≡ spec.neither_after_nor_before self.now.candidates self.now.ballots.now self.now.ballot i j }
+        ensures { result ≡ spec.neither_after_nor_before
+            self.now.candidates self.now.ballots.now self.now.ballot i j }
     {
         for l in 0..self.candidates {
             if !self.is_before(i, l) && !self.is_before(l, j) {

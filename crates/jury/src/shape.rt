@@ -33,7 +33,6 @@ impl Shape {
     pub const MOST_BALLOTS: usize = 255;
 
     // The shape with these numbers, or the refusal if one of them is outside its limits.
-    #[tactic(auto, unfolding(crate::specs::Reason::shaped_for, crate::specs::Reason::unless, crate::specs::Reason::reason_of, crate::specs::Reason::reason_at,),)]
     pub fn new(candidates: usize, grades: usize, ballots: usize) -> Result<Shape, Refusal>
         ensures { Shaped (record { candidates = candidates; grades = grades; ballots = ballots }) result }
     {
@@ -79,7 +78,7 @@ impl Shape {
 
     // Whether a shape is within the limits of either kind. The fields are public, so not every shape comes from
     // `new`.
-    #[tactic(auto, using(crate::proofs::Limits::not_graded, crate::proofs::Limits::not_ranked), unfolding(crate::specs::Shape::within_limits),)]
+    #[tactic(auto, using(crate::proofs::Limits::kinds_apart), unfolding(crate::specs::Shape::within_limits))]
     pub fn is_within_limits(self) -> bool
         ensures { result ≡ within_limits self }
     {
@@ -103,7 +102,7 @@ impl Shape {
     }
 
     // I, the number of ballot bytes.
-    #[tactic(auto, using(crate::proofs::Limits::bounds_T, crate::proofs::Limits::inputs_bound), unfolding(crate::specs::Shape::ballot_bytes),)]
+    #[tactic(auto, using(crate::proofs::Limits::sizes), unfolding(crate::specs::Shape::ballot_bytes))]
     pub fn ballot_bytes(self) -> usize
         requires { T (within_limits self) }
         ensures { result ≡ ballot_bytes self }
