@@ -4,12 +4,22 @@ use Rattle.gates.specs.Gate.{gates_of}
 use Rattle.jury.specs.declared.shape.Shape.{Shape}
 use Rattle.trustee_shares.specs.Shares.{Held}
 use Rattle.trustee_shares.specs.Views.{Dealing, wire_parts_of, published_of, View, view_of}
+use Rattle.trustees.specs.declared.test.LentTables.{LentTables}
 
 -- The four tables that go trustee after trustee: a dealing, which is only read, and two to write to.
 pub record PartTables : Type 0 where
   pub dealing : Dealing
   pub wire_parts : List ℕ
   pub published : List ℕ
+
+-- The four tables as the program's tests read them.
+abbrev pub tables_in : LentTables → PartTables
+tables_in l =
+    record {
+      dealing = record { ballot_parts = l.shares.now; dealer_parts = l.triples.now };
+      wire_parts = l.wires.now;
+      published = l.published.now;
+    }
 
 -- All that the call is given.
 pub record Call : Type 0 where

@@ -2,20 +2,20 @@
 ghost use Rattle.std.specs.Prelude.{◌≡◌, ◌+◌};
 ghost use Rattle.basics.specs.Lists.{tabulate};
 ghost use Rattle.jury.specs.ClosingBytes.{eight_bytes};
-ghost use Rattle.tally.specs.Answer.{outcome_of};
 ghost use Rattle.trustee_shares.specs.Shares.{opened, part};
 ghost use Rattle.trustee_shares.specs.Views.{piece};
 ghost use Rattle.trustees.specs.inner.Sizes.{ClosingFits};
-ghost use Rattle.trustees.specs.Result.{TrusteesResult, trustees_result};
+ghost use Rattle.trustees.specs.Result.{TrusteesResult, trustees_result, tallied_outcome, tallied_closing};
 
+use crate::test::LentTables;
+use gates::list::ListSize;
+use jury::reason::Refusal;
 use jury::shape::{ClosingBytes, Shape};
-use tally::answer::Answer;
 
-// G and C of the list, or the first reason that applies; and the opened closing bits, which are 0 from place k on,
-// and all 0 on a refusal.
+// G and C of the list, and the opened closing bits, which are 0 from place k on.
 #[derive(Drop)]
 pub struct Tallied {
-    pub answer: Answer,
+    pub size: ListSize,
     pub closing: ClosingBytes,
 }
 
@@ -26,10 +26,8 @@ fn open_closing(t: usize, size: usize, first: usize, k: usize, published: &[u8])
         (λ j. opened t (λ p. part (piece size published.now p) (first + j)))) }
 {
     let mut closing = [0u8; Shape::MOST_CANDIDATES];
-    let mut j = 0;
-    while j < k {
+    for j in 0..k {
         closing[j] = trustee_gates::table::open(published, size, t, first + j);
-        j += 1;
     }
     closing
 }
@@ -45,11 +43,11 @@ pub fn run(
     triples: &[u8],
     wires: &mut [u8],
     published: &mut [u8],
-) -> Tallied
+) -> Result<Tallied, Refusal>
     ensures { ◌≡◌ {A = TrusteesResult}
         (record {
-          answer = outcome_of result.answer;
-          closing = result.closing;
+          answer = tallied_outcome result;
+          closing = tallied_closing result;
           wire_parts = wires.new;
           published = published.new;
         })
@@ -65,24 +63,20 @@ pub fn run(
           };
         })) }
 {
-    let answer = crate::test::test(shape, table, ballots, t, shares, triples, wires, published);
-    let Answer::Accepted {
-        gates: _,
-        conditional,
-    } = answer
-    else {
-        return Tallied {
-            answer,
-            closing: [0u8; Shape::MOST_CANDIDATES],
-        };
+    let lent = LentTables {
+        shares,
+        triples,
+        wires,
+        published,
     };
+    let size = crate::test::test(shape, table, ballots, t, lent)?;
     let k = shape.candidates;
-    let factors = 2 * conditional;
+    let factors = 2 * size.conditional;
     trustee_gates::evaluate::evaluate(
         t,
         ballots.len(),
         table,
-        conditional,
+        size.conditional,
         k,
         shares,
         triples,
@@ -90,6 +84,6 @@ pub fn run(
         published,
     );
     let closing = open_closing(t, factors + k, factors, k, published);
-    basics::table::empty(wires);
-    Tallied { answer, closing }
+    wires.fill(0);
+    Ok(Tallied { size, closing })
 }
