@@ -5,13 +5,13 @@ use Rattle.std.specs.Prelude.{Option, Some, None}
 use mathlib.Core.Path.{◌≡◌, ◌∙◌, refl, sym, ap, ap₂}
 use mathlib.Core.Bool.{Bool, true, false, cond, not, ◌&&◌, ◌||◌}
 use mathlib.Core.List.{List}
-use Prim.Native.Nat.{ℕ, zero, suc, ◌+◌, ◌%◌, ◌≤◌, ◌<◌, min, max}
+use Prim.Native.Nat.{ℕ, zero, suc, ◌+◌, ◌*◌, ◌%◌, ◌≤◌, ◌<◌, min, max}
 use native.Mathlib.Numerals.{add-one}
 use native.Mathlib.Omega.{arith}
 use lib.Bits.{bit_and, bit_or, bit_xor}
 use lib.Dec.{eqb}
 use lib.ListN.{get_or}
-use Rattle.jury.specs.Rankings.{or_else, first_over}
+use Rattle.jury.specs.Rankings.{rank_place, before, or_else, first_over, not_asymmetric_at}
 use Rattle.basics.specs.Below.{some_below}
 use Rattle.batch_lanes.specs.Lane.{lane_count, lane, lane_of}
 use Rattle.batch_lanes.proofs.LaneLaws.{lane_bit, lane_none, lane_all, lane_and, lane_or, lane_xor}
@@ -28,7 +28,7 @@ bit_test zero h = refl
 bit_test (suc zero) h = refl
 bit_test (suc (suc x)) h = absurd (omega arith)
 
-pub byte_lane : (u : ℕ) (words : List ℕ) (p : ℕ) → lane u (get_or words p 0) ≡ bit (eqb (get_or (lane_of u words) p 0) 1)
+byte_lane : (u : ℕ) (words : List ℕ) (p : ℕ) → lane u (get_or words p 0) ≡ bit (eqb (get_or (lane_of u words) p 0) 1)
 byte_lane u words p = bit_test (lane u (get_or words p 0)) (lane_bit u (get_or words p 0))
     ∙ ap (λ (x : ℕ). bit (eqb x 1)) (sym (lanes_at u words p))
 
@@ -42,7 +42,7 @@ min_and false false = refl
 pub both_lane : (u v w : ℕ) (s t : Bool) → lane u v ≡ bit s → lane u w ≡ bit t → lane u (bit_and v w) ≡ bit (s && t)
 both_lane u v w s t e f = lane_and u v w ∙ ap₂ min e f ∙ min_and s t
 
-pub clash_lane : (u v w place : ℕ) (s t : Bool) → lane u v ≡ bit s → lane u w ≡ bit t → lane u (bit_and v w)
+clash_lane : (u v w place : ℕ) (s t : Bool) → lane u v ≡ bit s → lane u w ≡ bit t → lane u (bit_and v w)
     ≡ found_bit (cond (s && t) (Some place) None)
 unfolding found_bit
 clash_lane u v w place s t e f = both_lane u v w s t e f ∙ found (s && t)
@@ -99,3 +99,16 @@ pub some_more : (u i : ℕ) (t : ℕ → Bool) (acc w : ℕ) → lane u acc ≡ 
 unfolding some_below
 some_more u i t acc w e g = lane_or u acc w ∙ ap₂ max e g ∙ or_some (some_below i t) (t i)
     ∙ sym (ap (λ (m : ℕ). bit (some_below m t)) (add-one i))
+
+-- the word at a place of a ballot says in each lane whether i is before j there
+pub puts_lane : (u : ℕ) (words : List ℕ) (k b i j : ℕ) → lane u (get_or words ((b * k + i) * k + j) 0) ≡ bit (before k (lane_of u words) b i j)
+unfolding before rank_place
+puts_lane u words k b i j = byte_lane u words ((b * k + i) * k + j)
+
+pub clash_at : (u v w k b i j : ℕ) (xs : List ℕ) → lane u v ≡ bit (before k xs b i j) → lane u w ≡ bit (before k xs b j i)
+    → lane u (bit_and v w) ≡ found_bit (not_asymmetric_at k xs b i j)
+unfolding not_asymmetric_at
+clash_at u v w k b i j xs e f = clash_lane u v w (rank_place k b i j) (before k xs b i j) (before k xs b j i) e f
+
+-- what the tests' proofs use of these
+pub ruleset steps = (puts_lane, clash_at, both_lane, not_lane, test_found, found_none, found_more, some_none, some_more)

@@ -109,6 +109,9 @@ row_end j h words once twice i r e =
     ∙ ap₂ (λ (x y : ℕ). max y ((x + 1) % 2)) r.seen.one r.seen.two
     ∙ bad_by r.count ∙ ap (λ (n : ℕ). cond {A = ℕ} (eqb n 1) 0 1) m
 
+-- what the proof of a row uses of these
+pub ruleset row_steps = (row_start, row_turn, row_end)
+
 -- the faults so far, and those of the rows that are left
 found_bit_lem : (p : Option ℕ) → found_bit p ≤ 1
 unfolding found_bit

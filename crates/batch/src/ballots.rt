@@ -74,7 +74,7 @@ fn bad_rows(words: &[u64], d: usize, rows: usize) -> u64
 }
 
 // The juries in which this row has no 1 or several.
-#[tactic(auto, using(crate::proofs::RowLaws::row_start, crate::proofs::RowLaws::row_turn, crate::proofs::RowLaws::row_end),)]
+#[tactic(auto, using(crate::proofs::RowLaws::row_steps))]
 fn bad_row(words: &[u64]) -> u64
     ensures { (j : ℕ) → j < lane_count → lane j result ≡ cond (eqb (ones (lane_of j words.now)) 1) 0 1 }
 {
