@@ -92,6 +92,13 @@ fewer t c k h = mul-le-mul_right {m = t} {n = c} k h
 pub product_most : (i k a b : ℕ) → i ≤ a → k ≤ b → i * k ≤ a * b
 product_most i k a b h g = mul-le-mul {n₁ = i} {m₁ = k} {n₂ = a} {m₂ = b} h g
 
+-- the choices before the last one have at most 80 gates
+pub choices_before : (t r : ℕ) → r ≤ 7 → t ≤ 6 → ((t - 1) * (2 * r + 2) ≤ 80) × ((t - 1) * (2 * r + 2) ≡ (t - 1) * either_span r)
+choices_before t r narrow few =
+    let k : 2 * r + 2 ≡ either_span r = omega arith in
+    let p : (t - 1) * (2 * r + 2) ≤ 5 * 16 = product_most (t - 1) (2 * r + 2) 5 16 (omega arith) (omega arith) in
+    (omega arith, ap (λ (j : ℕ). (t - 1) * j) k)
+
 pub left_some : (n u r t : ℕ) → 0 < t → left_end n u r t ≡ n + (t - 1) * either_span r
 left_some n u r t h = ap (left_end n u r) (count_down t h) ∙ (unfold left_end in refl)
 

@@ -68,8 +68,7 @@ fn later_digits(
     let mut many = count;
     let mut differ = e;
     let mut larger = s;
-    let mut left = digits;
-    while 0 < left {
+    for _ in 0..digits {
         next = next_digit(next, table, first, second, step, many, differ, larger);
         first += step;
         second += step;
@@ -77,7 +76,6 @@ fn later_digits(
         many /= 2;
         differ = next.wire - 2;
         larger = next.wire - 1;
-        left -= 1;
     }
     next
 }

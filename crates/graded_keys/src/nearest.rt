@@ -39,12 +39,10 @@ pub fn sides(
     let mut next = w;
     let mut left = x;
     let mut right = y;
-    let mut more = count;
-    while 0 < more {
+    for _ in 0..count {
         next = side_flags(next, table, left, right, above, high);
         left += above + 2;
         right += above + 2;
-        more -= 1;
     }
     next
 }
@@ -89,8 +87,7 @@ pub fn last_of(
     let mut right = y;
     let mut first = u;
     let mut second = v;
-    let mut more = count;
-    while 0 < more {
+    for _ in 0..count {
         let n = next.wire;
         next = either(next, table, flag, left, right, first, second, above);
         flag += 2 * above + 3;
@@ -98,7 +95,6 @@ pub fn last_of(
         right += above + 2;
         first = n;
         second = n + above + 1;
-        more -= 1;
     }
     next
 }
@@ -121,10 +117,8 @@ pub fn first_of(
     let mut next = w;
     let mut first = u;
     let mut second = v;
-    let mut more = count;
-    while 0 < more {
+    for i in (0..count).rev() {
         let n = next.wire;
-        let i = more - 1;
         let step = i * (above + 2);
         next = either(
             next,
@@ -138,7 +132,6 @@ pub fn first_of(
         );
         first = n;
         second = n + above + 1;
-        more = i;
     }
     next
 }

@@ -48,18 +48,18 @@ unfolding stays
 diagonal_stays zero i j e = or_second (not (eqb i 0 || eqb j 0)) (eqb i j) (eq-eqb i j e)
 diagonal_stays (suc l) i j e = or_second (eqb i l || eqb j l) (eqb i j) (eq-eqb i j e)
 
+only : (b : Bool) → (b || false) ≡ b
+only true = refl
+only false = refl
+
 module _ (m i j : ℕ) (z : m ≡ 0) (ne : i ≢ j) where
-  pub zero_from : i ≡ 0 → stays m i j ≡ false
+  pub zero_first : i ≡ 0 → not (eqb i 0) ≡ stays m i j
   unfolding stays
-  zero_from e = ap (λ (x : ℕ). stays x i j) z ∙ rw (eq-eqb i 0 e, ne_eqb i j ne)
+  zero_first e = sym (ap (λ (x : ℕ). stays x i j) z ∙ rw (eq-eqb i 0 e, ne_eqb i j ne))
 
-  pub zero_to : i ≢ 0 → j ≡ 0 → stays m i j ≡ false
+  pub zero_other : i ≢ 0 → not (eqb j 0) ≡ stays m i j
   unfolding stays
-  zero_to n e = ap (λ (x : ℕ). stays x i j) z ∙ rw (ne_eqb i 0 n, eq-eqb j 0 e, ne_eqb i j ne)
-
-  pub zero_else : i ≢ 0 → j ≢ 0 → stays m i j ≡ true
-  unfolding stays
-  zero_else n p = ap (λ (x : ℕ). stays x i j) z ∙ rw (ne_eqb i 0 n, ne_eqb j 0 p)
+  zero_other n = sym (ap (λ (x : ℕ). stays x i j) z ∙ rw (ne_eqb i 0 n, ne_eqb i j ne) (only (not (eqb j 0))))
 
 pub later_stays : (m i j : ℕ) → m ≢ 0 → stays m i j ≡ (eqb i (m - 1) || eqb j (m - 1) || eqb i j)
 unfolding stays
@@ -73,10 +73,6 @@ row_stays m i j n e = later_stays m i j n
 
 pub column_stays : (m i j : ℕ) → m ≢ 0 → i ≢ j → i ≢ m - 1 → stays m i j ≡ eqb j (m - 1)
 column_stays m i j n ne r = later_stays m i j n ∙ rw (ne_eqb i (m - 1) r, ne_eqb i j ne) (only (eqb j (m - 1)))
-  where
-    only : (b : Bool) → (b || false) ≡ b
-    only true = refl
-    only false = refl
 
 -- if a detour changes the word of i and j, it goes over neither
 pub apart_later : (m i j : ℕ) → m ≢ 0 → stays m i j ≡ false → (i ≢ m - 1) × (j ≢ m - 1) × (i ≢ j)

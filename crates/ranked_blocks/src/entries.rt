@@ -57,10 +57,7 @@ pub fn links_entry(
     let k = p.candidates;
     let i = e / k;
     let j = e % k;
-    if i <= j {
-        return w;
-    }
-    if i < first {
+    if i <= j || i < first {
         return w;
     }
     let next = compare(
@@ -123,10 +120,7 @@ pub fn meetings_entry(
     let k = p.candidates;
     let i = e / k;
     let j = e % k;
-    if i <= j {
-        return w;
-    }
-    if k - 1 <= i {
+    if i <= j || k - 1 <= i {
         return w;
     }
     let next = meet(w, table, words, met, p, i, j);

@@ -21,18 +21,9 @@ pub(crate) fn stays(m: u32, i: u32, j: u32) -> bool
         return true;
     }
     if m == 0 {
-        if i == 0 {
-            return false;
-        }
-        if j == 0 {
-            return false;
-        }
-        return true;
+        return i != 0 && j != 0;
     }
-    if i == m - 1 {
-        return true;
-    }
-    j == m - 1
+    i == m - 1 || j == m - 1
 }
 
 // How many of a word's highest digits are the high half in stage m: half of its digits if the next stage waits for
@@ -44,10 +35,7 @@ pub(crate) fn cut_at(k: u32, digits: u32, m: u32, i: u32, j: u32) -> u32
     if k - 1 <= m {
         return 0;
     }
-    if i == m {
-        return (digits + 1) / 2;
-    }
-    if j == m {
+    if i == m || j == m {
         return (digits + 1) / 2;
     }
     0

@@ -1,0 +1,43 @@
+-- `ranked_words::blocks::path_or_way` meets its contract: the weaker part of the way, then the stronger of two.
+-- Assumes nothing.
+use mathlib.Core.Path.{◌≡◌, ◌∙◌, refl, ap}
+use Prim.Native.Nat.{ℕ, suc, ◌+◌, ◌-◌, ◌≤◌}
+use native.Mathlib.Omega.{arith}
+use Rattle.gate_words.proofs.Writing.{wrote_as}
+use Rattle.gate_words.proofs.Standing.{Stands, stands, stands_after, wrote_then}
+use Rattle.ranked_circuit.specs.Blocks.{order_size, smaller, larger}
+use Rattle.ranked_words.proofs.Cutting.{smaller_is, larger_is, smaller_long}
+use Rattle.ranked_words.proofs.blocks.path_or_way.Goals as goal
+use Rattle.ranked_words.proofs.blocks.path_or_way.Goals.{After-one_of-weaker}
+
+one : (c : After-one_of-weaker) → Stands c.one_of-weaker.result
+    (c.args.w.wire + (order_size c.args.digits c.args.cut
+    + suc c.args.digits))
+    (order_size c.args.digits c.args.cut + suc c.args.digits)
+one c =
+    let a = c.args in
+    stands_after a.w a.table.now _ c.one_of-weaker.new.table c.one_of-weaker.result _
+    (order_size a.digits a.cut + suc a.digits) _ c.one_of-weaker.ensures
+    (smaller_long a.w.wire a.x a.y a.digits a.cut c.requires.within)
+    (stands a.w a.w.wire _ _ refl (omega arith) c.requires.room)
+
+pub one_of-requires : goal.one_of-requires
+one_of-requires c = let t = one (goal.at.one_of-requires c).After-one_of-weaker in
+    let w : c.one_of-weaker.result.wire - c.args.digits - 1 + suc c.args.digits ≤ c.one_of-weaker.result.wire = omega (arith, t.place) in
+    let v : c.args.v + suc c.args.digits ≤ c.one_of-weaker.result.wire = omega (arith, c.requires.word_below, t.place) in
+    record { order = record { room = t.left; first_below = v; second_below = w; within = c.requires.within }; more_below = v; less_below = w }
+
+pub returns : goal.returns
+returns c = let a = c.args in
+    let n = a.w.wire in
+    let f = c.one_of in
+    let W = c.one_of-weaker.result.wire in
+    let place : W ≡ n + order_size a.digits a.cut + suc a.digits = omega (arith, (one (goal.at.returns c).After-one_of-weaker).place) in
+    let way : W - a.digits - 1 ≡ n + order_size a.digits a.cut = omega (arith, (one (goal.at.returns c).After-one_of-weaker).place) in
+    wrote_then a.w a.table.now (smaller n a.x a.y a.digits a.cut) c.one_of-weaker.new.table
+    c.one_of-weaker.result _ _ f.new.table f.result
+    (wrote_as a.w a.table.now _ (smaller n a.x a.y a.digits a.cut) c.one_of-weaker.new.table
+    c.one_of-weaker.result (smaller_is n a.x a.y a.digits a.cut) c.one_of-weaker.ensures)
+    f.ensures (larger_is W a.v (W - a.digits - 1) a.digits a.cut
+    ∙ ap (λ (m : ℕ). larger m a.v (W - a.digits - 1) a.digits a.cut) place
+    ∙ ap (λ (m : ℕ). larger (n + order_size a.digits a.cut + suc a.digits) a.v m a.digits a.cut) way)
