@@ -43,7 +43,7 @@ pub returns-then-i-j : goal.returns-then-i-j
 returns-then-i-j c = let a = c.args in
     let k = a.p.candidates in
     let q : (ltb (a.e % k) (a.e / k) && leb a.first (a.e / k)) ≡ false = elim c.then-i-j.branch [
-      then-i-j-via-then-i-j w ↦ not_later (leb a.first) (a.e / k) (a.e % k) w.if-i-j.true
+      | then-i-j-via-then-i-j w ↦ not_later (leb a.first) (a.e / k) (a.e % k) w.if-i-j.true
       | then-i-j-via-else-i-j+then-i-first w ↦ no_row (leb a.first) (a.e / k) (a.e % k) (lt-leb a.first (a.e / k) w.if-i-first.true)
     ] in
     record {

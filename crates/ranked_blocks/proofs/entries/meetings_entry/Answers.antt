@@ -44,9 +44,9 @@ pub returns-then-i-j : goal.returns-then-i-j
 returns-then-i-j c = let a = c.args in
     let k = a.p.candidates in
     let q : (ltb (a.e % k) (a.e / k) && ltb (a.e / k) (k - 1)) ≡ false = elim c.then-i-j.branch [
-      then-i-j-via-then-i-j w ↦ not_later (λ y. ltb y (k - 1)) (a.e / k) (a.e % k) w.if-i-j.true
+      | then-i-j-via-then-i-j w ↦ not_later (λ y. ltb y (k - 1)) (a.e / k) (a.e % k) w.if-i-j.true
       | then-i-j-via-else-i-j+then-k-i w ↦
-        no_row (λ y. ltb y (k - 1)) (a.e / k) (a.e % k) (le-ltb (a.e / k) (k - 1) w.if-k-i.true)
+          no_row (λ y. ltb y (k - 1)) (a.e / k) (a.e % k) (le-ltb (a.e / k) (k - 1) w.if-k-i.true)
     ] in
     record {
       wrote = wrote_as a.w a.table.now [] _ a.table.now a.w

@@ -22,7 +22,7 @@ pub returns-then-i-m : goal.returns-then-i-m
 returns-then-i-m c = let a = c.args in
     let l = next (goal.at.returns-then-i-m c).Else-k-m in
     half a.digits ∙ sym (elim c.then-i-m.branch [
-      then-i-m-via-then-i-m w ↦ cut_row a.k a.digits a.m a.i a.j l w.if-i-m.true
+      | then-i-m-via-then-i-m w ↦ cut_row a.k a.digits a.m a.i a.j l w.if-i-m.true
       | then-i-m-via-else-i-m+then-j-m w ↦ cut_column a.k a.digits a.m a.i a.j l w.if-i-m.false w.if-j-m.true
     ])
 

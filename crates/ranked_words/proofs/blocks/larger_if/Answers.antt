@@ -27,7 +27,8 @@ one c =
     (stands a.w a.w.wire _ _ refl (omega arith) c.requires.room)
 
 pub chain_end-end-requires : goal.chain_end-end-requires
-chain_end-end-requires c = omega (arith, (one (goal.at.chain_end-end-requires c).After-order_cut-told).place, (one (goal.at.chain_end-end-requires c).After-order_cut-told).left.small)
+chain_end-end-requires c = let s = one (goal.at.chain_end-end-requires c).After-order_cut-told in
+    omega (arith, s.place, s.left.small)
 
 pub emit-both-requires : goal.emit-both-requires
 emit-both-requires c = room_of c.order_cut-told.result _ _ _ (one (goal.at.emit-both-requires c).After-order_cut-told) (omega arith)
