@@ -21,12 +21,9 @@ fn candidates(w: Writer, table: &mut [u32], p: Plan) -> Writer
     requires { CandidatesReady w p }
     ensures { Wrote w table.old (candidates_from p w.wire 0 p.candidates) table.new result }
 {
-    let count = p.candidates;
     let mut next = w;
-    let mut c: u32 = 0;
-    while c < count {
+    for c in 0..p.candidates {
         next = candidate(next, table, p, c);
-        c += 1;
     }
     next
 }

@@ -19,10 +19,8 @@ fn and_all(w: Writer, table: &mut [u32], at: u32, stays: u32, count: u32) -> Wri
     ensures { Wrote w table.old (and_all at stays count) table.new result }
 {
     let mut next = w;
-    let mut i: u32 = 0;
-    while i < count {
+    for i in 0..count {
         next = next.emit(table, kind::AND, at + i, stays, 0);
-        i += 1;
     }
     next
 }

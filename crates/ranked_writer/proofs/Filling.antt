@@ -50,29 +50,22 @@ module _ (w₀ : Writer) (t₀ : List ℕ) (block : ℕ → ℕ → List Gate) w
   pub fill_end : (m most : ℕ) (t : List ℕ) (w : Writer) → most ≤ m → m ≤ most → Filled m t w → Filled most t w
   fill_end m most t w h g a = subst (λ (n : ℕ). Filled n t w) {x = m} {y = most} (omega arith) a
 
--- A turn of the loop over a table of k rows; x is k as the program has it. Block e is in row e / x and column e % x.
-pub record Turn (x k e : ℕ) : Type 0 where
-  pub row : e / x < k
-  pub column : e % x < k
-  pub number : e / x * k + e % x ≡ e
+-- A turn of the loop over a table of k rows. Block e is in row e / k and column e % k.
+pub record Turn (k e : ℕ) : Type 0 where
+  pub row : e / k < k
+  pub column : e % k < k
+  pub number : e / k * k + e % k ≡ e
   pub few : e < k * k
   pub small : e < most_pairs
 
-pub turn : {x k e : ℕ} → x ≡ k → k ≤ most_candidates → e < x * x → Turn x k e
-turn {x} {k} {e} q h l =
-    let m : e < k * k = subst (λ (y : ℕ). e < y * y) q l in
-    subst (λ (y : ℕ). Turn y k e) (sym q)
-    (record {
-      row = row_low k e m;
-      column = column_low k e m;
-      number = number_of k e;
-      few = m;
-      small =
-          omega (arith, square_small k h);
-    })
-
-pub same_square : {x k : ℕ} → x ≡ k → x * x ≡ k * k
-same_square {x} {k} q = ap (λ (y : ℕ). y * y) q
+pub turn : {k e : ℕ} → k ≤ most_candidates → e < k * k → Turn k e
+turn {k} {e} h l = record {
+  row = row_low k e l;
+  column = column_low k e l;
+  number = number_of k e;
+  few = l;
+  small = omega (arith, square_small k h);
+}
 
 module _ (w₀ : Writer) (t₀ : List ℕ) (k : ℕ) (block : ℕ → ℕ → ℕ → List Gate) where
   abbrev numbered : ℕ → ℕ → List Gate

@@ -43,10 +43,8 @@ fn path_tables(w: Writer, table: &mut [u32], words: &mut [u32], p: Ranks) -> Wri
 {
     let mut links = [0u32; PAIRS];
     let mut next = first_tables(w, table, &mut links, words, p);
-    let mut m: u32 = 0;
-    while m < p.candidates {
+    for m in 0..p.candidates {
         next = path_table(next, table, &links, words, p, m);
-        m += 1;
     }
     next
 }

@@ -37,12 +37,10 @@ fn loser_row(w: Writer, table: &mut [u32], beats: &[u32], k: u32, i: u32) -> Wri
 {
     let at = w.wire;
     let mut next = w;
-    let mut t: u32 = 0;
-    while t < k - 2 {
+    for t in 0..k - 2 {
         let a = joined(beats, k, at, i, 2 * t);
         let b = joined(beats, k, at, i, 2 * t + 1);
         next = next.emit(table, kind::OR, a, b, 0);
-        t += 1;
     }
     next
 }
@@ -54,10 +52,8 @@ pub(crate) fn loser_rows(w: Writer, table: &mut [u32], beats: &[u32], k: u32) ->
         table.new result }
 {
     let mut next = w;
-    let mut i: u32 = 0;
-    while i < k {
+    for i in 0..k {
         next = loser_row(next, table, beats, k, i);
-        i += 1;
     }
     next
 }
@@ -69,11 +65,9 @@ pub(crate) fn output_gates(w: Writer, table: &mut [u32], beats: &[u32], k: u32, 
         table.new result }
 {
     let mut next = w;
-    let mut i: u32 = 0;
-    while i < k {
+    for i in 0..k {
         let lost = joined(beats, k, rows + i * (k - 2), i, 2 * (k - 2));
         next = next.emit(table, kind::NOT, lost, 0, 0);
-        i += 1;
     }
     next
 }

@@ -21,10 +21,8 @@ pub(crate) fn votes_table(w: Writer, table: &mut [u32], words: &mut [u32], p: Ra
 {
     let k = p.candidates;
     let mut next = w;
-    let mut e: u32 = 0;
-    while e < k * k {
+    for e in 0..k * k {
         next = votes_entry(next, table, words, p, e);
-        e += 1;
     }
     next
 }
@@ -46,10 +44,8 @@ pub(crate) fn links_table(
 {
     let k = p.candidates;
     let mut next = w;
-    let mut e: u32 = 0;
-    while e < k * k {
+    for e in 0..k * k {
         next = links_entry(next, table, words, links, p, first, e);
-        e += 1;
     }
     next
 }
@@ -71,10 +67,8 @@ pub(crate) fn meetings_table(
 {
     let k = p.candidates;
     let mut next = w;
-    let mut e: u32 = 0;
-    while e < k * k {
+    for e in 0..k * k {
         next = meetings_entry(next, table, words, met, p, e);
-        e += 1;
     }
     next
 }
@@ -98,10 +92,8 @@ pub(crate) fn path_table(
 {
     let k = p.candidates;
     let mut next = w;
-    let mut e: u32 = 0;
-    while e < k * k {
+    for e in 0..k * k {
         next = path_entry(next, table, links, words, p, m, e);
-        e += 1;
     }
     next
 }
