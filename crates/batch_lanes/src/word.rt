@@ -4,7 +4,7 @@ ghost use Rattle.gates.specs.Kind.{value_of, kind_count};
 ghost use Rattle.batch_lanes.specs.Lane.{lane_count, lane};
 
 // A word whose 64 bits are all 1.
-pub const ALL: u64 = 18446744073709551615;
+pub const ALL: u64 = u64::MAX;
 
 // The value of a kind in all lanes at once. A choice is b in the lanes where a is 1, and c in the others.
 pub fn value(kind: u32, a: u64, b: u64, c: u64) -> u64
