@@ -22,15 +22,6 @@ and_taken t u r h e = e ∙ ap (λ (x : Bool). x && u) (sym h)
 pub and_left : (t u r : Bool) → t ≡ false → r ≡ t → r ≡ (t && u)
 and_left t u r h e = e ∙ h ∙ ap (λ (x : Bool). x && u) (sym h)
 
--- the first test failed, so the flag is the second test
-pub or_left : (t u r : Bool) → t ≡ false → r ≡ u → r ≡ (t || u)
-or_left t u r h e = e ∙ ap (λ (x : Bool). x || u) (sym h)
-
--- the second test failed, and the flag is the outcome of the first
-pub or_only_first : (t u r : Bool) → u ≡ false → r ≡ t → r ≡ (t || u)
-or_only_first false u r e f = f ∙ sym e
-or_only_first true u r e f = f
-
 -- if a conjunction holds, so do both its parts
 pub and_first : (t u : Bool) → (t && u) ≡ true → t ≡ true
 and_first true u e = refl

@@ -100,17 +100,6 @@ module _ {A : Type 0} where
           ∙ up_to_kept i j new old e
           ∙ sym (get_d_tabulate n j (up_to (suc i) new old) (new i) l)
 
-  -- a turn may store nothing if the new entry equals the old one
-  pub fill_skip : (n i : ℕ) (new old : ℕ → A) → i < n → new i ≡ old i → tabulate n (up_to i new old) ≡ tabulate n (up_to (suc i) new old)
-  fill_skip n i new old h e = tabulate_cong n (up_to i new old) (up_to (suc i) new old)
-      (λ j l. ⊎_elim (λ s. same j s) (up_to_kept i j new old) (same_or_not j i))
-    where
-      here : up_to i new old i ≡ up_to (suc i) new old i
-      here = up_to_old i i new old (omega arith) ∙ sym e ∙ sym (up_to_new (suc i) i new old (omega arith))
-
-      same : (j : ℕ) → j ≡ i → up_to i new old j ≡ up_to (suc i) new old j
-      same j s = rw s here
-
   -- the loop may end after i turns if the two tables agree from i on
   pub fill_end : (n i : ℕ) (new old : ℕ → A) → ((j : ℕ) → i ≤ j → j < n → new j ≡ old j) → tabulate n (up_to i new old) ≡ tabulate n new
   fill_end n i new old h =

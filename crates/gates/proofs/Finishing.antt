@@ -7,7 +7,7 @@ use Prim.Native.Nat.{ℕ, suc, ◌+◌, ◌-◌, ◌≤◌, min}
 use native.Mathlib.Nat.{add-zero, zero-min, min-zero, suc-min-suc}
 use native.Mathlib.Omega.{arith}
 use lib.ListN.{length, take, drop, drop_of_length-le}
-use lib.Seq.{take_all, take-length, take_at, sets, sets-eq, length-sets}
+use lib.Seq.{take_all, take_at, sets, sets-eq, length-sets}
 use Rattle.gates.specs.Open.Gate.{Gate, gates_of}
 use Rattle.gates.specs.Open.Wires.{wires_of, outputs_of}
 use Rattle.gates.specs.Open.Board.{conditionals, conditional_count, shown_bit, shown_bits, board_of}
@@ -85,10 +85,3 @@ module _ (i : ℕ) (t : List ℕ) (gates k : ℕ) (tape ws board : List ℕ) (e 
           e₃ ∙ ap (λ (b : List ℕ). take shown b ++ outputs_of k ws₂) f
           ∙ ap (λ (b : List ℕ). b ++ outputs_of k ws₂) (take_at bits (drop (0 + length bits) board) shown c)
           ∙ ap (λ (b : List ℕ). bits ++ outputs_of k b) final_wires
-
--- inputs that were copied are at the front of the wire table
-pub copied_front : (inputs ws last : List ℕ) → last ≡ take (length inputs) inputs ++ drop (length inputs) ws
-    → take (length inputs) last ≡ inputs
-copied_front inputs ws last e =
-    let p : length (take (length inputs) inputs) ≡ length inputs = ap length (take-length inputs) in
-    ap (take (length inputs)) e ∙ take_at (take (length inputs) inputs) (drop (length inputs) ws) (length inputs) p ∙ take-length inputs

@@ -1,4 +1,3 @@
-pub mod Tests
 pub mod Applying
 pub mod KindLaws
 pub mod Table

@@ -1,5 +1,4 @@
 pub mod Open
-pub mod Limits
 pub mod Kind
 pub mod Gate
 pub mod Wires

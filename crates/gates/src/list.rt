@@ -1,19 +1,15 @@
 // The test of a gate list, the own one or a stranger's.
-ghost use Rattle.std.specs.Prelude.{◌≡◌, ℕ, ◌+◌, ◌<◌, ltb, eqb, length};
+ghost use Rattle.std.specs.Prelude.{◌≡◌, ◌+◌, length};
+ghost use Rattle.gates.specs.Kind.{operand_counts};
 ghost use Rattle.gates.specs.Gate.{gates_of};
 ghost use Rattle.gates.specs.Board.{conditional_count};
-ghost use Rattle.gates.specs.Limits.{operand_limit, table_gate_limit};
 ghost use Rattle.gates.specs.Test.{good_operand, good_gate, first_bad, judged, tested};
-ghost use Rattle.gates.specs.inner.Test.{TestReady};
 
 use crate::kind;
 use crate::kind::OperandCounts;
 
 // The most gates that a list may have: 2^20.
 pub const MOST_GATES: usize = 1048576;
-
-// 2^32, which no 32-bit operand reaches.
-const OPERAND_LIMIT: usize = 4294967296;
 
 // A list's own size: its G gates, and the C of them that are conditional.
 #[derive(Clone, Copy)]
@@ -42,19 +38,6 @@ fn is_good_operand(used: bool, own: usize, operand: u32) -> bool
     }
 }
 
-// The bound on gate g's operands: its own wire, inputs + g. From 2^32 inputs on that sum could wrap; 2^32 is then a
-// bound that accepts the same 32-bit operands.
-fn own_wire(inputs: usize, g: usize) -> usize
-    requires { g < table_gate_limit }
-    ensures { (x : ℕ) → x < operand_limit → ltb x result ≡ ltb x (inputs + g) }
-{
-    if inputs < OPERAND_LIMIT {
-        inputs + g
-    } else {
-        OPERAND_LIMIT
-    }
-}
-
 // Whether gate g, made of these four numbers, is good.
 fn gate_is_good(
     inputs: usize,
@@ -65,7 +48,7 @@ fn gate_is_good(
     b: u32,
     c: u32,
 ) -> bool
-    requires { TestReady g counts.now }
+    requires { counts.now ≡ operand_counts }
     ensures { result ≡ good_gate (inputs + g) (record { kind = kind; a = a; b = b; c = c }) }
 {
     // Only the match in `apply` says whether the kind is known. The operands do not matter here.
@@ -73,7 +56,8 @@ fn gate_is_good(
         return false;
     }
     let count = kind::operands(counts, kind);
-    let own = own_wire(inputs, g);
+    // The gate's own wire, inputs + g. Where that sum does not fit, every 32-bit operand is below it all the same.
+    let own = inputs.saturating_add(g);
     if !is_good_operand(0 < count, own, a) {
         return false;
     }

@@ -5,20 +5,19 @@ use mathlib.Core.Bool.{Bool, true, false, cond, ◌||◌, true≢false}
 use mathlib.Core.Logic.{⊎_elim, ◌≢◌}
 use mathlib.Core.List.{List}
 use Prim.Native.Nat.{ℕ, zero, suc, min, max, ◌+◌, ◌*◌, ◌≤◌, ◌<◌}
-use native.Mathlib.Nat.{add-zero, mul-le-mul}
+use native.Mathlib.Nat.{add-zero}
 use native.Mathlib.Numerals.{add-one}
 use native.Mathlib.Omega.{arith}
 use lib.Dec.{leb, eqb}
 use lib.ListN.{get_or}
 use borrow.Author.Tests.{eq-eqb, ne_eqb, lt-leb}
-use Rattle.jury.specs.Shape.{most_ballots, most_pairs}
 use Rattle.jury.specs.Rankings.{rank_place, before}
 use Rattle.basics.proofs.Cases.{same_or_not}
 use Rattle.basics.proofs.Flags.{never_true, or_first, or_second}
 use Rattle.rule_schulze.specs.Schulze.{all_candidates}
 use Rattle.rule_schulze.specs.Closure.{detour, closure}
 use Rattle.rule_schulze.specs.Votes.{votes}
-use Rattle.rule_schulze.specs.inner.Tables.{entry, unbeaten_in, RankedSize}
+use Rattle.rule_schulze.specs.inner.Tables.{entry, unbeaten_in}
 use Rattle.rule_schulze.proofs.Members.{in_candidates, of_candidates}
 use Rattle.rule_schulze.proofs.Paths.{detour_over}
 use Rattle.rule_schulze.proofs.Winning.{all_holds, holds_all}
@@ -30,13 +29,6 @@ place_within k n b i j hb hi hj =
     let l : b * k + k ≤ n * k = row_within b n k hb in
     let m : (b * k + i) * k + k ≤ n * k * k = row_within (b * k + i) (n * k) k (omega arith) in
     omega arith
-
--- bounds for the bytes of one ballot and of all ballots
-pub few_bytes : (k n : ℕ) (xs : List ℕ) → RankedSize k n xs → (k * k ≤ most_pairs) × (n * k * k ≤ most_ballots * most_pairs)
-few_bytes k n xs s = (
-  mul-le-mul s.candidates_within s.candidates_within,
-  mul-le-mul (mul-le-mul s.ballots_within s.candidates_within) s.candidates_within,
-)
 
 -- the votes after one more ballot
 votes_more : (k b : ℕ) (xs : List ℕ) (i j : ℕ) → votes k (b + 1) xs i j ≡ votes k b xs i j + cond (before k xs b i j) 1 0

@@ -1,10 +1,14 @@
--- `gates::list::gate_is_good` meets its contract: it makes the tests of the definition, and `own_wire`'s bound is as
--- good for a 32-bit operand as the gate's own wire.
+-- `gates::list::gate_is_good` meets its contract: it makes the tests of the definition. Where the gate's own wire does
+-- not fit, every 32-bit operand is below it and below the largest number that fits.
 -- Assumes nothing.
 use mathlib.Core.Path.{◌≡◌, ◌∙◌, refl, sym, ap}
 use mathlib.Core.Bool.{Bool, true, false, ◌&&◌, not}
-use Prim.Native.Nat.{ℕ, ◌+◌}
+use Prim.Native.Nat.{ℕ, ◌+◌, ◌<◌, min}
+use mathlib.Core.Logic.{⊎_elim}
+use native.Mathlib.Omega.{arith}
 use lib.Dec.{ltb}
+use borrow.Author.Tests.{lt-ltb, le-ltb}
+use Rattle.basics.proofs.Cases.{below_or_not}
 use Rattle.std.specs.Prelude.{Option}
 use Rattle.std.specs.Option.{is_some}
 use Rattle.gates.specs.Open.Kind.{kind_count, operands_of, applied}
@@ -32,6 +36,13 @@ unfolding good_operand
 as_own true bound own x r t e p q = sym q ∙ p ∙ e
 as_own false bound own x r t e p q = sym q ∙ p
 
+-- a 32-bit operand is below the saturated sum exactly if it is below the sum
+below_own : (inputs g own x : ℕ) → own ≡ min (inputs + g) 18446744073709551615 → x < 4294967296 → ltb x own ≡ ltb x (inputs + g)
+below_own inputs g own x e small = ⊎_elim
+    (λ l. lt-ltb x own (omega (arith, e, l)) ∙ sym (lt-ltb x (inputs + g) l))
+    (λ l. le-ltb x own (omega (arith, e, l)) ∙ sym (le-ltb x (inputs + g) l))
+    (below_or_not x (inputs + g))
+
 pub returns-then-is_none : goal.returns-then-is_none
 returns-then-is_none c = let a = c.args in
     parts (a.inputs + a.g) a.kind a.a a.b a.c _ false _ _ _
@@ -41,21 +52,33 @@ pub returns-then-not-is_good_operand : goal.returns-then-not-is_good_operand
 returns-then-not-is_good_operand c = let a = c.args in
     parts (a.inputs + a.g) a.kind a.a a.b a.c c.operands-count.result true false _ _
     (known a.kind _ _ false c.is_none.ensures c.apply.ensures c.if-is_none.false) c.operands-count.ensures
-    (as_own _ _ _ a.a _ false (c.own_wire-own.ensures a.a c.ranges.a.fits) c.is_good_operand.ensures c.if-not-is_good_operand.true)
+    (as_own _ _ _ a.a _ false
+    (below_own a.inputs a.g _ a.a c.saturating_add-own.ensures (omega (arith, c.ranges.a)))
+    c.is_good_operand.ensures c.if-not-is_good_operand.true)
     refl refl
 
 pub returns-then-not-is_good_operand-2 : goal.returns-then-not-is_good_operand-2
 returns-then-not-is_good_operand-2 c = let a = c.args in
     parts (a.inputs + a.g) a.kind a.a a.b a.c c.operands-count.result true true false _
     (known a.kind _ _ false c.is_none.ensures c.apply.ensures c.if-is_none.false) c.operands-count.ensures
-    (as_own _ _ _ a.a _ true (c.own_wire-own.ensures a.a c.ranges.a.fits) c.is_good_operand.ensures c.if-not-is_good_operand.false)
-    (as_own _ _ _ a.b _ false (c.own_wire-own.ensures a.b c.ranges.b.fits) c.is_good_operand-2.ensures c.if-not-is_good_operand-2.true)
+    (as_own _ _ _ a.a _ true
+    (below_own a.inputs a.g _ a.a c.saturating_add-own.ensures (omega (arith, c.ranges.a)))
+    c.is_good_operand.ensures c.if-not-is_good_operand.false)
+    (as_own _ _ _ a.b _ false
+    (below_own a.inputs a.g _ a.b c.saturating_add-own.ensures (omega (arith, c.ranges.b)))
+    c.is_good_operand-2.ensures c.if-not-is_good_operand-2.true)
     refl
 
 pub returns : goal.returns
 returns c = let a = c.args in
     parts (a.inputs + a.g) a.kind a.a a.b a.c c.operands-count.result true true true c.is_good_operand-3.result
     (known a.kind _ _ false c.is_none.ensures c.apply.ensures c.if-is_none.false) c.operands-count.ensures
-    (as_own _ _ _ a.a _ true (c.own_wire-own.ensures a.a c.ranges.a.fits) c.is_good_operand.ensures c.if-not-is_good_operand.false)
-    (as_own _ _ _ a.b _ true (c.own_wire-own.ensures a.b c.ranges.b.fits) c.is_good_operand-2.ensures c.if-not-is_good_operand-2.false)
-    (as_own _ _ _ a.c _ c.is_good_operand-3.result (c.own_wire-own.ensures a.c c.ranges.c.fits) c.is_good_operand-3.ensures refl)
+    (as_own _ _ _ a.a _ true
+    (below_own a.inputs a.g _ a.a c.saturating_add-own.ensures (omega (arith, c.ranges.a)))
+    c.is_good_operand.ensures c.if-not-is_good_operand.false)
+    (as_own _ _ _ a.b _ true
+    (below_own a.inputs a.g _ a.b c.saturating_add-own.ensures (omega (arith, c.ranges.b)))
+    c.is_good_operand-2.ensures c.if-not-is_good_operand-2.false)
+    (as_own _ _ _ a.c _ c.is_good_operand-3.result
+    (below_own a.inputs a.g _ a.c c.saturating_add-own.ensures (omega (arith, c.ranges.c)))
+    c.is_good_operand-3.ensures refl)
