@@ -1,19 +1,19 @@
 -- What a call leaves, by whether its answer array is long enough.
 -- Assumes nothing.
-use mathlib.Core.Path.{◌≡◌, ◌∙◌, sym, ap}
+use Rattle.std.specs.Prelude.{Result, Ok, Err, MatchResult, IsOkAnd}
+use mathlib.Core.Path.{◌≡◌, ◌∙◌, refl, sym, ap}
 use mathlib.Core.Option.{Option}
 use mathlib.Core.Bool.{Bool, cond}
-use mathlib.Core.List.{List, ◌∷◌, ◌++◌}
+use mathlib.Core.List.{List, [], ◌∷◌, ◌++◌}
 use Prim.Native.Nat.{ℕ, ◌<◌, ◌≤◌}
 use lib.ListN.{length, drop}
 use borrow.Author.Tests.{lt-ltb, le-ltb}
-use Rattle.jury.specs.Reason.{Reason}
-use Rattle.c_answers.specs.Numbers.{told_numbers, status_of, short_answer, status, answered, CallResult, call_result}
+use Rattle.gates.specs.declared.list.ListSize.{ListSize}
+use Rattle.jury.specs.Reason.{Reason, reason_of}
+use Rattle.jury.specs.declared.reason.Refusal.{Refusal}
+use Rattle.tally.specs.Answer.{outcome_of}
+use Rattle.c_answers.specs.Numbers.{answer_numbers, size_told, size_numbers, mapped, result_numbers, told_numbers, status_of, short_answer, status, answered, CallResult, call_result}
 use Rattle.c_answers.specs.inner.Puts.{Puts}
-
--- lists that differ at most in the first two numbers
-pub two : (a b c d : ℕ) (rest : List ℕ) → a ≡ c → b ≡ d → a ∷ b ∷ rest ≡ c ∷ d ∷ rest
-two a b c d rest e f = ap (λ (n : ℕ). n ∷ b ∷ rest) e ∙ ap (λ (n : ℕ). c ∷ n ∷ rest) f
 
 -- equal parts make equal numbers
 pub counted : (o q : Option Reason) (bytes closing : List ℕ) → o ≡ q → bytes ≡ closing → told_numbers o bytes ≡ told_numbers q closing
@@ -28,11 +28,19 @@ puts_same {needed} {result} {numbers} {others} {before} {after} e puts =
       writes = puts.writes ∙ ap (λ (z : List ℕ). z ++ drop needed before) e;
     }
 
--- the same answer, its length given by another expression
-pub puts_long : {needed enough result : ℕ} {numbers before after : List ℕ} → needed ≡ enough
-    → Puts needed numbers before after result → Puts enough numbers before after result
-puts_long {needed} {enough} {result} {numbers} {before} e puts =
-    record { returns = puts.returns; writes = puts.writes ∙ ap (λ (n : ℕ). numbers ++ drop n before) e }
+-- what `map` ensures, as an equation
+pub map_is : {T U E : Type 0} (o : Result T E) (m : Result U E) (Post : T → U → Type 0) (f : T → U)
+    → ((x : T) (u : U) → Post x u → u ≡ f x) → MatchResult o (λ x. IsOkAnd m (Post x)) (λ e. m ≡ Err e) → m ≡ mapped f o
+map_is (Ok x) (Ok u) Post f k h = ap Ok (k x u h)
+map_is (Ok x) (Err e) Post f k h = absurd h
+map_is (Err e) m Post f k h = h
+
+-- the answer of write, test or run, from its two numbers
+pub size_as : (o : Result ListSize Refusal)
+    → result_numbers reason_of 2 (mapped (λ (x : ListSize). x.gates ∷ x.conditional ∷ []) o) ≡ size_numbers (outcome_of o)
+unfolding result_numbers answer_numbers size_told outcome_of
+size_as (Ok x) = refl
+size_as (Err q) = refl
 
 -- the result of a call is equal if its three parts are
 same_call : {r r' : ℕ} {answer answer' : List ℕ} {lent lent' : List (List ℕ)} → r ≡ r' → answer ≡ answer' → lent ≡ lent'

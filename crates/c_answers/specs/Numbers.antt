@@ -1,6 +1,6 @@
 -- The numbers that a call leaves in its answer array, and the status that it returns.
 use Rattle.std.proofs.Math.Option.{Option}
-use Rattle.std.specs.Prelude.{cond, List, [], ◌∷◌, ◌++◌, ℕ, ◌+◌, ltb, length, get_or, drop}
+use Rattle.std.specs.Prelude.{cond, List, [], ◌∷◌, ◌++◌, ℕ, ◌+◌, ltb, length, get_or, drop, replicate, Result, Ok, Err}
 use Rattle.jury.specs.declared.shape.Shape.{Shape}
 use Rattle.jury.specs.Shape.{most_candidates}
 use Rattle.jury.specs.Reason.{Reason}
@@ -15,6 +15,17 @@ shape_of candidates grades ballots = record { candidates = candidates; grades = 
 unfoldable pub answer_numbers : {Values : Type 0} → Outcome Values → (told : List ℕ) → List ℕ
 answer_numbers (refused r) told = r.number ∷ r.place ∷ told
 answer_numbers (accepted values) told = 0 ∷ 0 ∷ told
+
+-- An outcome, with another value if it is accepted.
+abbrev pub mapped : {Told Numbers Refusal : Type 0} → (Told → Numbers) → Result Told Refusal → Result Numbers Refusal
+mapped f (Ok told) = Ok (f told)
+mapped f (Err r) = Err r
+
+-- The answer of a call whose outcome is `Ok` with the numbers that it tells, or `Err` with a reason. A refused call
+-- tells n zeros.
+unfoldable pub result_numbers : {Refusal : Type 0} → (Refusal → Reason) → (n : ℕ) → Result (List ℕ) Refusal → List ℕ
+result_numbers reason_of n (Ok told) = 0 ∷ 0 ∷ told
+result_numbers reason_of n (Err r) = (reason_of r).number ∷ (reason_of r).place ∷ replicate n 0
 
 -- Some calls tell one number, such as the length of a text or the ballots in an urn. A refused call tells zeros.
 unfoldable pub one_told : Outcome ℕ → List ℕ

@@ -1,7 +1,9 @@
 // The lent array in which a call leaves its answer.
-ghost use Rattle.std.specs.Prelude.{◌∷◌, ◌+◌, ◌≤◌, length};
+ghost use Rattle.std.specs.Prelude.{◌≡◌, [], ◌∷◌, ◌+◌, ◌≤◌, length};
+ghost use Rattle.c_answers.specs.Numbers.{result_numbers};
 ghost use Rattle.c_answers.specs.inner.Puts.{Puts};
 
+use jury::reason::Numbered;
 use jury::shape::Shape;
 
 // The status of a call whose answer array is too short. No reason has this number, and such a call changes nothing.
@@ -28,10 +30,29 @@ pub fn put_answer(reason: usize, place: usize, told: &[usize], answer: &mut [usi
 {
     answer[0] = reason;
     answer[1] = place;
-    let mut i = 0;
-    while i < told.len() {
-        answer[2 + i] = told[i];
-        i += 1;
-    }
+    answer[2..2 + told.len()].copy_from_slice(told);
     reason
+}
+
+// What a call tells that tells one number.
+pub fn one(n: usize) -> [usize; 1]
+    ensures { result ≡ n ∷ [] }
+{
+    [n]
+}
+
+// Puts reason and place, which are 0 for an accepted call, and the numbers that the call tells, which are 0 on a
+// refusal. Returns the status.
+#[tactic(auto, unfolding(crate::specs::Numbers::result_numbers))]
+pub fn put<E: Numbered, const N: usize>(
+    outcome: Result<[usize; N], E>,
+    answer: &mut [usize],
+) -> usize
+    requires { 2 + N ≤ length answer.old }
+    ensures { Puts (2 + N) (result_numbers E.told N outcome) answer.old answer.new result }
+{
+    match outcome {
+        Ok(told) => put_answer(0, 0, &told, answer),
+        Err(reason) => put_answer(reason.number(), reason.place(), &[0; N], answer),
+    }
 }

@@ -5,9 +5,7 @@ ghost use Rattle.c_tally.specs.Calls.{count_call};
 
 use crate::answer::put_count;
 use c_answers::array::{COUNT_ANSWER, SHORT_ANSWER};
-use jury::reason::{Refusal, Verdict};
-use jury::shape::{Shape, ShapeResult};
-use tally::count::Counted;
+use jury::shape::Shape;
 
 // Counts without a circuit. Answers reason, place and the eight closing bytes.
 pub fn jugy_count(
@@ -23,15 +21,10 @@ pub fn jugy_count(
     if answer.len() < COUNT_ANSWER {
         return SHORT_ANSWER;
     }
-    let ShapeResult::Within(shape) = Shape::new(candidates, grades, ballots) else {
-        return put_count(
-            Counted {
-                verdict: Verdict::Refused(Refusal::Shape),
-                closing: [0u8; Shape::MOST_CANDIDATES],
-            },
-            answer,
-        );
+    let shape = match Shape::new(candidates, grades, ballots) {
+        Ok(shape) => shape,
+        Err(reason) => return put_count(Err(reason), answer),
     };
-    let counted = tally::count::count(shape, bytes);
-    put_count(counted, answer)
+    let outcome = tally::count::count(shape, bytes);
+    put_count(outcome, answer)
 }

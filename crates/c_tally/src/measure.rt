@@ -5,9 +5,7 @@ ghost use Rattle.c_tally.specs.Calls.{measure_call};
 
 use crate::answer::put_measures;
 use c_answers::array::{SHORT_ANSWER, THREE_ANSWER};
-use jury::reason::Refusal;
-use jury::shape::{Shape, ShapeResult};
-use tally::measure::Measured;
+use jury::shape::Shape;
 
 // Measures the own list of a shape. Answers reason, place, G, C and I.
 pub fn jugy_measure(candidates: usize, grades: usize, ballots: usize, answer: &mut [usize]) -> usize
@@ -17,8 +15,9 @@ pub fn jugy_measure(candidates: usize, grades: usize, ballots: usize, answer: &m
     if answer.len() < THREE_ANSWER {
         return SHORT_ANSWER;
     }
-    let ShapeResult::Within(shape) = Shape::new(candidates, grades, ballots) else {
-        return put_measures(Measured::Refused(Refusal::Shape), answer);
+    let shape = match Shape::new(candidates, grades, ballots) {
+        Ok(shape) => shape,
+        Err(reason) => return put_measures(Err(reason), answer),
     };
     let outcome = tally::measure::measure(shape);
     put_measures(outcome, answer)

@@ -5,9 +5,7 @@ ghost use Rattle.c_tally.specs.Calls.{run_call};
 
 use c_answers::array::{SHORT_ANSWER, SIZE_ANSWER};
 use c_answers::size::put_size;
-use jury::reason::Refusal;
-use jury::shape::{Shape, ShapeResult};
-use tally::answer::Answer;
+use jury::shape::Shape;
 
 // Runs a list on ballots. Answers reason, place, G and C.
 pub fn jugy_run(
@@ -31,8 +29,9 @@ pub fn jugy_run(
     if answer.len() < SIZE_ANSWER {
         return SHORT_ANSWER;
     }
-    let ShapeResult::Within(shape) = Shape::new(candidates, grades, ballots) else {
-        return put_size(Answer::Refused(Refusal::Shape), answer);
+    let shape = match Shape::new(candidates, grades, ballots) {
+        Ok(shape) => shape,
+        Err(reason) => return put_size(Err(reason), answer),
     };
     let outcome = tally::run::run(shape, table, bytes, tape, wires, board);
     put_size(outcome, answer)

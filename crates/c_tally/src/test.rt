@@ -5,9 +5,7 @@ ghost use Rattle.c_tally.specs.Calls.{test_call};
 
 use c_answers::array::{SHORT_ANSWER, SIZE_ANSWER};
 use c_answers::size::put_size;
-use jury::reason::Refusal;
-use jury::shape::{Shape, ShapeResult};
-use tally::answer::Answer;
+use jury::shape::Shape;
 
 // Tests any list for a shape. Answers reason, place, G and C.
 pub fn jugy_test(
@@ -23,8 +21,9 @@ pub fn jugy_test(
     if answer.len() < SIZE_ANSWER {
         return SHORT_ANSWER;
     }
-    let ShapeResult::Within(shape) = Shape::new(candidates, grades, ballots) else {
-        return put_size(Answer::Refused(Refusal::Shape), answer);
+    let shape = match Shape::new(candidates, grades, ballots) {
+        Ok(shape) => shape,
+        Err(reason) => return put_size(Err(reason), answer),
     };
     let outcome = tally::test::test(shape, table);
     put_size(outcome, answer)

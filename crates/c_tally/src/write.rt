@@ -5,9 +5,7 @@ ghost use Rattle.c_tally.specs.Calls.{WriteLeaves};
 
 use c_answers::array::{SHORT_ANSWER, SIZE_ANSWER};
 use c_answers::size::put_size;
-use jury::reason::Refusal;
-use jury::shape::{Shape, ShapeResult};
-use tally::answer::Answer;
+use jury::shape::Shape;
 
 // Writes the own list of a shape. Answers reason, place, G and C.
 pub fn jugy_write(
@@ -23,8 +21,9 @@ pub fn jugy_write(
     if answer.len() < SIZE_ANSWER {
         return SHORT_ANSWER;
     }
-    let ShapeResult::Within(shape) = Shape::new(candidates, grades, ballots) else {
-        return put_size(Answer::Refused(Refusal::Shape), answer);
+    let shape = match Shape::new(candidates, grades, ballots) {
+        Ok(shape) => shape,
+        Err(reason) => return put_size(Err(reason), answer),
     };
     let outcome = tally::write::write(shape, table);
     put_size(outcome, answer)

@@ -1,6 +1,7 @@
 -- `c_tally::write::jugy_write` meets its contract: if the answer array is long enough, it answers what the entry
 -- point does.
--- Assumes nothing.
+use Rattle.std.specs.Prelude.{Err}
+use Rattle.jury.specs.declared.reason.Refusal.{Refusal}
 use mathlib.Core.Path.{◌∙◌, sym, ap}
 use mathlib.Core.List.{List, [], ◌∷◌}
 use Prim.Native.Nat.{ℕ}
@@ -16,12 +17,11 @@ use Rattle.tally.proofs.OwnList.{own_list_holds}
 use Rattle.tally.proofs.Writing.{write_refused, outside as outside_write}
 use Rattle.c_answers.specs.Numbers.{shape_of, size_numbers}
 use Rattle.c_answers.proofs.Answering.{short_call, put_call}
-use Rattle.c_tally.proofs.write.jugy_write.Statement.{statement}
-use Rattle.c_tally.proofs.write.jugy_write.Tie as tie
+use Rattle.c_tally.proofs.write.jugy_write.Goals as goal
 
-returns : tie.Need-returns-then-answer-lt-SIZE_ANSWER
+pub returns-then-answer-lt-SIZE_ANSWER : goal.returns-then-answer-lt-SIZE_ANSWER
 unfolding shape_of
-returns c =
+returns-then-answer-lt-SIZE_ANSWER c =
     let a = c.args in
     let s = shape_of a.candidates a.grades a.ballots in
     record {
@@ -30,54 +30,28 @@ returns c =
       holds = λ t. own_list_holds s (T_true (within_limits s) t);
     }
 
-new_requires : tie.Need-new-requires
-new_requires c κs = search rules
-
-enum_known_shape : tie.Need-enum_known-shape
-enum_known_shape c = search rules
-
-enum_told : tie.Need-enum_told-1
-enum_told c = search rules
-
-put_size_requires : tie.Need-put_size-requires
-put_size_requires c κs = search rules
-
-same_length : tie.Need-shape_of-answer-in_default
-same_length c = search rules
-
-returns_2 : tie.Need-returns-in_default
+pub returns-in-Err : goal.returns-in-Err
 unfolding shape_of outcome_of reason_of
-returns_2 c =
+returns-in-Err c =
     let a = c.args in
     let s = shape_of a.candidates a.grades a.ballots in
-    let outside = outside_is (within_limits s) s (sym c.new.ensures.result ∙ c.in_default.is) in
-    let refusal = write_refused s a.table.now (reason_at 1 0) (outside_write s a.table.now outside) in
+    let outside = outside_is (within_limits s) s c.in-Err.reason (sym c.in-Err.ensures.result) in
+    let refusal = write_refused s a.table.now (reason_at 1 0) (outside_write s a.table.now outside.0) in
     record {
       leaves = put_call 4 a.answer.now c.if-answer-lt-SIZE_ANSWER.false (size_numbers (write_outcome s a.table.now)) _ _ _
           c.put_size.ensures
-          (ap size_numbers (sym refusal.0)) (a.table.now ∷ []) (write_result s a.table.now ∷ []) _
+          (ap (λ (q : Refusal). size_numbers (outcome_of (Err q))) outside.1 ∙ ap size_numbers (sym refusal.0))
+          (a.table.now ∷ []) (write_result s a.table.now ∷ []) _
           (ap (λ (z : List ℕ). z ∷ []) (sym refusal.1));
       holds = λ t. own_list_holds s (T_true (within_limits s) t);
     }
 
-write_requires : tie.Need-write-outcome-requires
-write_requires c κs = search rules
-
-put_size_requires_2 : tie.Need-put_size-requires-2
-put_size_requires_2 c κs = search rules
-
-same_length_2 : tie.Need-shape_of-table
-same_length_2 c = search rules
-
-same_length_3 : tie.Need-shape_of-answer
-same_length_3 c = search rules
-
-returns_3 : tie.Need-returns
+pub returns : goal.returns
 unfolding shape_of
-returns_3 c =
+returns c =
     let a = c.args in
     let s = shape_of a.candidates a.grades a.ballots in
-    let same = shape_is (within_limits s) s c.in-Within.shape (sym c.new.ensures.result ∙ c.in-Within.is) in
+    let same = shape_is (within_limits s) s c.in-Ok.shape (sym c.in-Ok.ensures.result) in
     let wrote = c.write-outcome.ensures in
     record {
       leaves = put_call 4 a.answer.now c.if-answer-lt-SIZE_ANSWER.false (size_numbers (write_outcome s a.table.now)) _ _ _
@@ -87,20 +61,3 @@ returns_3 c =
           (ap (λ (z : List ℕ). z ∷ []) (wrote.leaves ∙ ap (λ (z : Shape). write_result z a.table.now) same));
       holds = λ t. own_list_holds s (T_true (within_limits s) t);
     }
-
-pub jugy_write_spec : {M : Type 1} → statement M
-jugy_write_spec =
-    tie.close
-    (tie.spec
-    returns
-    new_requires
-    enum_known_shape
-    enum_told
-    put_size_requires
-    same_length
-    returns_2
-    write_requires
-    put_size_requires_2
-    same_length_2
-    same_length_3
-    returns_3)
