@@ -5,9 +5,7 @@ ghost use Rattle.c_batch.specs.Calls.{batch_call};
 
 use c_answers::array::{SHORT_ANSWER, SIZE_ANSWER};
 use c_answers::size::put_size;
-use jury::reason::Refusal;
-use jury::shape::{Shape, ShapeResult};
-use tally::answer::Answer;
+use jury::shape::Shape;
 
 // Runs a list for 64 juries; bit j of each word is jury j's. Answers reason, place, G and C.
 pub fn jugy_run_batch(
@@ -37,8 +35,9 @@ pub fn jugy_run_batch(
     if answer.len() < SIZE_ANSWER {
         return SHORT_ANSWER;
     }
-    let ShapeResult::Within(shape) = Shape::new(candidates, grades, ballots) else {
-        return put_size(Answer::Refused(Refusal::Shape), answer);
+    let shape = match Shape::new(candidates, grades, ballots) {
+        Ok(shape) => shape,
+        Err(reason) => return put_size(Err(reason), answer),
     };
     let outcome = batch::run::run(shape, table, words, tape, wires, board);
     put_size(outcome, answer)

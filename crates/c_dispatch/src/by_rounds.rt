@@ -1,15 +1,11 @@
 // The dispatcher, for C.
-ghost use Rattle.std.specs.Prelude.{◌≡◌, [], ◌∷◌, ◌≤◌, ◌<◌, length, get_or};
+ghost use Rattle.std.specs.Prelude.{◌≡◌, [], ◌∷◌, ◌<◌, get_or};
 ghost use Rattle.dispatch_rounds.specs.Tables.{tables_of};
-ghost use Rattle.dispatch.specs.Reasons.{verdict_reason};
-ghost use Rattle.c_answers.specs.Numbers.{told_numbers};
-ghost use Rattle.c_answers.specs.inner.Puts.{Puts};
 ghost use Rattle.dispatch_rounds.specs.Rounds.{most_juries};
 ghost use Rattle.c_dispatch.specs.Numbers.{header_at, headers_in, dispatch_answer, dispatch_call};
 
-use c_answers::array::{SHORT_ANSWER, put_answer};
-use dispatch::verdict::JuriesVerdict;
-use dispatch_rounds::header::{Headers, JuryHeader, JuryNumbers, MOST_JURIES};
+use c_answers::array::{SHORT_ANSWER, put};
+use dispatch_rounds::header::{Headers, JuryHeader, MOST_JURIES};
 
 // How long an answer is: reason, place, and `MOST_JURIES` numbers of rounds.
 const DISPATCH_ANSWER: usize = 2 + MOST_JURIES;
@@ -18,7 +14,7 @@ const DISPATCH_ANSWER: usize = 2 + MOST_JURIES;
 fn number_at(numbers: &[usize], i: usize) -> usize
     ensures { result ≡ get_or numbers.now i 0 }
 {
-    if i < numbers.len() { numbers[i] } else { 0 }
+    numbers.get(i).copied().unwrap_or(0)
 }
 
 // Jury j's header.
@@ -36,7 +32,7 @@ fn header_at(numbers: &[usize], j: usize) -> JuryHeader
 }
 
 // The eight headers, four numbers each. A number past the end of the array is 0, so a missing header is refused for
-// reason 1.
+// reason 1. They are spelled out: a loop is no plainer, since it needs an array of headers to begin with.
 fn headers_in(numbers: &[usize]) -> Headers
     ensures { result ≡ headers_in numbers.now }
 {
@@ -50,23 +46,6 @@ fn headers_in(numbers: &[usize]) -> Headers
         header_at(numbers, 6),
         header_at(numbers, 7),
     ]
-}
-
-// Puts reason, jury and the eight numbers of rounds, and returns the status.
-fn put_rounds(verdict: JuriesVerdict, rounds: JuryNumbers, answer: &mut [usize]) -> usize
-    requires { dispatch_answer ≤ length answer.old }
-    ensures { Puts dispatch_answer (told_numbers (verdict_reason verdict) rounds) answer.old
-        answer.new result }
-{
-    match verdict {
-        JuriesVerdict::Accepted => put_answer(0, 0, &rounds, answer),
-        JuriesVerdict::Refused { reason, jury } => put_answer(
-            reason.number(),
-            jury,
-            &rounds,
-            answer,
-        ),
-    }
 }
 
 // Runs up to eight juries in rounds. Answers reason, place and eight numbers of rounds.
@@ -96,10 +75,9 @@ pub fn jugy_dispatch(
     if answer.len() < DISPATCH_ANSWER {
         return SHORT_ANSWER;
     }
-    let stated = headers_in(headers);
     let outcome = dispatch::dispatch::dispatch(
         count,
-        stated,
+        headers_in(headers),
         gates_per_round,
         lists,
         ballots,
@@ -107,7 +85,5 @@ pub fn jugy_dispatch(
         wires,
         boards,
     );
-    let verdict = outcome.verdict;
-    let rounds = outcome.rounds;
-    put_rounds(verdict, rounds, answer)
+    put(outcome, answer)
 }

@@ -6,24 +6,23 @@ ghost use Rattle.c_answers.specs.inner.Puts.{Puts};
 ghost use Rattle.c_levels.specs.Numbers.{depth_numbers};
 ghost use Rattle.c_levels.specs.Calls.{levels_call};
 
-use c_answers::array::{SHORT_ANSWER, THREE_ANSWER, put_answer};
-use jury::reason::Refusal;
-use jury::shape::{Shape, ShapeResult};
-use levels::answer::{Answer, LevelRefusal};
+use c_answers::array::{SHORT_ANSWER, THREE_ANSWER, put};
+use jury::shape::Shape;
+use levels::answer::{Answer, Depths, LevelRefusal};
+
+// What such a call tells: G, C and R.
+fn told(depths: Depths) -> [usize; 3]
+    ensures { result ≡ depths.gates ∷ depths.conditional ∷ depths.rounds ∷ [] }
+{
+    [depths.gates, depths.conditional, depths.rounds]
+}
 
 // Puts reason, place, G, C and R, and returns the status.
 pub fn put_depths(outcome: Answer, answer: &mut [usize]) -> usize
     requires { three_answer ≤ length answer.old }
     ensures { Puts three_answer (depth_numbers (depths_outcome outcome)) answer.old answer.new result }
 {
-    match outcome {
-        Answer::Accepted {
-            gates,
-            conditional,
-            rounds,
-        } => put_answer(0, 0, &[gates, conditional, rounds], answer),
-        Answer::Refused(reason) => put_answer(reason.number(), reason.place(), &[0, 0, 0], answer),
-    }
+    put(outcome.map(told), answer)
 }
 
 // Writes the level of each gate of any list. Answers reason, place, G, C and R.
@@ -42,11 +41,9 @@ pub fn jugy_levels(
     if answer.len() < THREE_ANSWER {
         return SHORT_ANSWER;
     }
-    let ShapeResult::Within(shape) = Shape::new(candidates, grades, ballots) else {
-        return put_depths(
-            Answer::Refused(LevelRefusal::OfCore(Refusal::Shape)),
-            answer,
-        );
+    let shape = match Shape::new(candidates, grades, ballots) {
+        Ok(shape) => shape,
+        Err(reason) => return put_depths(Err(LevelRefusal::OfCore(reason)), answer),
     };
     let outcome = levels::write::write(shape, table, levels);
     put_depths(outcome, answer)

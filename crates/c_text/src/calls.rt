@@ -5,20 +5,16 @@ ghost use Rattle.c_answers.specs.Numbers.{one_answer, one_numbers, shape_of};
 ghost use Rattle.c_answers.specs.inner.Puts.{Puts};
 ghost use Rattle.c_text.specs.Calls.{write_text_call, read_text_call};
 
-use c_answers::array::{ONE_ANSWER, SHORT_ANSWER, put_answer};
-use jury::reason::Refusal;
-use jury::shape::{Shape, ShapeResult};
-use text::answer::{Answer, TextRefusal};
+use c_answers::array::{ONE_ANSWER, SHORT_ANSWER, one, put};
+use jury::shape::Shape;
+use text::answer::TextRefusal;
 
 // Puts reason, place and the length of what was written, and returns the status.
-fn put_length(outcome: Answer, answer: &mut [usize]) -> usize
+fn put_length(outcome: Result<usize, TextRefusal>, answer: &mut [usize]) -> usize
     requires { one_answer ≤ length answer.old }
     ensures { Puts one_answer (one_numbers (length_outcome outcome)) answer.old answer.new result }
 {
-    match outcome {
-        Answer::Accepted { length } => put_answer(0, 0, &[length], answer),
-        Answer::Refused(reason) => put_answer(reason.number(), reason.place(), &[0], answer),
-    }
+    put(outcome.map(one), answer)
 }
 
 // Writes any list as text. Answers reason, place and the number of characters written.
@@ -37,8 +33,9 @@ pub fn jugy_write_text(
     if answer.len() < ONE_ANSWER {
         return SHORT_ANSWER;
     }
-    let ShapeResult::Within(shape) = Shape::new(candidates, grades, ballots) else {
-        return put_length(Answer::Refused(TextRefusal::OfList(Refusal::Shape)), answer);
+    let shape = match Shape::new(candidates, grades, ballots) {
+        Ok(shape) => shape,
+        Err(reason) => return put_length(Err(TextRefusal::OfList(reason)), answer),
     };
     let outcome = text::write::write(shape, table, output);
     put_length(outcome, answer)
@@ -60,8 +57,9 @@ pub fn jugy_read_text(
     if answer.len() < ONE_ANSWER {
         return SHORT_ANSWER;
     }
-    let ShapeResult::Within(shape) = Shape::new(candidates, grades, ballots) else {
-        return put_length(Answer::Refused(TextRefusal::OfList(Refusal::Shape)), answer);
+    let shape = match Shape::new(candidates, grades, ballots) {
+        Ok(shape) => shape,
+        Err(reason) => return put_length(Err(TextRefusal::OfList(reason)), answer),
     };
     let outcome = text::read::read(shape, text, output);
     put_length(outcome, answer)

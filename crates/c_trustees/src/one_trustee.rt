@@ -6,10 +6,8 @@ ghost use Rattle.c_trustees.specs.Calls.{start_call, round_call, finish_call};
 use c_answers::array::{SHORT_ANSWER, SIZE_ANSWER, THREE_ANSWER};
 use c_answers::size::put_size;
 use c_levels::calls::put_depths;
-use jury::reason::Refusal;
-use jury::shape::{Shape, ShapeResult};
+use jury::shape::Shape;
 use levels::answer::LevelRefusal;
-use tally::answer::Answer;
 
 // A trustee starts: its wire parts are its ballot parts, then zeros, and nothing is published yet. Answers reason,
 // place, G and C.
@@ -36,8 +34,9 @@ pub fn jugy_trustee_start(
     if answer.len() < SIZE_ANSWER {
         return SHORT_ANSWER;
     }
-    let ShapeResult::Within(shape) = Shape::new(candidates, grades, ballots) else {
-        return put_size(Answer::Refused(Refusal::Shape), answer);
+    let shape = match Shape::new(candidates, grades, ballots) {
+        Ok(shape) => shape,
+        Err(reason) => return put_size(Err(reason), answer),
     };
     let outcome = trustee_alone::start::start(
         shape, table, trustees, trustee, shares, triples, wires, published,
@@ -73,11 +72,9 @@ pub fn jugy_trustee_round(
     if answer.len() < THREE_ANSWER {
         return SHORT_ANSWER;
     }
-    let ShapeResult::Within(shape) = Shape::new(candidates, grades, ballots) else {
-        return put_depths(
-            levels::answer::Answer::Refused(LevelRefusal::OfCore(Refusal::Shape)),
-            answer,
-        );
+    let shape = match Shape::new(candidates, grades, ballots) {
+        Ok(shape) => shape,
+        Err(reason) => return put_depths(Err(LevelRefusal::OfCore(reason)), answer),
     };
     let outcome = trustee_alone::round::round(
         shape, table, trustees, trustee, round, levels, triples, heard, wires, published,
@@ -101,8 +98,9 @@ pub fn jugy_trustee_finish(
     if answer.len() < SIZE_ANSWER {
         return SHORT_ANSWER;
     }
-    let ShapeResult::Within(shape) = Shape::new(candidates, grades, ballots) else {
-        return put_size(Answer::Refused(Refusal::Shape), answer);
+    let shape = match Shape::new(candidates, grades, ballots) {
+        Ok(shape) => shape,
+        Err(reason) => return put_size(Err(reason), answer),
     };
     let outcome = trustee_alone::finish::finish(shape, table, wires);
     put_size(outcome, answer)

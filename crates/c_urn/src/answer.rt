@@ -4,7 +4,7 @@ ghost use Rattle.urn.specs.Facts.{counted_by};
 ghost use Rattle.c_answers.specs.Numbers.{one_answer, one_numbers};
 ghost use Rattle.c_answers.specs.inner.Puts.{Puts};
 
-use c_answers::array::put_answer;
+use c_answers::array::{one, put};
 use urn::answer::Answer;
 
 // Puts reason, place and the number of ballots, and returns the status.
@@ -12,8 +12,5 @@ pub(crate) fn put_ballots(outcome: Answer, answer: &mut [usize]) -> usize
     requires { one_answer ≤ length answer.old }
     ensures { Puts one_answer (one_numbers (counted_by outcome)) answer.old answer.new result }
 {
-    match outcome {
-        Answer::Accepted { ballots } => put_answer(0, 0, &[ballots], answer),
-        Answer::Refused(reason) => put_answer(reason.number(), reason.place(), &[0], answer),
-    }
+    put(outcome.map(one), answer)
 }

@@ -5,9 +5,7 @@ ghost use Rattle.c_urn.specs.Calls.{run_urn_call};
 
 use c_answers::array::{SHORT_ANSWER, SIZE_ANSWER};
 use c_answers::size::put_size;
-use jury::reason::Refusal;
-use jury::shape::{Shape, ShapeResult};
-use tally::answer::Answer;
+use jury::shape::Shape;
 
 // Runs a list on the ballots in an urn, in chain order. Answers reason, place, G and C. The urn is not changed.
 pub fn jugy_run_urn(
@@ -31,8 +29,9 @@ pub fn jugy_run_urn(
     if answer.len() < SIZE_ANSWER {
         return SHORT_ANSWER;
     }
-    let ShapeResult::Within(shape) = Shape::new(candidates, grades, ballots) else {
-        return put_size(Answer::Refused(Refusal::Shape), answer);
+    let shape = match Shape::new(candidates, grades, ballots) {
+        Ok(shape) => shape,
+        Err(reason) => return put_size(Err(reason), answer),
     };
     let outcome = urn_run::run::run_on_urn(shape, table, urn, tape, wires, board);
     put_size(outcome, answer)

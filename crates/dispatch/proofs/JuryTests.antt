@@ -1,36 +1,39 @@
 -- The tests of all juries, one after another.
 -- Assumes nothing.
+use Rattle.std.specs.Prelude.{Ok, Err}
 use mathlib.Core.Path.{◌≡◌, ◌∙◌, refl, sym, ap, subst}
 use mathlib.Core.Bool.{Bool, true, false, cond}
 use mathlib.Core.Option.{Option, none, some}
 use mathlib.Core.List.{List, [], ◌∷◌}
-use Prim.Native.Nat.{ℕ, suc, ◌+◌, ◌-◌, ◌*◌, ◌≤◌}
+use Prim.Native.Nat.{ℕ, suc, ◌+◌, ◌-◌, ◌*◌, ◌≤◌, ◌<◌}
 use native.Mathlib.Numerals.{add-one}
 use native.Mathlib.Omega.{arith}
-use lib.Dec.{leb}
+use lib.Dec.{leb, T}
 use lib.ListN.{length, set, take, drop, replicate, length-drop}
-use lib.Seq.{take_all}
+use lib.Seq.{take_all, drop-cons}
 use borrow.Author.Tests.{leb-true}
 use Rattle.gates.specs.Gate.{Gate}
 use Rattle.gates.specs.Board.{conditional_count}
 use Rattle.gates.proofs.Evaluating.{accepted_list}
-use Rattle.jury.specs.Shape.{ballot_bytes}
+use Rattle.jury.specs.Shape.{within_limits, ballot_bytes}
 use Rattle.jury.proofs.Limits.{bounds}
-use Rattle.jury.specs.Reason.{Reason, reason_of, first_of}
-use Rattle.tally.specs.Answer.{accepted, outcome, Size, size_of, outcome_of}
-use Rattle.tally.specs.declared.answer.Answer.{Answer}
-use Rattle.tally.specs.declared.answer.Answer.TheVariants as answer
-use Rattle.tally.proofs.TestReasons.{never, TestPassed}
+use Rattle.jury.specs.Reason.{Reason, reason_at, reason_of, first_of}
+use Rattle.jury.specs.declared.reason.Refusal.{Refusal}
+use Rattle.gates.specs.declared.list.ListSize.{ListSize}
+use Rattle.tally.specs.Answer.{accepted, outcome, Size, size_of, size_in, outcome_of}
+use Rattle.tally.proofs.TestReasons.{TestPassed}
+use Rattle.tally.proofs.RunReasons.{outcome_refused, outcome_accepted}
 use Rattle.dispatch_rounds.specs.declared.header.JuryHeader.{JuryHeader}
 use Rattle.dispatch_rounds.specs.Tables.{Tables, tables_of, header_shape, fitting, piece_of, list_of, conditional_in, pieces_of, remaining}
 use Rattle.dispatch_rounds.specs.Reasons.{reasons_of, at_jury, jury_reasons}
 use Rattle.dispatch_rounds.specs.declared.header.Places.{Places}
 use Rattle.dispatch_rounds.specs.Rounds.{eight_of}
 use Rattle.dispatch_rounds.specs.inner.State.{places_after}
-use Rattle.dispatch.specs.inner.Rounds.{refusal_in, wire_bytes}
+use Rattle.dispatch.specs.inner.Rounds.{JuryTested, wire_bytes}
 use Rattle.dispatch_rounds.proofs.Pieces.{Upto, upto_start, upto_end, one_of, upto_set, eight_zeros}
 use Rattle.dispatch_rounds.proofs.Passed.{jury_passed, list_fits}
 use Rattle.dispatch_rounds.proofs.MidRound.{from, from_after, Inside, inside_next, marks, padding, start}
+use Rattle.dispatch_rounds.proofs.Turns.{blank, jury_of}
 
 -- a piece is no longer than what is left
 pub fitting_most : (n m : ℕ) → fitting n m ≤ m
@@ -82,30 +85,21 @@ module _ (s : JuryHeader) (t : Tables) where
   unfolding jury_reasons at_jury first_of
   bad_jury j ss r e = ap (λ (o : Option Reason). first_of (at_jury j o ∷ jury_reasons (suc j) ss (remaining s t))) e
 
--- the reason in an answer is the first of the tests
-pub refusal_is : (a : Answer) (o : Option Reason) (size : Size) → outcome_of a ≡ outcome o size → refusal_in a ≡ o
-unfolding outcome_of outcome refusal_in
-refusal_is (answer.Accepted g c) none size e = refl
-refusal_is (answer.Accepted g c) (some r) size e = never (record { gates = g; conditional = c }) r (sym e)
-refusal_is (answer.Refused q) none size e = never size (reason_of q) e
-refusal_is (answer.Refused q) (some r) size e = let same : reason_of q ≡ r = cc in ap some same
-
--- a jury with a reason is refused
-pub at_jury_some : {A : Type 0} (j : ℕ) (r : Reason) → at_jury j (some r) ≡ none → A
-unfolding at_jury
-at_jury_some j r e = let z : ◌≡◌ {A = ℕ} 0 1 = cc in absurd (omega arith)
+-- a refused answer has the first reason
+refused_as : (q : Refusal) (o : Option Reason) (size : Size) → outcome_of (Err q) ≡ outcome o size → o ≡ some (reason_of q)
+unfolding outcome_of
+refused_as q o size e = outcome_refused o size (reason_of q) (sym e)
 
 -- an accepted answer: no reason applies, and it has the list's C
-pub accepted_mark : (a : Answer) (o : Option Reason) (gs : List Gate) (g c : ℕ) → outcome_of a
-    ≡ outcome o (size_of gs) → a ≡ answer.Accepted g c → (o ≡ none) × (c ≡ conditional_count gs)
-unfolding outcome_of outcome size_of
-accepted_mark a none gs g c e f =
-    let same : record { gates = g; conditional = c } ≡ size_of gs = same_size (ap outcome_of (sym f) ∙ e) in
-    (refl, ap (λ (x : Size). x.conditional) same)
+accepted_mark : (found : ListSize) (o : Option Reason) (gs : List Gate) → outcome_of (Ok found) ≡ outcome o (size_of gs)
+    → (o ≡ none) × (found.conditional ≡ conditional_count gs)
+unfolding outcome_of size_of
+accepted_mark found o gs e =
+    let none_applies = outcome_accepted o (size_of gs) (size_in found) (sym e) in
+    (none_applies, same_mark (e ∙ ap (λ (x : Option Reason). outcome x (size_of gs)) none_applies))
   where
-    same_size : accepted (record { gates = g; conditional = c }) ≡ accepted (size_of gs) → record { gates = g; conditional = c } ≡ size_of gs
-    same_size h = cc
-accepted_mark a (some r) gs g c e f = never (record { gates = g; conditional = c }) r (sym e ∙ ap outcome_of f)
+    same_mark : accepted (size_in found) ≡ outcome none (size_of gs) → found.conditional ≡ conditional_count gs
+    same_mark f = unfold outcome in (let same : size_in found ≡ size_of gs = cc in ap (λ (x : Size). x.conditional) same)
 
 -- The juries before j have passed, so the first reason is that of the juries `left`.
 pub record TestedSoFar (ss : List JuryHeader) (t : Tables) (j : ℕ) (left : List JuryHeader) (at : Places)
@@ -182,3 +176,54 @@ stated_size s t size k =
     let list = accepted_list (ballot_bytes (header_shape s)) s.candidates (list_of s t) size.gates size.conditional k.tests in
     let limits = bounds (header_shape s) k.within in
     (list.gates_are ∙ (list_fits s t (omega (arith, list.enough, limits.k_least))).1, list.conditional_are)
+
+-- one jury's tests, after those of the juries before it
+module _ (ss : List JuryHeader) (l b m ws bs : List ℕ) (j : ℕ) (at : Places) (conditional : List ℕ) (h : j < length ss)
+    (so : TestedSoFar ss (tables_of l b m ws bs) j (drop j ss) at conditional) where
+  abbrev t : Tables
+  t = tables_of l b m ws bs
+
+  abbrev s : JuryHeader
+  s = jury_of ss j
+
+  -- what is left of the tables
+  abbrev left : Tables
+  left = tables_of (take (length l - at.lists) (drop at.lists l)) (take (length b - at.ballots) (drop at.ballots b))
+      (take (length m - at.tapes) (drop at.tapes m)) (take (length ws - at.wires) (drop at.wires ws))
+      (take (length bs - at.boards) (drop at.boards bs))
+
+  left_is : left ≡ from at t
+  left_is = lent_same _ _ _ _ _ _ _ _ _ _ (rest_is at.lists l) (rest_is at.ballots b) (rest_is at.tapes m) (rest_is at.wires ws)
+      (rest_is at.boards bs)
+
+  ahead : TestedSoFar ss t j (s ∷ drop (suc j) ss) at conditional
+  ahead = subst (λ (rest : List JuryHeader). TestedSoFar ss t j rest at conditional) (drop-cons ss j blank h) so
+
+  -- the jury is refused
+  pub jury_refused : (q : Refusal) → JuryTested s left (outcome_of (Err q))
+      → some (reason_at (reason_of q).number j) ≡ first_of (jury_reasons 0 ss t)
+  unfolding at_jury
+  jury_refused q e =
+      let bad = refused_as q _ _ (subst (λ (x : Tables). JuryTested s x (outcome_of (Err q))) left_is e) in
+      sym (bad_jury s (from at t) j (drop (suc j) ss) (reason_of q) bad) ∙ ahead.reasons
+
+  -- the jury is accepted
+  module _ (found : ListSize) (e : JuryTested s left (outcome_of (Ok found))) where
+    well : (first_of (reasons_of s (from at t)) ≡ none) × (found.conditional ≡ conditional_in s (from at t))
+    unfolding conditional_in
+    well = accepted_mark found _ _ (subst (λ (x : Tables). JuryTested s x (outcome_of (Ok found))) left_is e)
+
+    pub jury_within : T (within_limits (header_shape s))
+    jury_within = (jury_passed s (from at t) well.0).is_within
+
+    pub jury_inside : Inside (places_after at s found.conditional) t
+    jury_inside = subst (λ (c : ℕ). Inside (places_after at s c) t) (sym well.1)
+        (inside_next at s t so.inside (jury_passed s (from at t) well.0))
+
+    pub jury_accepted : (to : Places) → to ≡ places_after at s found.conditional
+        → TestedSoFar ss t (j + 1) (drop (j + 1) ss) to (set conditional j found.conditional)
+    jury_accepted to to_is =
+        tested_as ss t (suc j) (j + 1) (drop (suc j) ss) (drop (j + 1) ss) _ to _ (add-one j)
+        (ap (λ (x : ℕ). drop x ss) (add-one j))
+        (to_is ∙ ap (places_after at s) well.1)
+        (tested_next ss t j s (drop (suc j) ss) at conditional found.conditional ahead well.0 well.1)

@@ -45,18 +45,7 @@ use Rattle.dispatch.specs.Theorems.{tables_from, pieces_at, run_at, RunsAt, jury
 use Rattle.dispatch_rounds.proofs.Pieces.{one_of, piece_fits}
 use Rattle.dispatch_rounds.proofs.Passed.{Passed, jury_passed, first_accepted}
 use Rattle.dispatch_rounds.proofs.MidRound.{padding}
-use Rattle.dispatch.proofs.Whole.{result_by, bad_count, bad_per_round, by_juries, wires_start, wires_emptied, wires_room}
-
--- `rounds_for` rounds up
-rounds_most : (gates gates_per_round r : ℕ) → 1 ≤ gates_per_round → (rounds_for gates gates_per_round ≤ r) ↔ (gates ≤ r * gates_per_round)
-unfolding rounds_for
-rounds_most gates gates_per_round r h =
-    let iff = div-lt_iff_lt-mul {k = gates_per_round} {x = gates + (gates_per_round - 1)} {y = suc r} h in (
-      λ (p : (gates + (gates_per_round - 1)) / gates_per_round ≤ r). let q : gates + (gates_per_round - 1) < suc r * gates_per_round =
-          iff.0 (omega arith) in omega (arith, suc-mul r gates_per_round),
-      λ (p : gates ≤ r * gates_per_round). let q : (gates + (gates_per_round - 1)) / gates_per_round < suc r =
-          iff.1 (omega (arith, suc-mul r gates_per_round)) in omega arith,
-    )
+use Rattle.dispatch.proofs.Whole.{rounds_most, result_by, bad_count, bad_per_round, by_juries, wires_start, wires_emptied, wires_room}
 
 exact : RoundsExact
 exact =

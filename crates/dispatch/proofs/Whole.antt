@@ -1,12 +1,13 @@
 -- All juries together: before the first round, after the last, and the reasons of a call.
 -- Assumes nothing.
-use mathlib.Core.Path.{◌≡◌, ◌∙◌, refl, sym, ap}
+use mathlib.Core.Path.{◌≡◌, ◌∙◌, refl, sym, ap, subst}
 use mathlib.Core.Bool.{true, false, ◌&&◌}
-use mathlib.Core.Logic.{⊎_elim}
+use mathlib.Core.Logic.{◌↔◌, ⊎_elim}
 use mathlib.Core.Option.{Option, none, some}
 use mathlib.Core.List.{List, [], ◌∷◌, ◌++◌, append_assoc}
-use Prim.Native.Nat.{ℕ, zero, suc, ◌+◌, ◌*◌, ◌≤◌, ◌<◌, min, max}
-use native.Mathlib.Nat.{min-eq_right, suc-mul}
+use Prim.Native.Nat.{ℕ, zero, suc, ◌+◌, ◌-◌, ◌*◌, ◌/◌, ◌%◌, ◌≤◌, ◌<◌, min, max}
+use native.Mathlib.Nat.{min-eq_right, suc-mul, mul-le-mul, div-lt_iff_lt-mul}
+use Rattle.std.proofs.lemmas.Grind.{div_ceil_times}
 use native.Mathlib.Omega.{arith}
 use lib.Dec.{leb}
 use lib.ListN.{length, take, drop, replicate, take-append-drop, length-append, replicate-append-replicate}
@@ -25,7 +26,7 @@ use Rattle.dispatch_rounds.specs.Reasons.{reasons_of, jury_reasons}
 use Rattle.dispatch.specs.Call.{Call, juries_in}
 use Rattle.dispatch.specs.Reasons.{dispatch_reasons}
 use Rattle.dispatch.specs.NoIdleRound.{jury_at, GetsGate}
-use Rattle.dispatch_rounds.specs.Rounds.{board_after, jury_wires, jury_board, jury_shown, wires_given, boards_given, eight_of, BoardsLong, RoundState}
+use Rattle.dispatch_rounds.specs.Rounds.{rounds_for, board_after, jury_wires, jury_board, jury_shown, wires_given, boards_given, eight_of, BoardsLong, RoundState}
 use Rattle.dispatch.specs.Result.{run_board, zero_wires, DispatchResult, dispatch_result_after, dispatch_result}
 use Rattle.dispatch.specs.inner.Rounds.{wire_bytes, longest_list, piece_conditional}
 use Rattle.dispatch_rounds.proofs.Pieces.{eight_zeros}
@@ -87,13 +88,7 @@ few_gates j (s ∷ ss) t e =
     let a = first_accepted j s ss t e in
     omega (arith, (jury_passed s t a.0).few_gates, few_gates (suc j) ss (remaining s t) a.1)
 
--- the same bound for the juries from j on
-pub most_left : (j : ℕ) (ss : List JuryHeader) → longest_list (drop j ss) ≤ longest_list ss
-unfolding longest_list
-most_left zero ss = omega arith
-most_left (suc j) [] = omega arith
-most_left (suc j) (s ∷ ss) = omega (arith, most_left j ss)
-
+-- the longest list
 pub most_first : (s : JuryHeader) (ss : List JuryHeader) → longest_list (s ∷ ss) ≡ max s.gates (longest_list ss)
 unfolding longest_list
 most_first s ss = refl
@@ -223,3 +218,31 @@ emptied given ss t e n w last h k f =
     ∙ ap (λ (x : List ℕ). replicate (wire_bytes ss) 0 ++ drop n x) k
     ∙ ap (λ (i : ℕ). replicate (wire_bytes ss) 0 ++ drop i (wires_given given ss t)) h
     ∙ wires_emptied given 0 ss t e
+
+-- `rounds_for` rounds up
+pub rounds_most : (gates gates_per_round r : ℕ) → 1 ≤ gates_per_round → (rounds_for gates gates_per_round ≤ r) ↔ (gates ≤ r * gates_per_round)
+unfolding rounds_for
+rounds_most gates gates_per_round r h =
+    let iff = div-lt_iff_lt-mul {k = gates_per_round} {x = gates + (gates_per_round - 1)} {y = suc r} h in (
+      λ (p : (gates + (gates_per_round - 1)) / gates_per_round ≤ r). let q : gates + (gates_per_round - 1) < suc r * gates_per_round =
+          iff.0 (omega arith) in omega (arith, suc-mul r gates_per_round),
+      λ (p : gates ≤ r * gates_per_round). let q : (gates + (gates_per_round - 1)) / gates_per_round < suc r =
+          iff.1 (omega (arith, suc-mul r gates_per_round)) in omega arith,
+    )
+
+-- the library's division that rounds up is this one
+pub ceil_is : (gates gates_per_round n : ℕ) → 1 ≤ gates_per_round
+    → n ≡ gates / gates_per_round + min 1 (gates % gates_per_round) → n ≡ rounds_for gates gates_per_round
+ceil_is gates gates_per_round n h e =
+    let r = rounds_for gates gates_per_round in
+    let times = div_ceil_times gates gates_per_round h in
+    let enough : gates ≤ n * gates_per_round = subst (λ (m : ℕ). gates ≤ m * gates_per_round) (sym e) times.0 in
+    let few : n * gates_per_round < gates + gates_per_round = subst (λ (m : ℕ). m * gates_per_round < gates + gates_per_round) (sym e) times.1 in
+    let up : r ≤ n = (rounds_most gates gates_per_round n h).1 enough in
+    let low : gates ≤ r * gates_per_round = (rounds_most gates gates_per_round r h).0 (omega arith) in
+    ⊎_elim (λ (more : r < n). absurd (omega (
+      arith,
+      mul-le-mul {n₁ = suc r} {m₁ = gates_per_round} {n₂ = n} {m₂ = gates_per_round} (omega arith) (omega arith),
+      suc-mul r gates_per_round,
+    )))
+    (λ (same : n ≤ r). omega arith) (below_or_not r n)

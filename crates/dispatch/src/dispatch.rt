@@ -1,13 +1,13 @@
 // The entry point of the dispatcher.
-ghost use Rattle.std.specs.Prelude.{◌≡◌, ◌&&◌, ◌≤◌, max, leb, take};
+ghost use Rattle.std.specs.Prelude.{◌≡◌, ◌&&◌, leb};
 ghost use Rattle.dispatch_rounds.specs.Tables.{Tables, tables_of};
-ghost use Rattle.dispatch.specs.Reasons.{verdict_reason};
-ghost use Rattle.dispatch_rounds.specs.Rounds.{eight_of, rounds_for, most_juries};
+ghost use Rattle.dispatch.specs.Reasons.{verdict_reason, rounds_in};
+ghost use Rattle.dispatch_rounds.specs.Rounds.{eight_of, rounds_for};
 ghost use Rattle.dispatch.specs.Result.{DispatchResult, dispatch_result};
 ghost use Rattle.dispatch.specs.inner.Rounds.{Ready, RoundsSmall, RoundsFinished, longest_list};
 
+use crate::refusal::JuryRefusal;
 use crate::tests::test_juries;
-use crate::verdict::JuriesVerdict;
 use dispatch_rounds::header::{Headers, JuryHeader, JuryNumbers, MOST_JURIES};
 use dispatch_rounds::round::round;
 use jury::reason::Refusal;
@@ -18,13 +18,6 @@ pub const LEAST_GATES_PER_ROUND: usize = 1;
 
 pub const MOST_GATES_PER_ROUND: usize = 65536;
 
-// The answer of a call: its verdict, and how many rounds each jury took, 0 past the last jury and all 0 on a refusal.
-#[derive(Drop)]
-pub struct Dispatched {
-    pub verdict: JuriesVerdict,
-    pub rounds: JuryNumbers,
-}
-
 // Whether least ≤ n ≤ most.
 fn is_between(least: usize, n: usize, most: usize) -> bool
     ensures { result ≡ (leb least n && leb n most) }
@@ -32,49 +25,34 @@ fn is_between(least: usize, n: usize, most: usize) -> bool
     least <= n && n <= most
 }
 
-// The larger of two numbers.
-fn larger(a: usize, b: usize) -> usize
-    ensures { result ≡ max a b }
-{
-    if a <= b { b } else { a }
-}
-
 // The number of gates of the longest list.
-fn longest_list(count: usize, headers: Headers) -> usize
-    requires { count ≤ most_juries }
-    ensures { result ≡ longest_list (take count headers) }
+fn longest_list(headers: &[JuryHeader]) -> usize
+    ensures { result ≡ longest_list headers.now }
 {
-    let mut most = 0;
-    let mut j = 0;
-    while j < count {
-        let header = headers[j];
-        most = larger(most, header.gates);
-        j += 1;
+    let mut most = 0usize;
+    for header in headers {
+        most = most.max(header.gates);
     }
     most
 }
 
 // How many rounds each jury takes. This does not depend on the other juries.
-fn rounds_of(count: usize, headers: Headers, gates_per_round: usize) -> JuryNumbers
-    requires { RoundsSmall count headers gates_per_round }
+fn rounds_of(headers: &[JuryHeader], gates_per_round: usize) -> JuryNumbers
+    requires { RoundsSmall headers.now gates_per_round }
     ensures { (t : Tables)
         → result ≡ eight_of (λ (s : JuryHeader) (p : Tables). rounds_for s.gates gates_per_round)
-        (take count headers) t }
+        headers.now t }
 {
     let mut rounds = [0usize; MOST_JURIES];
-    let mut j = 0;
-    while j < count {
-        let header = headers[j];
-        rounds[j] = (header.gates + (gates_per_round - 1)) / gates_per_round;
-        j += 1;
+    for (j, header) in headers.iter().enumerate() {
+        rounds[j] = header.gates.div_ceil(gates_per_round);
     }
     rounds
 }
 
 // Does one round after the other until the longest jury is finished.
 fn run_rounds(
-    count: usize,
-    headers: Headers,
+    headers: &[JuryHeader],
     conditional: JuryNumbers,
     gates_per_round: usize,
     lists: &[u32],
@@ -83,26 +61,18 @@ fn run_rounds(
     wires: &mut [u8],
     boards: &mut [u8],
 )
-    requires { Ready (record {
-      count = count;
-      headers = headers;
-      gates_per_round = gates_per_round;
-      tables = tables_of lists.now ballots.now tapes.now wires.old boards.old;
-    }) conditional }
-    ensures { RoundsFinished (record {
-      count = count;
-      headers = headers;
-      gates_per_round = gates_per_round;
-      tables = tables_of lists.now ballots.now tapes.now wires.old
-          boards.old;
-    }) conditional wires.new boards.new }
+    requires { Ready headers.now gates_per_round (tables_of lists.now ballots.now tapes.now wires.old boards.old)
+        conditional }
+    ensures { RoundsFinished headers.now gates_per_round
+        (tables_of lists.now ballots.now tapes.now wires.old boards.old) conditional
+        wires.new boards.new }
 {
-    let most = longest_list(count, headers);
+    let most = longest_list(headers);
     let mut shown = [0usize; MOST_JURIES];
     let mut done = 0;
+    // A `while`: the gates done are compared, not the rounds.
     while done * gates_per_round < most {
         let after = round(
-            count,
             headers,
             conditional,
             done,
@@ -120,7 +90,8 @@ fn run_rounds(
 }
 
 // Runs up to eight juries in rounds. The juries' pieces follow each other in the five tables; headers past the
-// number of juries are not read. At the end the juries' wires are emptied.
+// number of juries are not read. At the end the juries' wires are emptied. Answers how many rounds each jury took, 0
+// past the last jury.
 pub fn dispatch(
     count: usize,
     headers: Headers,
@@ -130,11 +101,11 @@ pub fn dispatch(
     tapes: &[u8],
     wires: &mut [u8],
     boards: &mut [u8],
-) -> Dispatched
+) -> Result<JuryNumbers, JuryRefusal>
     ensures { ◌≡◌ {A = DispatchResult}
         (record {
-          reason = verdict_reason result.verdict;
-          rounds = result.rounds;
+          reason = verdict_reason result;
+          rounds = rounds_in result;
           wires = wires.new;
           boards = boards.new;
         })
@@ -147,37 +118,22 @@ pub fn dispatch(
         })) }
 {
     if !is_between(LEAST_JURIES, count, MOST_JURIES) {
-        return Dispatched {
-            verdict: JuriesVerdict::Refused {
-                reason: Refusal::Juries,
-                jury: 0,
-            },
-            rounds: [0usize; MOST_JURIES],
-        };
+        return Err(JuryRefusal {
+            reason: Refusal::Juries,
+            jury: 0,
+        });
     }
     if !is_between(LEAST_GATES_PER_ROUND, gates_per_round, MOST_GATES_PER_ROUND) {
-        return Dispatched {
-            verdict: JuriesVerdict::Refused {
-                reason: Refusal::GatesPerRound,
-                jury: 0,
-            },
-            rounds: [0usize; MOST_JURIES],
-        };
+        return Err(JuryRefusal {
+            reason: Refusal::GatesPerRound,
+            jury: 0,
+        });
     }
-    let tests = test_juries(count, headers, lists, ballots, tapes, wires, boards);
-    let verdict = tests.verdict;
-    let JuriesVerdict::Accepted = verdict else {
-        return Dispatched {
-            verdict,
-            rounds: [0usize; MOST_JURIES],
-        };
-    };
-    let conditional = tests.conditional;
-    let end = tests.wires;
+    let juries = &headers[..count];
+    let tested = test_juries(juries, lists, ballots, tapes, wires, boards)?;
     run_rounds(
-        count,
-        headers,
-        conditional,
+        juries,
+        tested.conditional,
         gates_per_round,
         lists,
         ballots,
@@ -185,9 +141,6 @@ pub fn dispatch(
         wires,
         boards,
     );
-    basics::table::empty(&mut wires[..end]);
-    Dispatched {
-        verdict,
-        rounds: rounds_of(count, headers, gates_per_round),
-    }
+    wires[..tested.wires].fill(0);
+    Ok(rounds_of(juries, gates_per_round))
 }

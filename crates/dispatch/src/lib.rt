@@ -2,5 +2,5 @@
 #![tactic(auto)]
 
 pub mod dispatch;
+pub mod refusal;
 mod tests;
-pub mod verdict;

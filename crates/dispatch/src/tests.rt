@@ -1,15 +1,12 @@
 // The tests of all juries, before the first gate.
-ghost use Rattle.std.specs.Prelude.{◌≡◌, ◌+◌, ◌*◌, ◌≤◌, take};
+ghost use Rattle.std.specs.Prelude.{◌≡◌, ◌+◌, ◌*◌, ◌≤◌, length};
 ghost use Rattle.tally.specs.Answer.{outcome_of};
 ghost use Rattle.dispatch_rounds.specs.Tables.{tables_of, fitting};
-ghost use Rattle.dispatch_rounds.specs.Reasons.{at_jury};
 ghost use Rattle.dispatch_rounds.specs.Rounds.{most_juries};
-ghost use Rattle.dispatch.specs.Reasons.{verdict_reason};
-ghost use Rattle.dispatch.specs.inner.Rounds.{refusal_in, JuryTested, TestsFound};
+ghost use Rattle.dispatch.specs.inner.Rounds.{JuryTested, TestsFound};
 
-use crate::verdict::{JuriesVerdict, Tests};
-use dispatch_rounds::header::{Headers, JuryHeader, MOST_JURIES, Places};
-use jury::reason::Verdict;
+use crate::refusal::JuryRefusal;
+use dispatch_rounds::header::{JuryHeader, JuryNumbers, MOST_JURIES, Places};
 use jury::shape::Shape;
 use tally::answer::Answer;
 
@@ -54,57 +51,42 @@ fn test_jury(
         ballots: header.ballots,
     };
     let numbers = numbers_fitting(header.gates, lists.len());
-    let answer = tally::test::test(shape, &lists[..numbers]);
-    let Answer::Accepted { gates, conditional } = answer else {
-        return answer;
-    };
+    let size = tally::test::test(shape, &lists[..numbers])?;
     let inputs = shape.ballot_bytes();
     let ballot_bytes = bytes_fitting(inputs, 0, ballots.len());
-    if let Verdict::Refused(reason) = jury::ballots::test(shape, &ballots[..ballot_bytes]) {
-        return Answer::Refused(reason);
-    }
-    let masks = bytes_fitting(conditional, 0, tapes.len());
-    let values = bytes_fitting(inputs, gates, wires.len());
-    let shown = bytes_fitting(conditional, shape.candidates, boards.len());
-    match tally::run::test_buffers(
+    jury::ballots::test(shape, &ballots[..ballot_bytes])?;
+    let masks = bytes_fitting(size.conditional, 0, tapes.len());
+    let values = bytes_fitting(inputs, size.gates, wires.len());
+    let shown = bytes_fitting(size.conditional, shape.candidates, boards.len());
+    tally::run::test_buffers(
         inputs,
         shape.candidates,
-        gates,
-        conditional,
+        size,
         &tapes[..masks],
         &wires[..values],
         &boards[..shown],
-    ) {
-        Verdict::Refused(reason) => Answer::Refused(reason),
-        Verdict::Accepted => answer,
-    }
+    )?;
+    Ok(size)
 }
 
-// The verdict for the answer of a jury's tests: its reason, with the jury as place.
-fn verdict_of(answer: Answer, jury: usize) -> JuriesVerdict
-    ensures { verdict_reason result ≡ at_jury jury (refusal_in answer) }
-{
-    match answer {
-        Answer::Refused(reason) => JuriesVerdict::Refused { reason, jury },
-        Answer::Accepted {
-            gates: _,
-            conditional: _,
-        } => JuriesVerdict::Accepted,
-    }
+// What the tests of accepted juries found: each jury's number of conditional gates, and the number of all their wires.
+#[derive(Drop)]
+pub(crate) struct Tested {
+    pub(crate) conditional: JuryNumbers,
+    pub(crate) wires: usize,
 }
 
 // Tests the juries in order: all tests of one jury come before those of the next.
 pub(crate) fn test_juries(
-    count: usize,
-    headers: Headers,
+    headers: &[JuryHeader],
     lists: &[u32],
     ballots: &[u8],
     tapes: &[u8],
     wires: &[u8],
     boards: &[u8],
-) -> Tests
-    requires { count ≤ most_juries }
-    ensures { TestsFound (take count headers) (tables_of lists.now ballots.now tapes.now
+) -> Result<Tested, JuryRefusal>
+    requires { length headers.now ≤ most_juries }
+    ensures { TestsFound headers.now (tables_of lists.now ballots.now tapes.now
         wires.now boards.now) result }
 {
     let mut conditional = [0usize; MOST_JURIES];
@@ -115,40 +97,23 @@ pub(crate) fn test_juries(
         wires: 0,
         boards: 0,
     };
-    let mut j = 0;
-    while j < count {
-        let header = headers[j];
-        let l = at.lists;
-        let b = at.ballots;
-        let t = at.tapes;
-        let w = at.wires;
-        let o = at.boards;
-        let answer = test_jury(
-            header,
-            &lists[l..],
-            &ballots[b..],
-            &tapes[t..],
-            &wires[w..],
-            &boards[o..],
-        );
-        let Answer::Accepted {
-            gates: _,
-            conditional: marked,
-        } = answer
-        else {
-            return Tests {
-                verdict: verdict_of(answer, j),
-                conditional,
-                wires: w,
-            };
+    for (j, header) in headers.iter().enumerate() {
+        let size = match test_jury(
+            *header,
+            &lists[at.lists..],
+            &ballots[at.ballots..],
+            &tapes[at.tapes..],
+            &wires[at.wires..],
+            &boards[at.boards..],
+        ) {
+            Ok(size) => size,
+            Err(reason) => return Err(JuryRefusal { reason, jury: j }),
         };
-        conditional[j] = marked;
-        at = at.after(header, marked);
-        j += 1;
+        conditional[j] = size.conditional;
+        at = at.after(*header, size.conditional);
     }
-    Tests {
-        verdict: JuriesVerdict::Accepted,
+    Ok(Tested {
         conditional,
         wires: at.wires,
-    }
+    })
 }

@@ -8,7 +8,7 @@ use Prim.Native.Nat.{ℕ, suc, ◌+◌, ◌-◌, ◌*◌, ◌≤◌, ◌<◌}
 use native.Mathlib.Numerals.{add-one}
 use native.Mathlib.Omega.{arith}
 use lib.ListN.{length, get_or, set, take, drop, replicate, length-append, length-drop}
-use lib.Seq.{length-take-le, drop-cons, get_or-take, drop-drop, append_snoc}
+use lib.Seq.{length-take-le, drop-drop, append_snoc}
 use Rattle.gates.specs.Gate.{gates_of}
 use Rattle.gates.specs.Board.{conditional_count}
 use Rattle.jury.specs.Shape.{ballot_bytes}
@@ -59,13 +59,6 @@ inside_next at s t i p =
       wires = omega (arith, i.wires, p.in_wires, length-drop at.wires t.wires);
       boards = omega (arith, i.boards, p.in_boards, length-drop at.boards t.boards);
     }
-
--- the juries from j on begin with jury j
-pub left_cons : (count j : ℕ) (xs : List JuryHeader) (d : JuryHeader) → j < count → count ≤ length xs
-    → drop j (take count xs) ≡ get_or xs j d ∷ drop (suc j) (take count xs)
-left_cons count j xs d h l =
-    drop-cons (take count xs) j d (omega (arith, length-take-le count xs l))
-    ∙ ap (λ (s : JuryHeader). s ∷ drop (suc j) (take count xs)) (get_or-take count xs j d h)
 
 abbrev pub marks : JuryHeader → Tables → ℕ
 marks s p = conditional_count (gates_of p.lists)
@@ -233,18 +226,6 @@ slice_is n a e xs h = ap (λ (k : ℕ). take k (drop a xs)) {x = e - a} {y = n} 
 
 pub part_long : (n a : ℕ) (xs : List ℕ) → a + n ≤ length xs → length (take n (drop a xs)) ≡ n
 part_long n a xs h = length-take-le n (drop a xs) (omega (arith, length-drop a xs))
-
-pub spliced_long : (n a : ℕ) (xs q : List ℕ) → a + n ≤ length xs → length q ≡ n
-    → length (take a xs ++ (q ++ drop n (drop a xs))) ≡ length xs
-spliced_long n a xs q h l =
-    omega (
-      arith,
-      length-append (take a xs) (q ++ drop n (drop a xs)),
-      length-take-le a xs (omega arith),
-      length-append q (drop n (drop a xs)),
-      length-drop n (drop a xs),
-      length-drop a xs,
-    )
 
 -- the same jury, with equal lists for its pieces
 pub jury_as : (given : ℕ) (s : JuryHeader) (p : Tables) (l b m w o w' o' : List ℕ) (n n' : ℕ) → l ≡ p.lists → b

@@ -23,7 +23,7 @@ pub type Headers = [JuryHeader; MOST_JURIES];
 pub type JuryNumbers = [usize; MOST_JURIES];
 
 // Where a jury's pieces begin in the five tables.
-#[derive(Drop)]
+#[derive(Clone, Copy)]
 pub struct Places {
     pub lists: usize,
     pub ballots: usize,

@@ -4,7 +4,7 @@ ghost use Rattle.dispatch_rounds.specs.Tables.{tables_of};
 ghost use Rattle.dispatch_rounds.specs.Rounds.{RoundState};
 ghost use Rattle.dispatch_rounds.specs.inner.State.{JuryState, TurnReady, RoundReady};
 
-use crate::header::{Headers, JuryHeader, JuryNumbers, Places};
+use crate::header::{JuryHeader, JuryNumbers, Places};
 
 // Puts a jury's ballots into its wire table before its first gate.
 fn load(given: usize, ballots: &[u8], wires: &mut [u8])
@@ -16,7 +16,7 @@ fn load(given: usize, ballots: &[u8], wires: &mut [u8])
         wires.old }
 {
     if given == 0 {
-        basics::byte::copy(ballots, wires);
+        wires[..ballots.len()].copy_from_slice(ballots);
     }
 }
 
@@ -65,8 +65,7 @@ fn turn(
 // of all rounds so far, and nothing of a later gate. `before` has the number of bits that each jury has shown; the
 // answer has their number after the round.
 pub fn round(
-    count: usize,
-    headers: Headers,
+    headers: &[JuryHeader],
     conditional: JuryNumbers,
     done: usize,
     gates_per_round: usize,
@@ -77,15 +76,11 @@ pub fn round(
     wires: &mut [u8],
     boards: &mut [u8],
 ) -> JuryNumbers
-    requires { RoundReady count headers done gates_per_round lists.now ballots.now tapes.now conditional
-        wires.old
-        boards.old before }
+    requires { RoundReady headers.now done gates_per_round lists.now ballots.now tapes.now conditional
+        wires.old boards.old before }
     ensures { (ws bs : List ℕ) → let t = tables_of lists.now ballots.now tapes.now ws bs in
-        RoundState (done * gates_per_round) (take count headers) t conditional wires.old
-        boards.old before
-        → RoundState (suc done * gates_per_round) (take count headers) t conditional wires.new
-        boards.new
-        result }
+        RoundState (done * gates_per_round) headers.now t conditional wires.old boards.old before
+        → RoundState (suc done * gates_per_round) headers.now t conditional wires.new boards.new result }
 {
     let given = done * gates_per_round;
     let mut shown = before;
@@ -96,32 +91,20 @@ pub fn round(
         wires: 0,
         boards: 0,
     };
-    let mut j = 0;
-    while j < count {
-        let header = headers[j];
-        let l = at.lists;
-        let b = at.ballots;
-        let t = at.tapes;
-        let w = at.wires;
-        let o = at.boards;
-        at = at.after(header, conditional[j]);
-        let l_end = at.lists;
-        let b_end = at.ballots;
-        let t_end = at.tapes;
-        let w_end = at.wires;
-        let o_end = at.boards;
+    for (j, header) in headers.iter().enumerate() {
+        let next = at.after(*header, conditional[j]);
         shown[j] = turn(
-            header,
+            *header,
             given,
             gates_per_round,
             shown[j],
-            &lists[l..l_end],
-            &ballots[b..b_end],
-            &tapes[t..t_end],
-            &mut wires[w..w_end],
-            &mut boards[o..o_end],
+            &lists[at.lists..next.lists],
+            &ballots[at.ballots..next.ballots],
+            &tapes[at.tapes..next.tapes],
+            &mut wires[at.wires..next.wires],
+            &mut boards[at.boards..next.boards],
         );
-        j += 1;
+        at = next;
     }
     shown
 }

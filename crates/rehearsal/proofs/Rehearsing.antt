@@ -1,5 +1,10 @@
 -- The buffers are long enough for every list that fits the table, and the run's answer is the rehearsal's.
 -- Assumes nothing.
+use Rattle.std.specs.Prelude.{Ok, Err}
+use Rattle.std.specs.Prelude as prelude
+use Rattle.std.specs.List.{PartBy}
+use denote.Ref.{Bor}
+use mathlib.Core.Logic.{⊎_elim}
 use mathlib.Core.Path.{◌≡◌, ◌∙◌, refl, sym, ap}
 use mathlib.Core.Bool.{false}
 use mathlib.Core.Option.{Option, none}
@@ -24,7 +29,7 @@ use Rattle.tally.specs.Rule.{closing_for}
 use Rattle.tally.specs.OwnList.{own_list}
 use Rattle.tally.proofs.Rules.{closing_length}
 use Rattle.tally.specs.Answer.{refused, accepted, outcome, Size, size_of, outcome_of}
-use Rattle.tally.specs.declared.answer.Answer.TheVariants as answer
+use Rattle.gates.specs.declared.list.ListSize.{ListSize}
 use Rattle.tally.specs.Run.{run_result}
 use Rattle.tally.specs.Write.{write_reasons, write_outcome, write_result}
 use Rattle.tally.specs.Demands.{list_in}
@@ -88,7 +93,7 @@ module _ (s : Shape) (list : List ℕ) (gates conditional : ℕ) (tape wires boa
         ap (λ (l : List ℕ). (run_result s l ballots tape' wires' board').answer) u.list_is
         ∙ own_answer s (T_true (within_limits s) u.within) ballots tape' wires' board' mask wires_long board_long
 
-    pub refusal_outcome : (reason : Refusal) → outcome_of (answer.Refused reason)
+    pub refusal_outcome : (reason : Refusal) → outcome_of (Err reason)
         ≡ (run_result s list ballots (take conditional tape) (take (inputs + gates) wires)
         (take (conditional + s.candidates) board)).answer
         → refused (reason_of reason) ≡ ballots_outcome s ballots
@@ -112,7 +117,7 @@ module _ (s : Shape) (list : List ℕ) (gates conditional : ℕ) (tape wires boa
         ∙ ap (λ (l : List ℕ). l ++ rest) p.1)
         ∙ take_at closing rest s.candidates (closing_length s ballots)
 
-    pub winners_outcome : (g c : ℕ) (b rest : List ℕ) → outcome_of (answer.Accepted g c)
+    pub winners_outcome : (g c : ℕ) (b rest : List ℕ) → outcome_of (Ok (record { gates = g; conditional = c }))
         ≡ (run_result s list ballots (take conditional tape) (take (inputs + gates) wires)
         (take (conditional + s.candidates) board)).answer
         → b ≡ (run_result s list ballots (take conditional tape) (take (inputs + gates) wires)
@@ -131,7 +136,7 @@ module _ (s : Shape) (list : List ℕ) (gates conditional : ℕ) (tape wires boa
         ∙ sym (ap (λ (o : Option Reason). outcome o (printed_of s ballots)) h)
 
     -- the closing bytes end within the board
-    pub winners_end : (g c : ℕ) (b rest : List ℕ) → outcome_of (answer.Accepted g c)
+    pub winners_end : (g c : ℕ) (b rest : List ℕ) → outcome_of (Ok (record { gates = g; conditional = c }))
         ≡ (run_result s list ballots (take conditional tape) (take (inputs + gates) wires)
         (take (conditional + s.candidates) board)).answer
         → b ≡ (run_result s list ballots (take conditional tape) (take (inputs + gates) wires)
@@ -152,7 +157,7 @@ module _ (s : Shape) (list : List ℕ) (gates conditional : ℕ) (tape wires boa
 
 -- after an accepted write, the list and the buffers are what the run requires
 module _ (s : Shape) (table tape wires board : List ℕ) (l : Buffers table tape wires board) (g c : ℕ)
-    (e : outcome_of (answer.Accepted g c) ≡ write_outcome s table) where
+    (e : outcome_of (Ok (record { gates = g; conditional = c })) ≡ write_outcome s table) where
   passed : WritePassed s table (record { gates = g; conditional = c })
   passed = unfold outcome_of in (write_passed s table (record { gates = g; conditional = c }) (sym e))
 
@@ -194,7 +199,7 @@ module _ (s : Shape) (table tape wires board : List ℕ) (l : Buffers table tape
 
 -- if the write is refused, its reason is the answer
 pub by_the_write : (input table : List ℕ) (s : Shape) (reason : Refusal) → s ≡ shape_of_input input
-    → outcome_of (answer.Refused reason) ≡ write_outcome s table → refused (reason_of reason)
+    → outcome_of (Err reason) ≡ write_outcome s table → refused (reason_of reason)
     ≡ rehearsal_outcome input table
 unfolding outcome_of write_outcome outcome rehearsal_outcome rehearsal_reasons or_else
 by_the_write input table s reason f e =
@@ -220,3 +225,12 @@ no_ballots input h = drop_of_length-le input {i = 3} (omega arith)
 pub some_ballots : (input : List ℕ) → take (length input - 3) (drop 3 input) ≡ ballots_of_input input
 unfolding ballots_of_input
 some_ballots input = take_all (length input - 3) (drop 3 input) (omega (arith, length-drop 3 input))
+
+-- the same, as the program takes them: what is left after three bytes, or nothing
+pub ballots_after : (input : List ℕ) (r : prelude.Option (Bor (List ℕ))) (none_left ballots : Bor (List ℕ))
+    → PartBy (λ (x : Bor (List ℕ)). x.now) input 3 (length input) r → none_left.now ≡ [] → ballots ≡ prelude.unwrap_or r none_left
+    → ballots.now ≡ ballots_of_input input
+ballots_after input prelude.None none_left ballots h e f =
+    ap (λ (x : Bor (List ℕ)). x.now) f ∙ e
+    ∙ ⊎_elim (λ (l : length input < 3). sym (no_ballots input l)) (λ (l : length input < length input). absurd (omega arith)) h.0
+ballots_after input (prelude.Some rest) none_left ballots h e f = ap (λ (x : Bor (List ℕ)). x.now) f ∙ h.0.2 ∙ some_ballots input

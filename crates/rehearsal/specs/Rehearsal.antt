@@ -1,14 +1,14 @@
 -- What the rehearsal program answers for its input.
 use Rattle.std.proofs.Math.Option.{Option}
-use Rattle.std.specs.Prelude.{List, ◌++◌, ℕ, get_or, take, drop}
+use Rattle.std.specs.Prelude.{List, ◌++◌, ℕ, get_or, take, drop, Result, Ok, Err}
 use Rattle.jury.specs.declared.shape.Shape.{Shape}
 use Rattle.jury.specs.Reason.{Reason, reason_of, first_of}
 use Rattle.jury.specs.Ballots.{ballot_reasons}
 use Rattle.tally.specs.Rule.{closing_for}
 use Rattle.tally.specs.Answer.{Outcome, refused, accepted, outcome}
 use Rattle.tally.specs.Write.{write_reasons}
-use Rattle.rehearsal.specs.declared.rehearse.Rehearsed.{Rehearsed}
-use Rattle.rehearsal.specs.declared.rehearse.Rehearsed.TheVariants.{Winners, Refused}
+use Rattle.jury.specs.declared.reason.Refusal.{Refusal}
+use Rattle.rehearsal.specs.declared.rehearse.Winners.{Winners}
 
 -- The shape is in the first three bytes. A missing byte is 0.
 unfoldable pub shape_of_input : List ℕ → Shape
@@ -38,7 +38,8 @@ unfoldable pub rehearsal_outcome : List ℕ → List ℕ → Outcome Printed
 rehearsal_outcome input table =
     outcome (first_of (rehearsal_reasons input table)) (printed_of (shape_of_input input) (ballots_of_input input))
 
--- What each case of the program's enum means: the k closing bytes are on the board, from place `first` on.
-unfoldable pub outcome_on : List ℕ → Rehearsed → Outcome Printed
-outcome_on board (Winners s first) = accepted (record { jury = s; winners = take s.candidates (drop first board) })
-outcome_on board (Refused r) = refused (reason_of r)
+-- What each case of the program's answer means: the k closing bytes are on the board, from place `first` on.
+unfoldable pub outcome_on : List ℕ → Result Winners Refusal → Outcome Printed
+outcome_on board (Ok w) =
+    accepted (record { jury = w.shape; winners = take w.shape.candidates (drop w.first board) })
+outcome_on board (Err r) = refused (reason_of r)

@@ -5,7 +5,7 @@ mod rehearse;
 
 ghost use Rattle.rehearsal.specs.inner.Buffers.{Zeros, ZeroTape};
 
-use crate::rehearse::Rehearsed;
+use jury::reason::Numbered;
 use jury::shape::Shape;
 use std::io;
 
@@ -51,10 +51,11 @@ fn main(rt: HostRuntime) -> io::Result<()> {
     let mut board = board();
     let got = printing::read_full(&mut rt.stdin(), &mut input)?;
     match rehearse::rehearse(&input[..got], &mut table, &tape, &mut wires, &mut board) {
-        Rehearsed::Refused(reason) => printing::print_refused(&rt, reason.number(), reason.place()),
-        Rehearsed::Winners { shape, first } => {
-            print_jury(&rt, shape)?;
-            printing::print_bytes(&rt, b"winners", &board[first..first + shape.candidates])
+        Ok(winners) => {
+            print_jury(&rt, winners.shape)?;
+            let end = winners.first + winners.shape.candidates;
+            printing::print_bytes(&rt, b"winners", &board[winners.first..end])
         }
+        Err(reason) => printing::print_refused(&rt, reason.number(), reason.place()),
     }
 }

@@ -1,36 +1,32 @@
 // The rehearsal of a jury: its own list is written, then run on lent buffers.
-ghost use Rattle.std.specs.Prelude.{◌≡◌, cond, get_or};
+ghost use Rattle.std.specs.Prelude.{◌≡◌, cond, get_or, Ok, Err};
 ghost use Rattle.jury.specs.Shape.{within_limits};
 ghost use Rattle.rehearsal.specs.Rehearsal.{shape_of_input, rehearsal_outcome};
 ghost use Rattle.rehearsal.specs.inner.Buffers.{Buffers, Ready, Cut};
 ghost use Rattle.rehearsal.specs.inner.Rehearses.{Rehearses, ballots_outcome};
 
+use gates::list::ListSize;
 use jury::reason::Refusal;
-use jury::shape::{Shape, ShapeResult};
-use tally::answer::Answer;
+use jury::shape::Shape;
 
-// The shape and the place of the closing bytes on the board, or the first reason that applies.
-#[derive(Drop)]
-pub enum Rehearsed {
-    Winners { shape: Shape, first: usize },
-    Refused(Refusal),
+// The shape of an accepted jury, and the place of its closing bytes on the board.
+#[derive(Clone, Copy)]
+pub struct Winners {
+    pub shape: Shape,
+    pub first: usize,
 }
 
 // A byte of the input, 0 if it is missing.
 fn byte(input: &[u8], i: usize) -> usize
     ensures { result ≡ get_or input.now i 0 }
 {
-    if i < input.len() {
-        input[i] as usize
-    } else {
-        0
-    }
+    input.get(i).map_or(0, |byte| usize::from(*byte))
 }
 
-// The shape in the first three bytes, or `Outside` if it is outside the limits.
-fn shape(input: &[u8]) -> ShapeResult
-    ensures { result ≡ cond (within_limits (shape_of_input input.now))
-        (ShapeResult.Within (shape_of_input input.now)) ShapeResult.Outside }
+// The shape in the first three bytes, or why it is refused.
+fn shape(input: &[u8]) -> Result<Shape, Refusal>
+    ensures { result ≡ cond (within_limits (shape_of_input input.now)) (Ok (shape_of_input input.now))
+        (Err Refusal.Shape) }
 {
     Shape::new(byte(input, 0), byte(input, 1), byte(input, 2))
 }
@@ -40,33 +36,26 @@ fn run_list(
     shape: Shape,
     list: &[u32],
     ballots: &[u8],
-    gates: usize,
-    conditional: usize,
+    size: ListSize,
     tape: &[u8],
     wires: &mut [u8],
     board: &mut [u8],
-) -> Rehearsed
-    requires { Cut shape list.now gates conditional tape.now wires.old board.old }
+) -> Result<Winners, Refusal>
+    requires { Cut shape list.now size.gates size.conditional tape.now wires.old board.old }
     ensures { Rehearses (ballots_outcome shape ballots.now) board.new result }
 {
-    let answer = tally::run::run(
+    let ran = tally::run::run(
         shape,
         list,
         ballots,
-        &tape[..conditional],
-        &mut wires[..shape.ballot_bytes() + gates],
-        &mut board[..conditional + shape.candidates],
-    );
-    match answer {
-        Answer::Refused(reason) => Rehearsed::Refused(reason),
-        Answer::Accepted {
-            gates: _,
-            conditional,
-        } => Rehearsed::Winners {
-            shape,
-            first: conditional,
-        },
-    }
+        &tape[..size.conditional],
+        &mut wires[..shape.ballot_bytes() + size.gates],
+        &mut board[..size.conditional + shape.candidates],
+    )?;
+    Ok(Winners {
+        shape,
+        first: ran.conditional,
+    })
 }
 
 // Writes the list of the input's shape and runs it.
@@ -77,30 +66,14 @@ fn rehearse_shape(
     tape: &[u8],
     wires: &mut [u8],
     board: &mut [u8],
-) -> Rehearsed
+) -> Result<Winners, Refusal>
     requires { Ready shape input.now table.old tape.now wires.old board.old }
     ensures { Rehearses (rehearsal_outcome input.now table.old) board.new result }
 {
-    match tally::write::write(shape, table) {
-        Answer::Refused(reason) => Rehearsed::Refused(reason),
-        Answer::Accepted { gates, conditional } => {
-            let list = &table[..4 * gates];
-            if input.len() < 3 {
-                run_list(shape, list, &[], gates, conditional, tape, wires, board)
-            } else {
-                run_list(
-                    shape,
-                    list,
-                    &input[3..],
-                    gates,
-                    conditional,
-                    tape,
-                    wires,
-                    board,
-                )
-            }
-        }
-    }
+    let size = tally::write::write(shape, table)?;
+    let list = &table[..4 * size.gates];
+    let ballots = input.get(3..).unwrap_or(&[]);
+    run_list(shape, list, ballots, size, tape, wires, board)
 }
 
 // Rehearses the jury of an input.
@@ -110,12 +83,10 @@ pub fn rehearse(
     tape: &[u8],
     wires: &mut [u8],
     board: &mut [u8],
-) -> Rehearsed
+) -> Result<Winners, Refusal>
     requires { Buffers table.old tape.now wires.old board.old }
     ensures { Rehearses (rehearsal_outcome input.now table.old) board.new result }
 {
-    match shape(input) {
-        ShapeResult::Outside => Rehearsed::Refused(Refusal::Shape),
-        ShapeResult::Within(shape) => rehearse_shape(shape, input, table, tape, wires, board),
-    }
+    let shape = shape(input)?;
+    rehearse_shape(shape, input, table, tape, wires, board)
 }

@@ -1,20 +1,17 @@
 -- What the functions inside this crate require and promise.
-use Rattle.std.specs.Prelude.{◌≡◌, List, [], ◌∷◌, ℕ, ◌+◌, ◌*◌, ◌≤◌, max, take}
-use Rattle.std.proofs.Math.Option.{Option, none, some}
+use Rattle.std.specs.Prelude.{◌≡◌, List, [], ◌∷◌, ℕ, ◌+◌, ◌*◌, ◌≤◌, max, length, Result, IfOk}
+use Rattle.std.proofs.Math.Option.{none}
 use Rattle.gates.specs.Gate.{gates_of}
 use Rattle.gates.specs.Board.{conditional_count}
 use Rattle.jury.specs.Shape.{ballot_bytes}
-use Rattle.jury.specs.Reason.{Reason, reason_of, first_of}
+use Rattle.jury.specs.Reason.{first_of}
 use Rattle.tally.specs.Answer.{Outcome, outcome, Size, size_of}
-use Rattle.tally.specs.declared.answer.Answer.{Answer}
-use Rattle.tally.specs.declared.answer.Answer.TheVariants as answer
 use Rattle.dispatch_rounds.specs.declared.header.JuryHeader.{JuryHeader}
 use Rattle.dispatch_rounds.specs.Tables.{Tables, header_shape, list_of}
 use Rattle.dispatch_rounds.specs.Reasons.{reasons_of, jury_reasons}
 use Rattle.dispatch_rounds.specs.Rounds.{eight_of, RoundState, most_juries, most_gates_per_round}
-use Rattle.gates.specs.Test.{most_gates}
-use Rattle.dispatch.specs.declared.verdict.Tests.{Tests}
-use Rattle.dispatch.specs.Call.{Call, juries_in}
+use Rattle.dispatch.specs.declared.tests.Tested.{Tested}
+use Rattle.dispatch.specs.declared.refusal.JuryRefusal.{JuryRefusal}
 use Rattle.dispatch.specs.NoIdleRound.{NoIdleRound}
 use Rattle.dispatch.specs.Reasons.{verdict_reason}
 
@@ -36,36 +33,34 @@ piece_conditional s p = conditional_count (gates_of p.lists)
 abbrev pub JuryTested : JuryHeader → Tables → Outcome Size → Type 0
 JuryTested s t answer = answer ≡ outcome (first_of (reasons_of s t)) (size_of (gates_of (list_of s t)))
 
--- What the tests of all juries found.
-pub record TestsFound (ss : List JuryHeader) (t : Tables) (r : Tests) : Type 0 where
-  pub reason : verdict_reason r.verdict ≡ first_of (jury_reasons 0 ss t)
-  pub conditional : verdict_reason r.verdict ≡ none → r.conditional ≡ eight_of piece_conditional ss t
-  pub wires : verdict_reason r.verdict ≡ none → r.wires ≡ wire_bytes ss
+-- What the tests of accepted juries found.
+pub record TestedAll (ss : List JuryHeader) (t : Tables) (found : Tested) : Type 0 where
+  pub conditional : found.conditional ≡ eight_of piece_conditional ss t
+  pub wires : found.wires ≡ wire_bytes ss
 
--- The reason in the answer of a jury's tests, if it is a refusal.
-unfoldable pub refusal_in : Answer → Option Reason
-refusal_in (answer.Accepted gates conditional) = none
-refusal_in (answer.Refused r) = some (reason_of r)
+-- What the tests of all juries answer.
+pub record TestsFound (ss : List JuryHeader) (t : Tables) (r : Result Tested JuryRefusal) : Type 0 where
+  pub reason : verdict_reason r ≡ first_of (jury_reasons 0 ss t)
+  pub found : IfOk r (TestedAll ss t)
 
 -- What the rounds require: no jury is refused.
-pub record Ready (c : Call) (conditional : List ℕ) : Type 0 where
-  pub few : c.count ≤ most_juries
-  pub per_round_least : 1 ≤ c.gates_per_round
-  pub per_round_most : c.gates_per_round ≤ most_gates_per_round
-  pub accepted : first_of (jury_reasons 0 (juries_in c) c.tables) ≡ none
-  pub conditional_are : conditional ≡ eight_of piece_conditional (juries_in c) c.tables
-
--- What counting the rounds requires: the numbers are so small that no sum wraps.
-pub record RoundsSmall (count : ℕ) (headers : List JuryHeader) (gates_per_round : ℕ) : Type 0 where
-  pub few : count ≤ most_juries
+pub record Ready (ss : List JuryHeader) (gates_per_round : ℕ) (t : Tables) (conditional : List ℕ) : Type 0 where
+  pub few : length ss ≤ most_juries
   pub per_round_least : 1 ≤ gates_per_round
   pub per_round_most : gates_per_round ≤ most_gates_per_round
-  pub gates_most : longest_list (take count headers) ≤ most_gates
+  pub accepted : first_of (jury_reasons 0 ss t) ≡ none
+  pub conditional_are : conditional ≡ eight_of piece_conditional ss t
+
+-- What counting the rounds requires.
+pub record RoundsSmall (ss : List JuryHeader) (gates_per_round : ℕ) : Type 0 where
+  pub few : length ss ≤ most_juries
+  pub per_round_least : 1 ≤ gates_per_round
 
 -- What the rounds leave after `done` rounds: every jury has done all its gates, and no round was idle.
-pub record RoundsFinished (c : Call) (conditional wires boards : List ℕ) : Type 0 where
+pub record RoundsFinished (ss : List JuryHeader) (gates_per_round : ℕ) (t : Tables) (conditional wires boards : List ℕ)
+    : Type 0 where
   pub done : ℕ
   pub shown : List ℕ
-  pub all : longest_list (juries_in c) ≤ done * c.gates_per_round
-  pub none_idle : NoIdleRound c.gates_per_round done (juries_in c)
-  pub state : RoundState (done * c.gates_per_round) (juries_in c) c.tables conditional wires boards shown
+  pub all : longest_list ss ≤ done * gates_per_round
+  pub none_idle : NoIdleRound gates_per_round done ss
+  pub state : RoundState (done * gates_per_round) ss t conditional wires boards shown

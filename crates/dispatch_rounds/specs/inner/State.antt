@@ -1,5 +1,5 @@
 -- What the functions inside this crate require and promise.
-use Rattle.std.specs.Prelude.{◌≡◌, List, ℕ, ◌+◌, ◌*◌, ◌≤◌, ◌<◌, T, length, take}
+use Rattle.std.specs.Prelude.{◌≡◌, List, ℕ, ◌+◌, ◌*◌, ◌≤◌, ◌<◌, T, length}
 use Rattle.gates.specs.Gate.{gates_of}
 use Rattle.gates.specs.inner.Step.{RunReady}
 use Rattle.jury.specs.Shape.{within_limits, ballot_bytes}
@@ -49,15 +49,15 @@ pub record TurnReady (given gates_per_round : ℕ) (s : JuryHeader) (list ballot
 
 -- What a round requires: a call between two rounds. A jury has at most 1,048,576 gates, so at most that many rounds
 -- come before this one.
-pub record RoundReady (count : ℕ) (headers : List JuryHeader) (done gates_per_round : ℕ) (lists ballots tapes : List ℕ)
+pub record RoundReady (headers : List JuryHeader) (done gates_per_round : ℕ) (lists ballots tapes : List ℕ)
     (conditional wires boards shown : List ℕ) : Type 0 where
-  pub few : count ≤ most_juries
+  pub few : length headers ≤ most_juries
   pub per_round_least : 1 ≤ gates_per_round
   pub per_round_most : gates_per_round ≤ most_gates_per_round
   pub done_most : done ≤ most_gates
   pub wires_lent : List ℕ
   pub boards_lent : List ℕ
-  pub state : RoundState (done * gates_per_round) (take count headers)
+  pub state : RoundState (done * gates_per_round) headers
       (tables_of lists ballots tapes wires_lent boards_lent)
       conditional
       wires boards shown

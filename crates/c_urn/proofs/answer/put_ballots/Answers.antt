@@ -1,0 +1,12 @@
+-- `c_urn::answer::put_ballots` meets its contract: each case of the answer is put as its numbers.
+use Rattle.std.proofs.Common.{◌∙◌, ap, ℕ, List, [], ◌∷◌, rules}
+use Rattle.jury.specs.Reason.{reason_of}
+use Rattle.c_answers.specs.Numbers.{result_numbers}
+use Rattle.c_answers.proofs.Answering.{puts_same, map_is}
+use Rattle.c_urn.proofs.Putting.{one_as}
+use Rattle.c_urn.proofs.answer.put_ballots.Goals as goal
+
+pub returns : goal.returns
+returns c =
+    puts_same (ap (result_numbers reason_of 1) (map_is c.args.outcome c.map.result _ (λ (n : ℕ). n ∷ [])
+    (λ x u p. search rules) c.map.ensures.cases) ∙ one_as c.args.outcome) c.put.ensures
