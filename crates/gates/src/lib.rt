@@ -2,6 +2,7 @@
 // This crate knows gates and wires, and nothing of juries.
 #![tactic(auto)]
 
+pub mod gate;
 pub mod kind;
 pub mod lengths;
 pub mod list;

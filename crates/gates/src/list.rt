@@ -5,6 +5,7 @@ ghost use Rattle.gates.specs.Gate.{gates_of};
 ghost use Rattle.gates.specs.Board.{conditional_count};
 ghost use Rattle.gates.specs.Test.{good_operand, good_gate, first_bad, judged, tested};
 
+use crate::gate::Gate;
 use crate::kind;
 use crate::kind::OperandCounts;
 
@@ -38,33 +39,25 @@ fn is_good_operand(used: bool, own: usize, operand: u32) -> bool
     }
 }
 
-// Whether gate g, made of these four numbers, is good.
-fn gate_is_good(
-    inputs: usize,
-    g: usize,
-    counts: &OperandCounts,
-    kind: u32,
-    a: u32,
-    b: u32,
-    c: u32,
-) -> bool
+// Whether this is good as gate g.
+fn gate_is_good(inputs: usize, g: usize, counts: &OperandCounts, gate: Gate) -> bool
     requires { counts.now ≡ operand_counts }
-    ensures { result ≡ good_gate (inputs + g) (record { kind = kind; a = a; b = b; c = c }) }
+    ensures { result ≡ good_gate (inputs + g) gate }
 {
     // Only the match in `apply` says whether the kind is known. The operands do not matter here.
-    if kind::apply(kind, 0, 0, 0).is_none() {
+    if kind::apply(gate.kind, 0, 0, 0).is_none() {
         return false;
     }
-    let count = kind::operands(counts, kind);
+    let count = kind::operands(counts, gate.kind);
     // The gate's own wire, inputs + g. Where that sum does not fit, every 32-bit operand is below it all the same.
     let own = inputs.saturating_add(g);
-    if !is_good_operand(0 < count, own, a) {
+    if !is_good_operand(0 < count, own, gate.a) {
         return false;
     }
-    if !is_good_operand(1 < count, own, b) {
+    if !is_good_operand(1 < count, own, gate.b) {
         return false;
     }
-    is_good_operand(2 < count, own, c)
+    is_good_operand(2 < count, own, gate.c)
 }
 
 // Tests the gates of a table in order, and counts the conditional ones.
@@ -77,20 +70,11 @@ fn test_gates(inputs: usize, table: &[u32]) -> Result<ListSize, ListFault>
     let marks = kind::CONDITIONAL;
     let mut conditional: usize = 0;
     for g in 0..gates {
-        let at = 4 * g;
-        let kind = table[at];
-        if !gate_is_good(
-            inputs,
-            g,
-            &counts,
-            kind,
-            table[at + 1],
-            table[at + 2],
-            table[at + 3],
-        ) {
+        let gate = Gate::at(table, g);
+        if !gate_is_good(inputs, g, &counts, gate) {
             return Err(ListFault::BadGate(g));
         }
-        conditional += kind::mark(&marks, kind);
+        conditional += kind::mark(&marks, gate.kind);
     }
     Ok(ListSize { gates, conditional })
 }

@@ -5,6 +5,7 @@ ghost use Rattle.gates.specs.inner.Marked.{Marked};
 ghost use Rattle.gates.specs.inner.Step.{StepReady, FinishReady, RunReady};
 ghost use Rattle.gates.specs.inner.Step.{GateReady, GateRan, Stepped, CloseReady, Evaluated};
 
+use crate::gate::Gate;
 use crate::kind;
 use crate::kind::ConditionalMarks;
 
@@ -31,16 +32,12 @@ fn run_gate(
     ensures { GateRan table.now g own tape.now shown wires.old board.old result
         wires.new board.new }
 {
-    let at = 4 * g;
-    let kind = table[at];
-    let a_wire = table[at + 1] as usize;
-    let b_wire = table[at + 2] as usize;
-    let c_wire = table[at + 3] as usize;
-    let a = wires[a_wire];
-    let b = wires[b_wire];
-    let c = wires[c_wire];
-    wires[own] = kind::value(kind, a, b, c);
-    if kind::conditional(marks, kind) {
+    let gate = Gate::at(table, g);
+    let a = wires[gate.a as usize];
+    let b = wires[gate.b as usize];
+    let c = wires[gate.c as usize];
+    wires[own] = kind::value(gate.kind, a, b, c);
+    if kind::conditional(marks, gate.kind) {
         board[shown] = masked(a, tape[shown]);
         return shown + 1;
     }

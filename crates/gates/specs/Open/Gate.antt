@@ -1,12 +1,7 @@
 -- Gates, and the table of numbers that holds a list of them.
 use Rattle.std.specs.Prelude.{List, [], ◌∷◌, ℕ, ◌+◌, ◌*◌, get_or}
-
--- A gate: its kind and its three operands.
-pub record Gate : Type 0 where
-  pub kind : ℕ
-  pub a : ℕ
-  pub b : ℕ
-  pub c : ℕ
+-- A gate: its kind and its three operands, as the program has it.
+pub use Rattle.gates.specs.declared.gate.Gate.{Gate}
 
 -- The gates of a table, four numbers each. One to three numbers left over at the end make no gate.
 unfoldable pub gates_of : List ℕ → List Gate

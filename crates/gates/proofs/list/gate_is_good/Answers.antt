@@ -45,40 +45,44 @@ below_own inputs g own x e small = ⊎_elim
 
 pub returns-then-is_none : goal.returns-then-is_none
 returns-then-is_none c = let a = c.args in
-    parts (a.inputs + a.g) a.kind a.a a.b a.c _ false _ _ _
-    (known a.kind _ _ true c.is_none.ensures c.apply.ensures c.if-is_none.true) refl refl refl refl
+    let g = a.gate in
+    parts (a.inputs + a.g) g.kind g.a g.b g.c _ false _ _ _
+    (known g.kind _ _ true c.is_none.ensures c.apply.ensures c.if-is_none.true) refl refl refl refl
 
 pub returns-then-not-is_good_operand : goal.returns-then-not-is_good_operand
 returns-then-not-is_good_operand c = let a = c.args in
-    parts (a.inputs + a.g) a.kind a.a a.b a.c c.operands-count.result true false _ _
-    (known a.kind _ _ false c.is_none.ensures c.apply.ensures c.if-is_none.false) c.operands-count.ensures
-    (as_own _ _ _ a.a _ false
-    (below_own a.inputs a.g _ a.a c.saturating_add-own.ensures (omega (arith, c.ranges.a)))
+    let g = a.gate in
+    parts (a.inputs + a.g) g.kind g.a g.b g.c c.operands-count.result true false _ _
+    (known g.kind _ _ false c.is_none.ensures c.apply.ensures c.if-is_none.false) c.operands-count.ensures
+    (as_own _ _ _ g.a _ false
+    (below_own a.inputs a.g _ g.a c.saturating_add-own.ensures (omega arith))
     c.is_good_operand.ensures c.if-not-is_good_operand.true)
     refl refl
 
 pub returns-then-not-is_good_operand-2 : goal.returns-then-not-is_good_operand-2
 returns-then-not-is_good_operand-2 c = let a = c.args in
-    parts (a.inputs + a.g) a.kind a.a a.b a.c c.operands-count.result true true false _
-    (known a.kind _ _ false c.is_none.ensures c.apply.ensures c.if-is_none.false) c.operands-count.ensures
-    (as_own _ _ _ a.a _ true
-    (below_own a.inputs a.g _ a.a c.saturating_add-own.ensures (omega (arith, c.ranges.a)))
+    let g = a.gate in
+    parts (a.inputs + a.g) g.kind g.a g.b g.c c.operands-count.result true true false _
+    (known g.kind _ _ false c.is_none.ensures c.apply.ensures c.if-is_none.false) c.operands-count.ensures
+    (as_own _ _ _ g.a _ true
+    (below_own a.inputs a.g _ g.a c.saturating_add-own.ensures (omega arith))
     c.is_good_operand.ensures c.if-not-is_good_operand.false)
-    (as_own _ _ _ a.b _ false
-    (below_own a.inputs a.g _ a.b c.saturating_add-own.ensures (omega (arith, c.ranges.b)))
+    (as_own _ _ _ g.b _ false
+    (below_own a.inputs a.g _ g.b c.saturating_add-own.ensures (omega arith))
     c.is_good_operand-2.ensures c.if-not-is_good_operand-2.true)
     refl
 
 pub returns : goal.returns
 returns c = let a = c.args in
-    parts (a.inputs + a.g) a.kind a.a a.b a.c c.operands-count.result true true true c.is_good_operand-3.result
-    (known a.kind _ _ false c.is_none.ensures c.apply.ensures c.if-is_none.false) c.operands-count.ensures
-    (as_own _ _ _ a.a _ true
-    (below_own a.inputs a.g _ a.a c.saturating_add-own.ensures (omega (arith, c.ranges.a)))
+    let g = a.gate in
+    parts (a.inputs + a.g) g.kind g.a g.b g.c c.operands-count.result true true true c.is_good_operand-3.result
+    (known g.kind _ _ false c.is_none.ensures c.apply.ensures c.if-is_none.false) c.operands-count.ensures
+    (as_own _ _ _ g.a _ true
+    (below_own a.inputs a.g _ g.a c.saturating_add-own.ensures (omega arith))
     c.is_good_operand.ensures c.if-not-is_good_operand.false)
-    (as_own _ _ _ a.b _ true
-    (below_own a.inputs a.g _ a.b c.saturating_add-own.ensures (omega (arith, c.ranges.b)))
+    (as_own _ _ _ g.b _ true
+    (below_own a.inputs a.g _ g.b c.saturating_add-own.ensures (omega arith))
     c.is_good_operand-2.ensures c.if-not-is_good_operand-2.false)
-    (as_own _ _ _ a.c _ c.is_good_operand-3.result
-    (below_own a.inputs a.g _ a.c c.saturating_add-own.ensures (omega (arith, c.ranges.c)))
+    (as_own _ _ _ g.c _ c.is_good_operand-3.result
+    (below_own a.inputs a.g _ g.c c.saturating_add-own.ensures (omega arith))
     c.is_good_operand-3.ensures refl)
