@@ -1,11 +1,11 @@
 // Whether rankings are strict weak orders, with the same steps for all of them: accepted ballots are secret. The score
 // of a candidate is the sum of its row, the number of those that it is before. In a strict weak order i is before j
 // exactly if i has the higher score; so the bytes that say otherwise are counted.
-ghost use Rattle.std.specs.Prelude.{◌≡◌, true, ℕ, ◌*◌, ◌≤◌, ◌<◌, length};
+ghost use Rattle.std.specs.Prelude.{◌≡◌, true, ℕ, ◌≤◌, ◌<◌, length};
 ghost use Rattle.jury.specs.Shape.{most_candidates};
 ghost use Rattle.jury.specs.Rankings.{before};
 ghost use Rattle.jury.specs.WeakOrder.{StrictWeakOrder};
-ghost use Rattle.jury.specs.inner.Orders.{RankedSize, AstrayInRow, AstrayInBallot};
+ghost use Rattle.jury.specs.inner.Orders.{RankedSize, RankedBallot, AstrayInRow, AstrayInBallot};
 
 use crate::ballots::row_sum;
 use crate::shape::Shape;
@@ -30,7 +30,7 @@ pub(crate) fn are_orders(shape: Shape, ballots: &[u8]) -> bool
 
 // How many bytes of a ballot differ from what its scores say.
 fn astray_in_ballot(ballot: &[u8], k: usize) -> usize
-    requires { (0 < k) × (k ≤ most_candidates) × (length ballot.now ≡ k * k) }
+    requires { RankedBallot k ballot.now }
     ensures { AstrayInBallot k ballot.now result }
 {
     let mut scores = [0; Shape::MOST_CANDIDATES];
@@ -59,7 +59,7 @@ fn astray_in_row(row: &[u8], scores: &Scores, own: usize) -> usize
 // Puts the score of each candidate of a ballot. The array is lent: reading as a whole what was just stored in parts
 // would stall the processor at each ballot.
 fn put_scores(scores: &mut Scores, ballot: &[u8], k: usize)
-    requires { (0 < k) × (k ≤ most_candidates) × (length ballot.now ≡ k * k) }
+    requires { RankedBallot k ballot.now }
 {
     for (i, row) in ballot.chunks_exact(k).enumerate() {
         scores[i] = row_sum(row);

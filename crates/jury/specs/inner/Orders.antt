@@ -10,6 +10,12 @@ pub record RankedSize (s : Shape) (xs : List ℕ) : Type 0 where
   pub few : s.candidates ≤ most_candidates
   pub size : length xs ≡ s.ballots * s.candidates * s.candidates
 
+-- A ballot of k candidates, some but not too many: a row of k bytes for each.
+pub record RankedBallot (k : ℕ) (ballot : List ℕ) : Type 0 where
+  pub some : 0 < k
+  pub few : k ≤ most_candidates
+  pub size : length ballot ≡ k * k
+
 -- If none is astray in this row, a byte is 1 exactly if the own score is above the column's.
 pub record AstrayInRow (row scores : List ℕ) (own r : ℕ) : Type 0 where
   pub most : r ≤ length row

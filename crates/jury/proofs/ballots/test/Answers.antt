@@ -62,11 +62,19 @@ test_grades-requires c = let s = c.args.shape in
     }
 
 pub returns-then-is_ranking : goal.returns-then-is_ranking
-returns-then-is_ranking c = let a = c.args in
-    c.test_orders.ensures ∙ sym (ap first_of (ranked_reasons_lem a.shape a.ballots.now
-    (sym c.is_ranking.ensures ∙ c.if-is_ranking.true))) ∙ sym (by_kind a.shape a.ballots.now (c.if-ballots-ballot_bytes.false ∙ c.ballot_bytes.ensures) (sym c.first_above_one.ensures ∙ c.in_default.is))
+returns-then-is_ranking c =
+    let s = c.args.shape in
+    let xs = c.args.ballots.now in
+    let size = c.if-ballots-ballot_bytes.false ∙ c.ballot_bytes.ensures in
+    c.test_orders.ensures
+    ∙ sym (ap first_of (ranked_reasons_lem s xs (sym c.is_ranking.ensures ∙ c.if-is_ranking.true)))
+    ∙ sym (by_kind s xs size (sym c.first_above_one.ensures ∙ c.in_default.is))
 
 pub returns-else-is_ranking : goal.returns-else-is_ranking
-returns-else-is_ranking c = let a = c.args in
-    c.test_grades.ensures ∙ sym (ap first_of (graded_reasons_lem a.shape a.ballots.now
-    (sym c.is_ranking.ensures ∙ c.if-is_ranking.false))) ∙ sym (by_kind a.shape a.ballots.now (c.if-ballots-ballot_bytes.false ∙ c.ballot_bytes.ensures) (sym c.first_above_one.ensures ∙ c.in_default.is))
+returns-else-is_ranking c =
+    let s = c.args.shape in
+    let xs = c.args.ballots.now in
+    let size = c.if-ballots-ballot_bytes.false ∙ c.ballot_bytes.ensures in
+    c.test_grades.ensures
+    ∙ sym (ap first_of (graded_reasons_lem s xs (sym c.is_ranking.ensures ∙ c.if-is_ranking.false)))
+    ∙ sym (by_kind s xs size (sym c.first_above_one.ensures ∙ c.in_default.is))

@@ -25,11 +25,11 @@ loop-i-preserved c =
     let full = steps.0.1.1 ∙ c.loop-i.invariant.0 in
     let next : (i + 1) * k ≡ i * k + k = omega (arith, ap (λ (n : ℕ). n * k) (add-one i), suc-mul i k) in (
       steps.0.0 ∙ c.loop-i.invariant.0,
-      rw steps.2 (chunks_after row after c.requires.2 c.requires.0 c.loop-i.invariant.1 steps.0.1.0 full),
+      rw steps.2 (chunks_after row after c.requires.size c.requires.some c.loop-i.invariant.1 steps.0.1.0 full),
       rw steps.2 (omega (arith, c.astray_in_row-astray.ensures.most)),
       λ z. rw steps.2 (below_more _ _ (c.loop-i.invariant.3 (omega arith))
           (λ j l.
-          ap (λ (n : ℕ). eqb n 1) (sym (chunk_byte row after c.requires.2 c.requires.0 c.loop-i.invariant.1 steps.0.1.0 full j l))
+          ap (λ (n : ℕ). eqb n 1) (sym (chunk_byte row after c.requires.size c.requires.some c.loop-i.invariant.1 steps.0.1.0 full j l))
           ∙ c.astray_in_row-astray.ensures.agrees (omega arith) j (omega arith)
           ∙ ap (λ (h : ℕ). ltb (get_or scores j 0) (get_or scores h 0)) steps.1)),
     )
@@ -37,7 +37,7 @@ loop-i-preserved c =
 pub returns : goal.returns
 returns c =
     let k = c.args.k in
-    let e = chunks_end c.requires.2 c.loop-i.invariant.1 (omega (arith, c.in-None.ensures.steps.0.1.0, c.loop-i.invariant.0)) in
+    let e = chunks_end c.requires.size c.loop-i.invariant.1 (omega (arith, c.in-None.ensures.steps.0.1.0, c.loop-i.invariant.0)) in
     record {
       most = omega (arith, ap (λ (n : ℕ). n * k) e);
       ordered = λ z. order_by_scores k (λ i j. eqb (get_or c.args.ballot.now (i * k + j) 0) 1) (λ i. get_or c.put_scores.new.scores i 0)

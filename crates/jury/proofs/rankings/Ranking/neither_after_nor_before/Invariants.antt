@@ -8,4 +8,6 @@ use Rattle.jury.specs.Rankings.{before}
 use Rattle.jury.proofs.rankings.Ranking.neither_after_nor_before.Given as goal
 
 abbrev pub invariant-loop-l : goal.invariant-loop-l
-invariant-loop-l l = some_below l.l (λ m. not (before l.self.candidates l.self.ballots.now l.self.ballot l.i m) && not (before l.self.candidates l.self.ballots.now l.self.ballot m l.j)) ≡ false
+invariant-loop-l l =
+    let is = before l.self.candidates l.self.ballots.now l.self.ballot in
+    some_below l.l (λ m. not (is l.i m) && not (is m l.j)) ≡ false
