@@ -51,3 +51,23 @@ module _ (w₀ : Writer) (t₀ : List ℕ) (whole : List Gate) where
   -- nothing is left, so the whole is written
   pub goes_end : (w : Writer) (t : List ℕ) (rest : List Gate) → rest ≡ [] → Goes w₀ t₀ whole w t rest → Wrote w₀ t₀ whole t w
   goes_end w t rest e g = (goes_as w t rest [] e g).ends t w (wrote_nothing w t)
+
+-- a turn of a loop: one piece is written, and the rest is left, or an equal of it
+pub goes_turn : {w₀ w w₁ : Writer} {t₀ t t₁ : List ℕ} {whole rest b rest' : List Gate}
+    → rest ≡ b ++ rest' → Goes w₀ t₀ whole w t rest → Wrote w t b t₁ w₁ → Goes w₀ t₀ whole w₁ t₁ rest'
+goes_turn {w₀} {w} {w₁} {t₀} {t} {t₁} {whole} {rest} {b} {rest'} e g a =
+    goes_on w₀ t₀ whole w t b rest' t₁ w₁ (goes_as w₀ t₀ whole w t rest (b ++ rest') e g) a
+
+pub goes_turn_as : {w₀ w w₁ : Writer} {t₀ t t₁ : List ℕ} {whole rest b rest' rest'' : List Gate}
+    → rest ≡ b ++ rest' → Goes w₀ t₀ whole w t rest → Wrote w t b t₁ w₁ → rest' ≡ rest'' → Goes w₀ t₀ whole w₁ t₁ rest''
+goes_turn_as {w₀} {w} {w₁} {t₀} {t} {t₁} {whole} {rest} {b} {rest'} {rest''} e g a s =
+    goes_as w₀ t₀ whole w₁ t₁ rest' rest'' s (goes_turn e g a)
+
+-- before a piece of m gates there is room for it
+pub goes_room_for : {w₀ w : Writer} {t₀ t : List ℕ} {whole rest : List Gate} {m n : ℕ}
+    → Goes w₀ t₀ whole w t rest → m ≤ length rest → length whole ≤ n → Room w₀ n → Room w m
+goes_room_for {w₀} {w} {t₀} {t} {whole} {rest} {m} {n} g l k r = goes_room w₀ t₀ whole w t rest m n g l k r
+
+-- after the loop nothing is left
+pub goes_done : {w₀ w : Writer} {t₀ t : List ℕ} {whole rest : List Gate} → Goes w₀ t₀ whole w t rest → rest ≡ [] → Wrote w₀ t₀ whole t w
+goes_done {w₀} {w} {t₀} {t} {whole} {rest} g e = goes_end w₀ t₀ whole w t rest e g

@@ -1,5 +1,5 @@
 // The public numbers from which the circuit of a shape is built.
-ghost use Rattle.std.specs.Prelude.{◌≡◌, ◌^◌, ◌≤◌, T};
+ghost use Rattle.std.specs.Prelude.{◌≡◌, T};
 ghost use Rattle.jury.specs.Shape.{graded_limits};
 ghost use Rattle.graded_circuit.specs.Plan.{plan_of};
 

@@ -15,7 +15,6 @@ use Rattle.graded_circuit.specs.declared.plan.Plan.{Plan}
 use Rattle.graded_circuit.specs.Plan.{Planned, bits_at, ballot_stride}
 use Rattle.graded_circuit.specs.RunningSums.{sum_size, row_at, row_stride, rows, sum_levels_from, sum_levels, all_levels}
 use Rattle.graded_circuit.specs.Key.{key_word, key_words}
-use Rattle.graded_circuit.proofs.PlanFacts.{row_below}
 use Rattle.graded_circuit.proofs.CandidateBlocks.{RowsBefore}
 
 less_power : (r : ℕ) → r < 2 ^ r
@@ -112,17 +111,10 @@ module _ (p : Plan) (f : Planned p) where
   pub apart_most : ballot_stride p ≤ 56
   apart_most = mul-le-mul {n₁ = p.candidates} {m₁ = p.grades} {n₂ = 8} {m₂ = 7} f.k_most f.d_most
 
-  pub bits_most : (c g : ℕ) → c < p.candidates → g < p.grades → bits_at p c g < 56
-  bits_most c g hc hg = omega (arith, row_below p f c g hc hg, apart_most)
-
   pub row_apart_most : (g : ℕ) → row_stride p g ≤ 56
   unfolding row_stride
   row_apart_most zero = apart_most
   row_apart_most (suc g) = omega arith
-
-  -- g rows are at most 1,785 wires
-  pub rows_most : (g : ℕ) → g < p.grades → g * p.ballots ≤ 1785
-  rows_most g h = mul-le-mul {n₁ = g} {m₁ = p.ballots} {n₂ = 7} {m₂ = 255} (omega (arith, f.d_most)) f.n_most
 
   pub size_most : sum_size p < 1000000
   size_most = omega (arith, few_digits, f.n_most, count_size_most p.ballots p.offset p.digits 255 f.n_most (omega arith))

@@ -6,10 +6,10 @@ use Prim.Native.Nat.{ℕ, ◌+◌, ◌-◌, ◌*◌, ◌/◌, ◌%◌}
 use native.Mathlib.Omega.{arith}
 use lib.ListN.{length, length-append}
 use Rattle.gate_words.specs.Word.{Below}
-use Rattle.gate_words.specs.Counter.{level, adders, count_levels, count_size, Countable}
+use Rattle.gate_words.specs.Counter.{level, adders, count_levels, Countable}
 use Rattle.gate_words.proofs.Places.{below_first, below_rest}
 use Rattle.gate_words.proofs.CounterSteps.{length_level, count_step, count_none, countable_step, length_count, below_carries, few_adders}
-use Rattle.gate_words.proofs.Going.{goes_as, goes_on, goes_room, goes_end}
+use Rattle.gate_words.proofs.Going.{goes_turn_as, goes_room_for, goes_done}
 use Rattle.gate_adders.proofs.counter.count_levels.Goals as goal
 
 pub overflow_add-at : goal.overflow_add-at
@@ -28,11 +28,7 @@ level-w-requires c =
     let a = c.args in
     let l = c.loop in
     record {
-      room = goes_room a.start a.table.now
-          (count_levels a.start.wire a.first a.stride a.count a.extra a.levels) l.w l.table
-          (count_levels l.w.wire l.at l.d l.m l.rest (a.levels - l.counter))
-          (length (level l.w.wire l.at (l.at + l.d) l.d (l.rest % 2) (l.m - 1)))
-          (count_size a.count a.extra a.levels) l.invariant.4
+      room = goes_room_for l.invariant.4
           (omega (
             arith,
             ap length (count_step l.w.wire l.at l.d l.m l.rest l.counter a.levels
@@ -41,7 +37,7 @@ level-w-requires c =
                 (count_levels (l.w.wire + 3 * adders (l.m - 1) (l.rest % 2)) (l.w.wire + 2) 3
                 (adders (l.m - 1) (l.rest % 2)) (l.rest / 2) (a.levels - (l.counter + 1))),
           ))
-          (omega (arith, length_count a.start.wire a.first a.stride a.count a.extra a.levels))
+          (omega (arith, length_count))
           c.requires.room;
       below = below_rest l.w.wire l.at l.d l.m (countable_step l.m l.rest l.counter c.args.levels c.loop-test.true l.invariant.3).0 l.invariant.0;
     }
@@ -70,24 +66,13 @@ loop-preserved c =
       omega arith,
       omega (arith, few_adders (l.m - 1) (l.rest % 2) (omega arith), l.invariant.2, some.0),
       subst (λ (x : ℕ). Countable x (l.rest / 2) (a.levels - (l.counter + 1))) (sym q) some.1,
-      goes_as a.start a.table.now
-          (count_levels a.start.wire a.first a.stride a.count a.extra a.levels) e.result
-          e.new.table _ _
+      goes_turn_as (count_step l.w.wire l.at l.d l.m l.rest l.counter a.levels t) l.invariant.4 e.ensures
           (ap (λ (x : ℕ). count_levels x (l.w.wire + 2) 3 k (l.rest / 2) (a.levels - (l.counter + 1))) (sym n)
-          ∙ ap (λ (x : ℕ). count_levels e.result.wire (l.w.wire + 2) 3 x (l.rest / 2) (a.levels - (l.counter + 1))) (sym q))
-          (goes_on a.start a.table.now
-          (count_levels a.start.wire a.first a.stride a.count a.extra a.levels) l.w l.table
-          _ _ e.new.table e.result
-          (goes_as a.start a.table.now
-          (count_levels a.start.wire a.first a.stride a.count a.extra a.levels) l.w l.table
-          _ _ (count_step l.w.wire l.at l.d l.m l.rest l.counter a.levels t) l.invariant.4)
-          e.ensures),
+          ∙ ap (λ (x : ℕ). count_levels e.result.wire (l.w.wire + 2) 3 x (l.rest / 2) (a.levels - (l.counter + 1))) (sym q)),
     )
 
 pub returns : goal.returns
 returns c =
     let a = c.args in
     let l = c.loop in
-    goes_end a.start a.table.now
-    (count_levels a.start.wire a.first a.stride a.count a.extra a.levels) l.w l.table _
-    (count_none l.w.wire l.at l.d l.m l.rest l.counter a.levels c.loop-test.false) l.invariant.4
+    goes_done l.invariant.4 (count_none l.w.wire l.at l.d l.m l.rest l.counter a.levels c.loop-test.false)

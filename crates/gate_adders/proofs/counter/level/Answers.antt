@@ -11,7 +11,7 @@ use Rattle.gate_words.specs.Counter.{level}
 use Rattle.gate_words.proofs.Places.{below_two}
 use Rattle.gate_words.proofs.WordSteps.{length_full, length_half, length_increment}
 use Rattle.gate_words.proofs.CounterSteps.{level_two, level_one, level_none, level_bit}
-use Rattle.gate_words.proofs.Going.{goes_as, goes_on, goes_room, goes_end}
+use Rattle.gate_words.proofs.Going.{goes_turn, goes_turn_as, goes_room_for, goes_done}
 use Rattle.gate_adders.proofs.counter.level.Goals as goal
 
 -- a level of two or more bits has at least three gates
@@ -33,9 +33,7 @@ pub full_adder-w-requires : goal.full_adder-w-requires
 full_adder-w-requires c =
     let a = c.args in
     let l = c.loop in
-    let whole = level a.start.wire a.sum a.first a.stride a.e a.count in
-    goes_room a.start a.table.now whole l.w l.table (level l.w.wire l.s l.at a.stride a.e (a.count - 2 * l.counter)) 3
-    (length whole) l.invariant.1 (long l.w.wire l.s l.at a.stride a.e l.counter a.count c.loop-test.true)
+    goes_room_for l.invariant.1 (long l.w.wire l.s l.at a.stride a.e l.counter a.count c.loop-test.true)
     (omega arith) c.requires.room
 
 pub overflow_add-at-in-loop : goal.overflow_add-at-in-loop
@@ -53,30 +51,21 @@ loop-preserved c =
     let a = c.args in
     let l = c.loop in
     let e = c.full_adder-w in
-    let t = c.loop-test.true in
-    let whole = level a.start.wire a.sum a.first a.stride a.e a.count in (
+    let t = c.loop-test.true in (
       (below_two a.start.wire l.at a.stride l.counter a.count t l.invariant.0).1,
-      goes_as a.start a.table.now whole e.result e.new.table _ _
+      goes_turn_as (level_two l.w.wire l.s l.at a.stride a.e l.counter a.count t) l.invariant.1 e.ensures
           (ap (λ (n : ℕ). level n (l.w.wire + 1) (l.at + a.stride + a.stride) a.stride a.e (a.count - 2 * (l.counter + 1)))
-          (sym (e.ensures.wires ∙ ap (λ (n : ℕ). l.w.wire + n)
-          (length_full l.w.wire l.s l.at (l.at + a.stride)))))
-          (goes_on a.start a.table.now whole l.w l.table _ _ e.new.table e.result
-          (goes_as a.start a.table.now whole l.w l.table _ _
-          (level_two l.w.wire l.s l.at a.stride a.e l.counter a.count t) l.invariant.1)
-          e.ensures),
+          (sym (e.ensures.wires ∙ ap (λ (n : ℕ). l.w.wire + n) (length_full l.w.wire l.s l.at (l.at + a.stride))))),
     )
 
 pub half_adder-requires : goal.half_adder-requires
 half_adder-requires c =
     let a = c.args in
     let l = c.loop in
-    let whole = level a.start.wire a.sum a.first a.stride a.e a.count in
-    let left = a.count - 2 * l.counter in
-    goes_room a.start a.table.now whole l.w l.table (level l.w.wire l.s l.at a.stride a.e left) 3
-    (length whole) l.invariant.1
+    goes_room_for l.invariant.1
     (omega (
       arith,
-      ap length (level_one l.w.wire l.s l.at a.stride a.e left (omega arith)),
+      ap length (level_one l.w.wire l.s l.at a.stride a.e (a.count - 2 * l.counter) (omega arith)),
       length-append (half_adder l.w.wire l.s l.at a.e) [],
       length_half l.w.wire l.s l.at a.e,
     )) (omega arith) c.requires.room
@@ -85,29 +74,23 @@ pub returns-then-count-eq1 : goal.returns-then-count-eq1
 returns-then-count-eq1 c =
     let a = c.args in
     let l = c.loop in
-    let h = c.half_adder in
-    let whole = level a.start.wire a.sum a.first a.stride a.e a.count in
-    goes_end a.start a.table.now whole h.result h.new.table _ refl
-    (goes_on a.start a.table.now whole l.w l.table _ [] h.new.table h.result
-    (goes_as a.start a.table.now whole l.w l.table _ _
-    (level_one l.w.wire l.s l.at a.stride a.e (a.count - 2 * l.counter) (omega arith)) l.invariant.1) h.ensures)
+    goes_done
+    (goes_turn (level_one l.w.wire l.s l.at a.stride a.e (a.count - 2 * l.counter) (omega arith)) l.invariant.1
+    c.half_adder.ensures) refl
 
 pub returns-then-e-eq0 : goal.returns-then-e-eq0
 returns-then-e-eq0 c =
     let a = c.args in
     let l = c.loop in
-    goes_end a.start a.table.now (level a.start.wire a.sum a.first a.stride a.e a.count) l.w l.table _
+    goes_done l.invariant.1
     (level_none l.w.wire l.s l.at a.stride a.e (a.count - 2 * l.counter) (omega arith) (λ p. omega arith) c.if-e-eq0.true)
-    l.invariant.1
 
 pub increment-requires : goal.increment-requires
 increment-requires c =
     let a = c.args in
     let l = c.loop in
-    let whole = level a.start.wire a.sum a.first a.stride a.e a.count in
     let left = a.count - 2 * l.counter in
-    goes_room a.start a.table.now whole l.w l.table (level l.w.wire l.s l.at a.stride a.e left) 3
-    (length whole) l.invariant.1
+    goes_room_for l.invariant.1
     (omega (
       arith,
       ap length (level_bit l.w.wire l.s l.at a.stride a.e left (omega arith) (λ p. omega arith) c.if-e-eq0.false),
@@ -119,10 +102,6 @@ pub returns : goal.returns
 returns c =
     let a = c.args in
     let l = c.loop in
-    let h = c.increment in
-    let whole = level a.start.wire a.sum a.first a.stride a.e a.count in
-    goes_end a.start a.table.now whole h.result h.new.table _ refl
-    (goes_on a.start a.table.now whole l.w l.table _ [] h.new.table h.result
-    (goes_as a.start a.table.now whole l.w l.table _ _
-    (level_bit l.w.wire l.s l.at a.stride a.e (a.count - 2 * l.counter) (omega arith) (λ p. omega arith) c.if-e-eq0.false)
-    l.invariant.1) h.ensures)
+    goes_done
+    (goes_turn (level_bit l.w.wire l.s l.at a.stride a.e (a.count - 2 * l.counter) (omega arith) (λ p. omega arith)
+    c.if-e-eq0.false) l.invariant.1 c.increment.ensures) refl

@@ -6,10 +6,9 @@ use native.Mathlib.Nat.{suc-mul, mul-le-mul_right}
 use native.Mathlib.Numerals.{add-one}
 use native.Mathlib.Omega.{arith}
 use Rattle.basics.proofs.Arithmetic.{one_less}
-use Rattle.gate_words.proofs.Going.{goes_as, goes_on, goes_room, goes_end}
+use Rattle.gate_words.proofs.Going.{goes_turn, goes_room_for, goes_done}
 use Rattle.graded_circuit.specs.declared.plan.Plan.{Plan}
 use Rattle.graded_circuit.specs.RunningSums.{word_span, sum_size, sum_levels_from}
-use Rattle.graded_circuit.specs.Key.{key_words}
 use Rattle.graded_circuit.proofs.PlanFacts.{first_countable}
 use Rattle.graded_circuit.proofs.CandidateBlocks.{RowsBefore, key_words_block}
 use Rattle.graded_sums.proofs.Writers.{words_turn, words_end, rows_there, size_most}
@@ -60,8 +59,7 @@ key_word-next-requires c =
           planned = f;
           candidate = q.part.candidate;
           inputs = q.part.inputs;
-          room = goes_room a.w a.table.now (key_words p a.n a.m a.c 0 (p.grades - 2)) l.next
-              l.table (key_words p a.n a.m a.c l.g left) _ ((p.grades - 2) * word_span p) l.invariant.2
+          room = goes_room_for l.invariant.2
               (omega (
                 arith,
                 (key_words_block p f l.next.wire a.n a.m a.c l.g left q.part.inputs
@@ -90,8 +88,7 @@ loop-g-preserved c =
     let l = c.loop-g in
     let a = c.args in
     let p = a.p in
-    let t = c.loop-g-test.true in
-    let whole = key_words p a.n a.m a.c 0 (p.grades - 2) in (
+    let t = c.loop-g-test.true in (
       omega (
         arith,
         l.invariant.0,
@@ -101,15 +98,11 @@ loop-g-preserved c =
         suc-mul l.g (sum_size p),
       ),
       omega (arith, l.invariant.1, h.ensures.wires),
-      goes_on a.w a.table.now whole l.next l.table _ _ h.new.table h.result
-          (goes_as a.w a.table.now whole l.next l.table _ _
-          (words_turn p a.n a.c a.m l.g l.base t l.invariant.0) l.invariant.2)
-          h.ensures,
+      goes_turn (words_turn p a.n a.c a.m l.g l.base t l.invariant.0) l.invariant.2 h.ensures,
     )
 
 pub returns : goal.returns
 returns c =
     let l = c.loop-g in
     let a = c.args in
-    goes_end a.w a.table.now (key_words a.p a.n a.m a.c 0 (a.p.grades - 2)) l.next l.table
-    _ (words_end a.p a.n a.c a.m l.g (a.p.grades - 2) (omega (arith, c.loop-g-test.false))) l.invariant.2
+    goes_done l.invariant.2 (words_end a.p a.n a.c a.m l.g (a.p.grades - 2) (omega (arith, c.loop-g-test.false)))

@@ -5,9 +5,9 @@ use Prim.Native.Nat.{ℕ, ◌-◌, ◌*◌}
 use native.Mathlib.Nat.{suc-mul}
 use native.Mathlib.Numerals.{add-one}
 use native.Mathlib.Omega.{arith}
-use Rattle.gate_words.proofs.Going.{goes_as, goes_on, goes_end}
+use Rattle.gate_words.proofs.Going.{goes_turn, goes_done}
 use Rattle.gate_words.proofs.CounterSteps.{length_count}
-use Rattle.graded_circuit.specs.RunningSums.{sum_size, row_at, row_stride, all_levels}
+use Rattle.graded_circuit.specs.RunningSums.{sum_size, row_at, row_stride}
 use Rattle.graded_sums.proofs.Writers.{levels_turn, levels_end}
 use Rattle.graded_sums.proofs.sums.all_levels.Goals as goal
 
@@ -18,8 +18,7 @@ loop-g-preserved c =
     let a = c.args in
     let p = a.p in
     let t = c.loop-g-test.true in
-    let m = a.w.wire in
-    let whole = all_levels p a.n m a.c 0 (p.grades - 2) in (
+    let m = a.w.wire in (
       omega (
         arith,
         l.invariant.0,
@@ -29,16 +28,11 @@ loop-g-preserved c =
         ap (λ (k : ℕ). k * sum_size p) (add-one l.g),
         suc-mul l.g (sum_size p),
       ),
-      goes_on a.w a.table.now whole l.next l.table _ _ h.new.table h.result
-          (goes_as a.w a.table.now whole l.next l.table _ _
-          (levels_turn p a.n a.c m l.g l.next.wire t l.invariant.0) l.invariant.1)
-          h.ensures,
+      goes_turn (levels_turn p a.n a.c m l.g l.next.wire t l.invariant.0) l.invariant.1 h.ensures,
     )
 
 pub returns : goal.returns
 returns c =
     let l = c.loop-g in
     let a = c.args in
-    let m = a.w.wire in
-    goes_end a.w a.table.now (all_levels a.p a.n m a.c 0 (a.p.grades - 2)) l.next l.table _
-    (levels_end a.p a.n a.c m l.g (a.p.grades - 2) (omega (arith, c.loop-g-test.false))) l.invariant.1
+    goes_done l.invariant.1 (levels_end a.p a.n a.c a.w.wire l.g (a.p.grades - 2) (omega (arith, c.loop-g-test.false)))

@@ -5,10 +5,10 @@ use Prim.Native.Nat.{ℕ, suc, ◌-◌, ◌*◌, ◌<◌}
 use native.Mathlib.Nat.{suc-mul}
 use native.Mathlib.Numerals.{add-one}
 use native.Mathlib.Omega.{arith}
-use Rattle.gate_words.proofs.Going.{goes_as, goes_on, goes_end}
+use Rattle.gate_words.proofs.Going.{goes_turn, goes_done}
 use Rattle.gate_words.proofs.RowLaws.{length_rows}
 use Rattle.graded_circuit.specs.Plan.{bits_at, ballot_stride}
-use Rattle.graded_circuit.specs.RunningSums.{row_at, row_stride, rows}
+use Rattle.graded_circuit.specs.RunningSums.{row_at, row_stride}
 use Rattle.graded_sums.proofs.Writers.{rows_turn, rows_end}
 use Rattle.graded_sums.proofs.sums.rows.Goals as goal
 
@@ -17,27 +17,21 @@ loop-g-preserved c =
     let h = c.next_row-next in
     let l = c.loop-g in
     let a = c.args in
-    let t : l.g < a.p.grades - 3 = omega arith in
-    let n = a.w.wire in
-    let whole = rows a.p n a.c 0 (a.p.grades - 3) in (
+    let t : l.g < a.p.grades - 3 = omega arith in (
       omega (
         arith,
         l.invariant.0,
         h.ensures.wires,
-        length_rows (row_at a.p n a.c l.g) (row_stride a.p l.g) (bits_at a.p a.c (suc l.g))
+        length_rows (row_at a.p a.w.wire a.c l.g) (row_stride a.p l.g) (bits_at a.p a.c (suc l.g))
             (ballot_stride a.p) a.p.ballots,
         ap (λ (k : ℕ). k * a.p.ballots) (add-one l.g),
         suc-mul l.g a.p.ballots,
       ),
-      goes_on a.w a.table.now whole l.next l.table _ _ h.new.table h.result
-          (goes_as a.w a.table.now whole l.next l.table _ _ (rows_turn a.p n a.c l.g t) l.invariant.1)
-          h.ensures,
+      goes_turn (rows_turn a.p a.w.wire a.c l.g t) l.invariant.1 h.ensures,
     )
 
 pub returns : goal.returns
 returns c =
     let l = c.loop-g in
     let a = c.args in
-    let n = a.w.wire in
-    goes_end a.w a.table.now (rows a.p n a.c 0 (a.p.grades - 3)) l.next l.table _
-    (rows_end a.p n a.c l.g (a.p.grades - 3) (omega (arith, c.loop-g-test.false))) l.invariant.1
+    goes_done l.invariant.1 (rows_end a.p a.w.wire a.c l.g (a.p.grades - 3) (omega (arith, c.loop-g-test.false)))

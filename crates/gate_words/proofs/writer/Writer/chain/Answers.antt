@@ -6,19 +6,14 @@ use Prim.Native.Nat.{ℕ, ◌+◌, ◌-◌}
 use native.Mathlib.Omega.{arith}
 use Rattle.gate_words.specs.Choice.{chain_of}
 use Rattle.gate_words.proofs.Emitting.{two_wrote}
-use Rattle.gate_words.proofs.Going.{goes_as, goes_on, goes_room, goes_end}
+use Rattle.gate_words.proofs.Going.{goes_turn_as, goes_room_for, goes_done}
 use Rattle.gate_words.proofs.Places.{below_first, below_next}
 use Rattle.gate_words.proofs.ChoiceSteps.{chain_step, chain_none, length_chain}
 use Rattle.gate_words.proofs.writer.Writer.chain.Goals as goal
 
 pub emit-w-requires : goal.emit-w-requires
 emit-w-requires c =
-    let a = c.args in
-    let l = c.loop in
-    goes_room a.self a.table.now (chain_of a.kind a.self.wire a.s a.first a.stride a.count)
-    l.w l.table (chain_of a.kind l.w.wire l.last l.at a.stride (a.count - l.counter)) 1 a.count l.invariant.0
-    (omega (arith, length_chain a.kind l.w.wire l.last l.at a.stride (a.count - l.counter)))
-    (omega (arith, length_chain a.kind a.self.wire a.s a.first a.stride a.count)) c.requires.room
+    goes_room_for c.loop.invariant.0 (omega (arith, length_chain)) (omega (arith, length_chain)) c.requires.room
 
 pub overflow_add-at : goal.overflow_add-at
 overflow_add-at c =
@@ -33,15 +28,11 @@ loop-preserved c =
     let a = c.args in
     let l = c.loop in
     let e = c.emit-w in
-    let t = c.loop-test.true in
-    let whole = chain_of a.kind a.self.wire a.s a.first a.stride a.count in
-    let wrote = two_wrote l.w l.table e.new.table e.result l.last l.at 0 a.kind c.requires.two e.ensures in (
-      goes_as a.self a.table.now whole e.result e.new.table _ _
-          (ap (λ (n : ℕ). chain_of a.kind n l.w.wire (l.at + a.stride) a.stride (a.count - (l.counter + 1))) (sym wrote.wires))
-          (goes_on a.self a.table.now whole l.w l.table _ _ e.new.table e.result
-          (goes_as a.self a.table.now whole l.w l.table _ _
-          (chain_step a.kind l.w.wire l.last l.at a.stride l.counter a.count t) l.invariant.0)
-          wrote),
+    let t = c.loop-test.true in (
+      goes_turn_as (chain_step a.kind l.w.wire l.last l.at a.stride l.counter a.count t) l.invariant.0
+          (two_wrote _ _ _ _ _ _ _ a.kind c.requires.two e.ensures)
+          (ap (λ (n : ℕ). chain_of a.kind n l.w.wire (l.at + a.stride) a.stride (a.count - (l.counter + 1)))
+          (sym e.ensures.wires)),
       below_next a.self.wire l.at a.stride l.counter a.count t l.invariant.1,
     )
 
@@ -49,6 +40,4 @@ pub returns : goal.returns
 returns c =
     let a = c.args in
     let l = c.loop in
-    goes_end a.self a.table.now (chain_of a.kind a.self.wire a.s a.first a.stride a.count)
-    l.w l.table _ (chain_none a.kind l.w.wire l.last l.at a.stride l.counter a.count
-    c.loop-test.false) l.invariant.0
+    goes_done l.invariant.0 (chain_none a.kind l.w.wire l.last l.at a.stride l.counter a.count c.loop-test.false)

@@ -3,21 +3,15 @@
 -- Assumes nothing.
 use Prim.Native.Nat.{◌-◌}
 use native.Mathlib.Omega.{arith}
-use Rattle.gate_words.specs.Rows.{rows_of}
 use Rattle.gate_words.proofs.Emitting.{two_wrote}
-use Rattle.gate_words.proofs.Going.{goes_as, goes_on, goes_room, goes_end}
+use Rattle.gate_words.proofs.Going.{goes_turn, goes_room_for, goes_done}
 use Rattle.gate_words.proofs.Places.{below_first, below_next}
 use Rattle.gate_words.proofs.RowSteps.{rows_step, rows_none, length_rows_of}
 use Rattle.gate_words.proofs.writer.Writer.rows.Goals as goal
 
 pub emit-w-requires : goal.emit-w-requires
 emit-w-requires c =
-    let a = c.args in
-    let l = c.loop in
-    goes_room a.self a.table.now (rows_of a.kind a.x a.dx a.y a.dy a.count) l.w l.table
-    (rows_of a.kind l.first a.dx l.second a.dy (a.count - l.counter)) 1 a.count l.invariant.0
-    (omega (arith, length_rows_of a.kind l.first a.dx l.second a.dy (a.count - l.counter)))
-    (omega (arith, length_rows_of a.kind a.x a.dx a.y a.dy a.count)) c.requires.rows.room
+    goes_room_for c.loop.invariant.0 (omega (arith, length_rows_of)) (omega (arith, length_rows_of)) c.requires.rows.room
 
 pub overflow_add-first : goal.overflow_add-first
 overflow_add-first c =
@@ -39,13 +33,9 @@ pub loop-preserved : goal.loop-preserved
 loop-preserved c =
     let a = c.args in
     let l = c.loop in
-    let e = c.emit-w in
-    let t = c.loop-test.true in
-    let whole = rows_of a.kind a.x a.dx a.y a.dy a.count in (
-      goes_on a.self a.table.now whole l.w l.table _ _ e.new.table e.result
-          (goes_as a.self a.table.now whole l.w l.table _ _
-          (rows_step a.kind l.first a.dx l.second a.dy l.counter a.count t) l.invariant.0)
-          (two_wrote l.w l.table e.new.table e.result l.first l.second 0 a.kind c.requires.two e.ensures),
+    let t = c.loop-test.true in (
+      goes_turn (rows_step a.kind l.first a.dx l.second a.dy l.counter a.count t) l.invariant.0
+          (two_wrote _ _ _ _ _ _ _ a.kind c.requires.two c.emit-w.ensures),
       below_next a.self.wire l.first a.dx l.counter a.count t l.invariant.1,
       below_next a.self.wire l.second a.dy l.counter a.count t l.invariant.2,
     )
@@ -54,5 +44,4 @@ pub returns : goal.returns
 returns c =
     let a = c.args in
     let l = c.loop in
-    goes_end a.self a.table.now (rows_of a.kind a.x a.dx a.y a.dy a.count) l.w l.table _
-    (rows_none a.kind l.first a.dx l.second a.dy l.counter a.count c.loop-test.false) l.invariant.0
+    goes_done l.invariant.0 (rows_none a.kind l.first a.dx l.second a.dy l.counter a.count c.loop-test.false)
