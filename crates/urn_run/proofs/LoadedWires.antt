@@ -3,13 +3,13 @@
 use mathlib.Core.Path.{◌≡◌, ◌∙◌, refl, sym, ap, subst}
 use mathlib.Core.Logic.{◌⊎◌, inl, inr}
 use mathlib.Core.Bool.{true, false}
-use mathlib.Core.List.{List, [], ◌∷◌, ◌++◌, map, append-nil, append_assoc}
+use mathlib.Core.List.{List, [], ◌∷◌, ◌++◌, map, append_assoc}
 use Prim.Native.Nat.{ℕ, ◌+◌, ◌*◌, ◌-◌, ◌≤◌, ◌<◌}
 use native.Mathlib.Nat.{zero-mul, sub-zero, add-mul, one-mul}
 use native.Mathlib.Omega.{arith}
 use lib.Dec.{T}
-use lib.ListN.{length, get_or, take, drop, length-append, length-take, length-drop, drop_of_length-le}
-use lib.Seq.{sets, sets-eq, length-sets, take_all, take-length, drop-drop}
+use lib.ListN.{length, get_or, take, drop, length-append, length-take, length-drop}
+use lib.Seq.{sets, sets-eq, length-sets, drop-drop}
 use Rattle.jury.specs.Shape.{graded_limits}
 use Rattle.basics.proofs.Cases.{below_or_not}
 use Rattle.urn_chains.specs.Slots.{Slot, slot_bytes, slots_of, slot_at}
@@ -27,20 +27,12 @@ use Rattle.urn_run.specs.Run.{joined_ballots, chain_ballots}
 use Rattle.basics.proofs.Tables.{sets_append}
 
 -- a copy into a part of a table writes what is copied there
-pub copied : (src ws last : List ℕ) (at : ℕ) → at + length src ≤ length ws
-    → last ≡ take (length src) src ++ drop (length src) (take (length ws - at) (drop at ws))
-    → take at ws ++ (last ++ drop (length ws - at) (drop at ws)) ≡ sets ws at src
-copied src ws last at h e =
-    let part : take (length ws - at) (drop at ws) ≡ drop at ws =
-    take_all (length ws - at) (drop at ws) (omega (arith, length-drop at ws)) in
-    let none : drop (length ws - at) (drop at ws) ≡ [] =
-    drop_of_length-le (drop at ws) {i = length ws - at} (omega (arith, length-drop at ws)) in
-    let is : last ≡ src ++ drop (at + length src) ws =
-    e ∙ ap (λ (l : List ℕ). l ++ drop (length src) (take (length ws - at) (drop at ws))) (take-length src)
-    ∙ ap (λ (l : List ℕ). src ++ drop (length src) l) part
-    ∙ ap (λ (l : List ℕ). src ++ l) (drop-drop (length src) at ws) in
-    ap (λ (l : List ℕ). take at ws ++ (last ++ l)) none
-    ∙ ap (λ (l : List ℕ). take at ws ++ l) (append-nil last ∙ is)
+copied : (src ws last : List ℕ) (at m : ℕ) → at + length src ≤ length ws → m ≡ length src → last ≡ src
+    → take at ws ++ (last ++ drop m (drop at ws)) ≡ sets ws at src
+copied src ws last at m h n e =
+    ap (λ (l : List ℕ). take at ws ++ (l ++ drop m (drop at ws))) e
+    ∙ ap (λ (j : ℕ). take at ws ++ (src ++ drop j (drop at ws))) n
+    ∙ ap (λ (l : List ℕ). take at ws ++ (src ++ l)) (drop-drop (length src) at ws)
     ∙ sym (append_assoc (take at ws) src (drop (at + length src) ws))
     ∙ sym (sets-eq src ws at h)
 
@@ -233,25 +225,15 @@ module _ (k d : ℕ) (urn : List ℕ) (w : T (graded_limits (jury_of_one k d))) 
     pub source_length : length source ≡ k * d
     source_length = ap length source_is ∙ ballot_size slot turn_below
 
-    pub turn_on : (last : List ℕ) (next : ℕ) → last ≡ take (length source) source
-        ++ drop (length source) (take (length ws - count * (k * d)) (drop (count * (k * d)) ws))
-        → next ≡ get_or urn (slot * (2 + k * d)) 0
+    pub turn_on : (last : List ℕ) (next : ℕ) → last ≡ source → next ≡ get_or urn (slot * (2 + k * d)) 0
         → OnLoad (slots_of (k * d) (slot_count (k * d) (length urn)) urn) (slot_count (k * d) (length urn)) (k * d) size final
-        (take (count * (k * d)) ws ++ (last ++ drop (length ws - count * (k * d)) (drop (count * (k * d)) ws))) (count + 1) next
+        (take (count * (k * d)) ws ++ (last ++ drop (count * (k * d) + k * d - count * (k * d)) (drop (count * (k * d)) ws)))
+        (count + 1) next
     unfolding slot_bytes
     turn_on last next q f =
         let n = slot_count (k * d) (length urn) in
         let S = slots_of (k * d) n urn in
         load_go S n (k * d) size final ws count slot on p _ next (ballot_size slot turn_below)
-        (copied source ws last (count * (k * d)) (omega (arith, source_length, turn_room)) q ∙ ap (sets ws (count * (k * d))) source_is)
+        (copied source ws last (count * (k * d)) _ (omega (arith, source_length, turn_room)) (omega (arith, source_length)) q
+        ∙ ap (sets ws (count * (k * d))) source_is)
         (f ∙ sym (next_is (k * d) n urn slot turn_below))
-
-    -- the copy has room
-    pub copy_fits : length source ≤ length (take (length ws - count * (k * d)) (drop (count * (k * d)) ws))
-    copy_fits = omega (
-      arith,
-      source_length,
-      turn_room,
-      length-take (length ws - count * (k * d)) (drop (count * (k * d)) ws),
-      length-drop (count * (k * d)) ws,
-    )

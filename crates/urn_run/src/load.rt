@@ -3,8 +3,6 @@ ghost use Rattle.std.specs.Prelude.{◌≡◌, ◌++◌, length, drop};
 ghost use Rattle.urn_run.specs.Run.{chain_ballots};
 ghost use Rattle.urn_run.specs.inner.Load.{Loadable};
 
-use basics::byte::wide;
-
 // Copies the ballots of a sound urn to the start of the wire table, in chain order.
 pub(crate) fn load(k: usize, d: usize, urn: &[u8], wires: &mut [u8])
     requires { Loadable k d urn.now wires.old }
@@ -14,14 +12,15 @@ pub(crate) fn load(k: usize, d: usize, urn: &[u8], wires: &mut [u8])
     let bytes = k * d;
     let size = 2 + bytes;
     let mut count = 0;
-    let mut slot = wide(urn[0]);
+    let mut slot = usize::from(urn[0]);
+    // A `while`: the chain is followed, not counted.
     while slot != 0 {
         let at = slot * size;
         let from = at + 2;
         let end = at + size;
         let to = count * bytes;
-        basics::byte::copy(&urn[from..end], &mut wires[to..]);
-        slot = wide(urn[at]);
+        wires[to..to + bytes].copy_from_slice(&urn[from..end]);
+        slot = usize::from(urn[at]);
         count += 1;
     }
 }

@@ -6,10 +6,9 @@ ghost use Rattle.tally.specs.Answer.{outcome_of, outcome, size_of};
 ghost use Rattle.urn_run.specs.Run.{urn_run_reasons, urn_run_result};
 
 use crate::load;
-use jury::reason::{Refusal, Verdict};
+use jury::reason::Refusal;
 use jury::shape::Shape;
 use tally::answer::Answer;
-use urn_chains::sound::Soundness;
 
 // All tests of a run on an urn: reasons 1, 13, 2, 3, 4, 7, 8, 9 and 10, in this order.
 fn test_run(
@@ -26,32 +25,16 @@ fn test_run(
         (size_of (gates_of table.now)) }
 {
     if !shape.is_within_graded_limits() {
-        return Answer::Refused(Refusal::Shape);
+        return Err(Refusal::Shape);
     }
-    let Soundness::Sound { ballots } = urn_chains::sound::test(shape.candidates, shape.grades, urn)
-    else {
-        return Answer::Refused(Refusal::Urn);
-    };
-    let answer = tally::test::test(shape, table);
-    let Answer::Accepted { gates, conditional } = answer else {
-        return answer;
-    };
+    let ballots = urn_chains::sound::test(shape.candidates, shape.grades, urn).ok_or(Refusal::Urn)?;
+    let size = tally::test::test(shape, table)?;
     if ballots != shape.ballots {
-        return Answer::Refused(Refusal::BallotsLength);
+        return Err(Refusal::BallotsLength);
     }
     let inputs = shape.ballot_bytes();
-    match tally::run::test_buffers(
-        inputs,
-        shape.candidates,
-        gates,
-        conditional,
-        tape,
-        wires,
-        board,
-    ) {
-        Verdict::Refused(reason) => Answer::Refused(reason),
-        Verdict::Accepted => answer,
-    }
+    tally::run::test_buffers(inputs, shape.candidates, size, tape, wires, board)?;
+    Ok(size)
 }
 
 // Runs a list, whoever wrote it, on the ballots in an urn, in chain order, with one mask for each conditional gate.
@@ -68,22 +51,10 @@ pub fn run_on_urn(
         ≡ urn_run_result shape table.now urn.now tape.now
         wires.old board.old }
 {
-    let answer = test_run(shape, table, urn, tape, wires, board);
-    if let Answer::Accepted {
-        gates: _,
-        conditional: _,
-    } = answer
-    {
-        load::load(shape.candidates, shape.grades, urn, wires);
-        gates::step::finish(
-            shape.ballot_bytes(),
-            table,
-            shape.candidates,
-            tape,
-            wires,
-            board,
-        );
-        basics::table::empty(wires);
-    }
-    answer
+    let size = test_run(shape, table, urn, tape, wires, board)?;
+    load::load(shape.candidates, shape.grades, urn, wires);
+    let inputs = shape.ballot_bytes();
+    gates::step::finish(inputs, table, shape.candidates, tape, wires, board);
+    wires.fill(0);
+    Ok(size)
 }
