@@ -1,7 +1,10 @@
 -- Gates, and the table of numbers that holds a list of them.
 use Rattle.std.specs.Prelude.{List, [], ◌∷◌, ℕ, ◌+◌, ◌*◌, get_or}
+use Rattle.gates.specs.declared.gate.Gate as program
+
 -- A gate: its kind and its three operands, as the program has it.
-pub use Rattle.gates.specs.declared.gate.Gate.{Gate}
+abbrev pub Gate : Type 0
+Gate = program.Gate
 
 -- The gates of a table, four numbers each. One to three numbers left over at the end make no gate.
 unfoldable pub gates_of : List ℕ → List Gate
