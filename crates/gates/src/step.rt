@@ -17,7 +17,8 @@ fn masked(a: u8, m: u8) -> u8
 }
 
 // Evaluates gate g of the table: stores its value in wire `own` and, if it is conditional, its shown bit on the
-// board. Returns the number of shown bits after this gate.
+// board. Returns the number of shown bits after this gate. The buffers are lent one by one, as the callers hold them:
+// a struct of borrows would only be made and taken apart again.
 fn run_gate(
     marks: &ConditionalMarks,
     table: &[u32],

@@ -73,6 +73,7 @@ fn strongest_paths(links: PairTable, k: usize) -> PairTable
 {
     let mut paths = links;
     for l in 0..k {
+        // Named first: a result is not laid in a table that is lent to its own call.
         let after = detour(paths, k, l);
         paths = after;
     }

@@ -11,8 +11,8 @@ pub type PairRow = [u16; Shape::MOST_CANDIDATES];
 // A number for each pair of candidates.
 pub type PairTable = [PairRow; Shape::MOST_CANDIDATES];
 
-// The matrix of votes: entry (i, j) is the number of ballots that put i before j. Rows and columns from k on stay
-// 0.
+// The matrix of votes: entry (i, j) is the number of ballots that put i before j. Rows and columns from k on stay 0.
+// This table and those of the rule have a function each: one filler for all would take a closure with the same clauses.
 pub fn matrix(ballots: &[u8], k: usize, n: usize) -> PairTable
     requires { RankedSize k n ballots.now }
     ensures { Holds k result (spec.votes k n ballots.now) }

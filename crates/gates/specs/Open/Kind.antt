@@ -34,6 +34,6 @@ unfoldable pub value_of : ℕ → ℕ → ℕ → ℕ → ℕ
 value_of kind a b c =
     get_or (0 ∷ 1 ∷ a ∷ (1 - a) ∷ min a b ∷ max a b ∷ differ a b ∷ chosen a b c ∷ []) kind 0
 
--- The value of a known kind, or the refusal of an unknown one.
+-- The value of a known kind, none for an unknown one.
 unfoldable pub applied : ℕ → ℕ → ℕ → ℕ → Option ℕ
 applied kind a b c = cond (ltb kind kind_count) (Some (value_of kind a b c)) None

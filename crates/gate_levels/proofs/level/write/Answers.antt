@@ -21,7 +21,6 @@ gate_level-level-requires c = let l = c.loop-g in
           (omega (arith, c.requires.levels_length, c.loop-g-test.true)) c.requires.few;
     }
 
--- The stages of the function, seen from later ones.
 pub loop-g-preserved : goal.loop-g-preserved
 loop-g-preserved c = let l = c.loop-g in
     let a = c.args in

@@ -26,7 +26,6 @@ returns-then-gates-gt-MOST_GATES c = let a = c.args in
       lt-ltb 1048576 (n / 4) c.if-gates-gt-MOST_GATES.true,
     )
 
--- The stages of the function, seen from later ones.
 pub returns : goal.returns
 unfolding tested
 returns c = let a = c.args in

@@ -7,7 +7,6 @@ use Rattle.gates.proofs.Table.{length_gates}
 use Rattle.gates.proofs.Finishing.{ready, can_close, final_wires, final_board}
 use Rattle.gates.proofs.step.finish.Goals as goal
 
--- The stages of the function, seen from later ones.
 pub step-shown-requires : goal.step-shown-requires
 step-shown-requires c = let a = c.args in
     let p = c.requires in
