@@ -7,6 +7,7 @@ ghost use Rattle.gate_levels.specs.Levels.{wire_level, gate_level};
 ghost use Rattle.gate_levels.specs.inner.Filling.{LevelReady, LevelsReady, Filled};
 ghost use Rattle.gate_levels.specs.Compared.{compared};
 
+use gates::gate::Gate;
 use gates::kind;
 use gates::kind::ConditionalMarks;
 
@@ -41,12 +42,12 @@ fn gate_level(
     requires { Marked marks.now (LevelReady inputs table.now g levels.now) }
     ensures { result ≡ gate_level inputs levels.now (gate_at table.now g) }
 {
-    let at = 4 * g;
-    let a = wire_level(inputs, levels, table[at + 1]);
-    let b = wire_level(inputs, levels, table[at + 2]);
-    let c = wire_level(inputs, levels, table[at + 3]);
+    let gate = Gate::at(table, g);
+    let a = wire_level(inputs, levels, gate.a);
+    let b = wire_level(inputs, levels, gate.b);
+    let c = wire_level(inputs, levels, gate.c);
     let deepest = a.max(b).max(c);
-    deepest + u32::from(kind::conditional(marks, table[at]))
+    deepest + u32::from(kind::conditional(marks, gate.kind))
 }
 
 // Writes the level of each gate, and returns the largest, R.
