@@ -7,6 +7,7 @@ ghost use Rattle.batch_lanes.specs.Run.{RunDone};
 ghost use Rattle.batch_lanes.specs.inner.Step.{GateAsks, GateDone, StepDone, CloseFits};
 
 use crate::word;
+use gates::gate::Gate;
 use gates::kind;
 use gates::kind::ConditionalMarks;
 
@@ -26,16 +27,12 @@ fn run_gate(
     ensures { GateDone table.now g own tape.now shown wires.old board.old
         wires.new board.new result }
 {
-    let at = 4 * g;
-    let kind = table[at];
-    let a_wire = table[at + 1] as usize;
-    let b_wire = table[at + 2] as usize;
-    let c_wire = table[at + 3] as usize;
-    let a = wires[a_wire];
-    let b = wires[b_wire];
-    let c = wires[c_wire];
-    wires[own] = word::value(kind, a, b, c);
-    if kind::conditional(marks, kind) {
+    let gate = Gate::at(table, g);
+    let a = wires[gate.a as usize];
+    let b = wires[gate.b as usize];
+    let c = wires[gate.c as usize];
+    wires[own] = word::value(gate.kind, a, b, c);
+    if kind::conditional(marks, gate.kind) {
         board[shown] = a ^ tape[shown];
         return shown + 1;
     }
