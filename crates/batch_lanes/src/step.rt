@@ -2,9 +2,10 @@
 // asks. The same is asked of words as of bytes in the step over bytes, `gates::step`. It stays a function of its own:
 // over bytes one equation says what is left, over words an equation for each lane, and so is each proof.
 ghost use Rattle.std.specs.Prelude.{◌≡◌, ◌++◌, ◌-◌, length, take, drop};
-ghost use Rattle.gates.specs.inner.Step.{StepReady, RunReady};
+ghost use Rattle.gates.specs.inner.Marked.{Marked};
+ghost use Rattle.gates.specs.inner.Step.{StepReady, RunReady, GateReady, CloseReady};
 ghost use Rattle.batch_lanes.specs.Run.{RunDone};
-ghost use Rattle.batch_lanes.specs.inner.Step.{GateAsks, GateDone, StepDone, CloseFits};
+ghost use Rattle.batch_lanes.specs.inner.Step.{GateDone, StepDone};
 
 use crate::word;
 use gates::gate::Gate;
@@ -23,7 +24,7 @@ fn run_gate(
     wires: &mut [u64],
     board: &mut [u64],
 ) -> usize
-    requires { GateAsks marks.now table.now g own tape.now shown wires.old board.old }
+    requires { Marked marks.now (GateReady table.now g own tape.now shown wires.old board.old) }
     ensures { GateDone table.now g own tape.now shown wires.old board.old
         wires.new board.new result }
 {
@@ -66,7 +67,7 @@ pub fn step(
 
 // Copies the last wires to the board, after the shown words.
 fn close(outputs: usize, wires: &[u64], shown: usize, board: &mut [u64])
-    requires { CloseFits outputs wires.now shown board.old }
+    requires { CloseReady outputs shown wires.now board.old }
     ensures { board.new ≡ take shown board.old
         ++ drop (length wires.now - outputs) wires.now }
 {

@@ -1,17 +1,11 @@
--- What the functions of the evaluation require and promise, in every lane.
-use Rattle.std.specs.Prelude.{◌≡◌, Bool, cond, List, [], ◌∷◌, ℕ, ◌+◌, ◌<◌, ◌≤◌, length, get_or, set}
-use Rattle.gates.specs.Kind.{conditional_marks, conditional_of}
+-- What the functions of the evaluation promise, in every lane. They ask for what those over bytes ask for.
+use Rattle.std.specs.Prelude.{◌≡◌, cond, List, [], ◌∷◌, ℕ, ◌+◌, ◌<◌, get_or, set}
+use Rattle.gates.specs.Kind.{conditional_of}
 use Rattle.gates.specs.Wires.{value}
 use Rattle.gates.specs.Board.{conditional_count, shown_bit}
-use Rattle.gates.specs.inner.Step.{GateReady, range_of, step_wires, step_board}
+use Rattle.gates.specs.inner.Step.{range_of, step_wires, step_board}
 use Rattle.gates.specs.Gate.{gate_at}
 use Rattle.batch_lanes.specs.Lane.{lane_count, lane_of}
-
--- What running one gate requires: `marks` are the conditional marks of all kinds, and the gate is ready.
-pub record GateAsks (marks : List Bool) (table : List ℕ) (g own : ℕ) (tape : List ℕ) (shown : ℕ)
-    (wires board : List ℕ) : Type 0 where
-  pub marks_are : marks ≡ conditional_marks
-  pub ready : GateReady table g own tape shown wires board
 
 -- What running one gate leaves, in every lane.
 pub record GateDone (table : List ℕ) (g own : ℕ) (tape : List ℕ) (shown : ℕ) (wires board wires' board' : List ℕ)
@@ -32,8 +26,3 @@ pub record StepDone (inputs : ℕ) (table : List ℕ) (from to : ℕ) (tape : Li
   pub wires_are : (j : ℕ) → j < lane_count → lane_of j wires' ≡ step_wires inputs table from to (lane_of j wires)
   pub board_is : (j : ℕ) → j < lane_count
       → lane_of j board' ≡ step_board inputs table from to (lane_of j tape) shown (lane_of j wires) (lane_of j board)
-
--- There are enough wires for the closing words, and the board has room for them after the shown words.
-pub record CloseFits (outputs : ℕ) (wires : List ℕ) (shown : ℕ) (board : List ℕ) : Type 0 where
-  pub enough : outputs ≤ length wires
-  pub room : length board ≡ shown + outputs

@@ -25,7 +25,7 @@ close-requires c =
     let q = can_close a.inputs.now a.table.now a.outputs a.tape.now a.wires.now a.board.now
     c.requires _ (copied (goal.at.close-requires c).After-copy_from_slice)
     r.result r.new.wires r.new.board r.ensures.shown_is r.auto.wires r.auto.board in
-    record { enough = q.0; room = q.1 }
+    record { enough = q.0; board_length = q.1 }
 
 pub returns : goal.returns
 returns c =

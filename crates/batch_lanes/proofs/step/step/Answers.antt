@@ -14,8 +14,8 @@ pub run_gate-next-requires : goal.run_gate-next-requires
 run_gate-next-requires c = let a = c.args in
     let l = c.loop-g in
     record {
-      marks_are = refl;
-      ready = gate_ready a.inputs a.table.now a.from a.to a.tape.now a.shown a.wires.now
+      marked = refl;
+      gate = gate_ready a.inputs a.table.now a.from a.to a.tape.now a.shown a.wires.now
           a.board.now c.requires l.wires l.board l.next l.g l.invariant
           c.loop-g-test.true;
     }
