@@ -1,4 +1,5 @@
-// Counting bits, by levels of adders.
+// Counting bits, by levels of adders. What is counted is three numbers, as in the definitions: how many bits, the
+// public number `extra`, and the levels. A struct would be built of a plan's three fields at each call.
 ghost use Rattle.std.specs.Prelude.{◌+◌, ◌*◌, ◌<◌, ◌≡◌, length};
 ghost use Rattle.gate_words.specs.Limits.{writer_limit};
 ghost use Rattle.gate_words.specs.Writing.{Wrote};

@@ -7,6 +7,7 @@ use jury::shape::Shape;
 
 // A sum has `digits` low digits and a top one; the number of a median grade has `places` low digits and a top one.
 // `offset` is added to each sum, and `worst` to the count of the worst grade: `plan_of` says why.
+// What holds of a plan is a record of clauses, `Planned`, over this struct: a ghost field could not cite it.
 #[derive(Clone, Copy)]
 pub struct Plan {
     pub candidates: u32,
@@ -25,6 +26,7 @@ impl Plan {
         requires { T (graded_limits shape) }
         ensures { result ≡ plan_of shape }
     {
+        // `as`: within the limits each number fits, so there is no refusal for `try_from` to hand on.
         let ballots = shape.ballots as u32;
         let digits = jury::width::width(shape.ballots) as u32 - 1;
         let most = 2u32.pow(digits);

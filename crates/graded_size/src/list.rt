@@ -60,5 +60,6 @@ pub fn gates(shape: Shape) -> usize
     if shape.candidates == 1 {
         return 1;
     }
+    // `as`: no `From` makes a usize of a u32.
     circuit_span(Plan::new(shape)) as usize
 }
