@@ -1,5 +1,6 @@
 // Compares two keys with equal medians. Words have above + 1 digits, of which the `high` highest are the high half;
-// `between` grades lie between the first and the last of a key.
+// `between` grades lie between the first and the last of a key. Wires are passed one by one, as the definitions of
+// `graded_circuit` take them.
 ghost use Rattle.std.specs.Prelude.{◌≡◌, ◌∷◌, [], ◌+◌, ◌*◌, ◌≤◌};
 ghost use Rattle.gate_words.specs.Gates.{not_of, and_of, or_of, xor_of, mux_of};
 ghost use Rattle.gate_words.specs.Halves.{unequal_at, compare_span, above_at};

@@ -1,5 +1,5 @@
 // Chooses the words of two keys at the grades nearest to the median at which they differ. A word has above + 1
-// digits.
+// digits. Words are passed by their first wires, one by one, as the definitions of `graded_circuit` take them.
 ghost use Rattle.std.specs.Prelude.{◌≡◌, ◌+◌, ◌*◌, ◌≤◌, ◌<◌};
 ghost use Rattle.gate_words.specs.Limits.{writer_limit};
 ghost use Rattle.gate_words.specs.Writing.{Wrote};

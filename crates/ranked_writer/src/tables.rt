@@ -1,4 +1,7 @@
 // The tables: k rows of k blocks, row by row.
+//
+// Four loops, and no function over a closure: its clauses would have to say for each kind of block what is kept between
+// two blocks, which is longer than the loop.
 ghost use Rattle.std.specs.Prelude.{cond, suc, ◌-◌, leb, ltb};
 ghost use Rattle.ranked_circuit.specs.Table as spec;
 ghost use Rattle.ranked_circuit.specs.Table.{entry_end};

@@ -92,12 +92,6 @@ near_limit : (c : In-loop-i) → c.loop-i.next.wire + c.loop-i.i
 near_limit c =
     omega (arith, c.loop-i.invariant.3.wire_left, all_long c, left_long c)
 
-pub overflow_mul-step : goal.overflow_mul-step
-overflow_mul-step c = omega (arith, small (goal.at.overflow_mul-step c).In-loop-i)
-
-pub overflow_mul-i : goal.overflow_mul-i
-overflow_mul-i c = omega (arith, small (goal.at.overflow_mul-i c).In-loop-i)
-
 pub overflow_add-f : goal.overflow_add-f
 overflow_add-f c = let i = (goal.at.overflow_add-f c).In-loop-i in
     omega (arith, small i, there i, near_limit i, c.requires.room.small)

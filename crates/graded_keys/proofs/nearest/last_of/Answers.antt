@@ -82,12 +82,6 @@ either-next-requires c = let a = c.args in
       v_below = l.invariant.4;
     }
 
-pub overflow_mul-flag : goal.overflow_mul-flag
-overflow_mul-flag c = omega (arith, c.requires)
-
-pub overflow_add-flag : goal.overflow_add-flag
-overflow_add-flag c = omega (arith, c.requires)
-
 pub overflow_add-flag-in-loop : goal.overflow_add-flag-in-loop
 overflow_add-flag-in-loop c = omega (
   arith,
@@ -96,9 +90,6 @@ overflow_add-flag-in-loop c = omega (
   c.requires,
 )
 
-pub overflow_add-left : goal.overflow_add-left
-overflow_add-left c = omega (arith, c.requires)
-
 pub overflow_add-left-in-loop : goal.overflow_add-left-in-loop
 overflow_add-left-in-loop c = omega (
   arith,
@@ -106,9 +97,6 @@ overflow_add-left-in-loop c = omega (
   near_limit (goal.at.overflow_add-left-in-loop c).In-loop,
   c.requires.room.small,
 )
-
-pub overflow_add-right : goal.overflow_add-right
-overflow_add-right c = omega (arith, c.requires)
 
 pub overflow_add-right-in-loop : goal.overflow_add-right-in-loop
 overflow_add-right-in-loop c = omega (

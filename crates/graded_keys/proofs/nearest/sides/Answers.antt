@@ -71,9 +71,6 @@ side_flags-next-requires c = let a = c.args in
       cut = c.requires.cut;
     }
 
-pub overflow_add-left : goal.overflow_add-left
-overflow_add-left c = omega (arith, c.requires)
-
 pub overflow_add-left-in-loop : goal.overflow_add-left-in-loop
 overflow_add-left-in-loop c = omega (
   arith,
@@ -81,9 +78,6 @@ overflow_add-left-in-loop c = omega (
   wires_left (goal.at.overflow_add-left-in-loop c).In-loop,
   c.requires.room.small,
 )
-
-pub overflow_add-right : goal.overflow_add-right
-overflow_add-right c = omega (arith, c.requires)
 
 pub overflow_add-right-in-loop : goal.overflow_add-right-in-loop
 overflow_add-right-in-loop c = omega (
