@@ -4,7 +4,7 @@
 use mathlib.Core.Path.{◌≡◌, ◌∙◌, refl, sym, ap, subst}
 use mathlib.Core.Bool.{Bool, true, false, cond}
 use mathlib.Core.List.{List, [], ◌∷◌, ◌++◌}
-use Prim.Native.Nat.{ℕ, suc, ◌+◌, ◌-◌, ◌*◌, ◌≤◌, ◌<◌, max}
+use Prim.Native.Nat.{ℕ, suc, ◌+◌, ◌-◌, ◌≤◌, ◌<◌, max}
 use native.Mathlib.Nat.{add-suc}
 use native.Mathlib.Omega.{arith}
 use lib.Dec.{ltb}
@@ -16,7 +16,6 @@ use Rattle.gates.specs.Gate.{Gate, gates_of, gate_at}
 use Rattle.gates.specs.Test.{first_bad}
 use Rattle.std.specs.Prelude.{Some, None}
 use Rattle.gates.proofs.Table.{length_gates, gates_from}
-use Rattle.gates.proofs.Reading.{gate_numbers}
 use Rattle.gates.proofs.Counting.{mark_at_most_one}
 use Rattle.gates.proofs.Laws.{AllGood, all_good}
 use Rattle.gate_levels.specs.Levels.{wire_level, gate_level, levels_from, levels_of, rounds_of}
@@ -150,49 +149,44 @@ module _ (inputs : ℕ) (table : List ℕ) where
       let same : same_numbers levels (levels_of inputs (gates_of table)) ≡ true = ap (same_numbers levels) (sym f.0) ∙ same_refl levels in
       rw same (ap Some (e ∙ f.1))
 
--- the level of one gate, by its numbers in the table
+-- the level of one gate x, which is gate g of the table
 module _ (inputs : ℕ) (table : List ℕ) (g : ℕ) (levels : List ℕ) (ready : LevelReady inputs table g levels)
-    (a b c : ℕ) (ea : a ≡ wire_level inputs levels (get_or table (4 * g + 1) 0))
-    (eb : b ≡ wire_level inputs levels (get_or table (4 * g + 2) 0)) (ec : c ≡ wire_level inputs levels (get_or table (4 * g + 3) 0)) where
-  pub level_by : (d : ℕ) (m : Bool) → d ≡ max (max a b) c → m ≡ conditional_of (get_or table (4 * g) 0) → d
-      + cond m 1 0 ≡ gate_level inputs levels (gate_at table g)
-  unfolding gate_level
-  level_by d m ed em =
-      ap (λ (n : ℕ). n + cond m 1 0) ed ∙ ap (λ (n : Bool). max (max a b) c + cond n 1 0) em
-      ∙ ap (λ (n : ℕ). max (max n b) c + cond (conditional_of (get_or table (4 * g) 0)) 1 0) ea
-      ∙ ap (λ (n : ℕ). max (max (wire_level inputs levels (get_or table (4 * g + 1) 0)) n) c
-      + cond (conditional_of (get_or table (4 * g) 0)) 1 0) eb
-      ∙ ap (λ (n : ℕ). max (max (wire_level inputs levels (get_or table (4 * g + 1) 0))
-      (wire_level inputs levels (get_or table (4 * g + 2) 0))) n + cond (conditional_of (get_or table (4 * g) 0)) 1 0) ec
-      ∙ sym (ap (gate_level inputs levels) (gate_numbers table g))
+    (x : Gate) (is : x ≡ gate_at table g) where
+  a_below : x.a < inputs + g
+  a_below = subst (λ (y : Gate). y.a < inputs + g) (sym is) ready.a_below
 
-  small_wire : (x : ℕ) → x < inputs + g → wire_level inputs levels x ≤ g
+  b_below : x.b < inputs + g
+  b_below = subst (λ (y : Gate). y.b < inputs + g) (sym is) ready.b_below
+
+  c_below : x.c < inputs + g
+  c_below = subst (λ (y : Gate). y.c < inputs + g) (sym is) ready.c_below
+
+  -- an operand names an input or a gate whose level is known
+  pub a_known : x.a < inputs + length levels
+  a_known = let l = ready.in_levels in omega (arith, a_below)
+
+  pub b_known : x.b < inputs + length levels
+  b_known = let l = ready.in_levels in omega (arith, b_below)
+
+  pub c_known : x.c < inputs + length levels
+  c_known = let l = ready.in_levels in omega (arith, c_below)
+
+  small_wire : (w : ℕ) → w < inputs + g → wire_level inputs levels w ≤ g
   unfolding wire_level
-  small_wire x h = go (ltb x inputs) refl
+  small_wire w h = go (ltb w inputs) refl
     where
-      go : (t : Bool) → ltb x inputs ≡ t → cond t 0 (get_or levels (x - inputs) 0) ≤ g
+      go : (t : Bool) → ltb w inputs ≡ t → cond t 0 (get_or levels (w - inputs) 0) ≤ g
       go true e = omega arith
-      go false e = ready.small (x - inputs) (omega (arith, ltb-false x inputs e))
+      go false e = ready.small (w - inputs) (omega (arith, ltb-false w inputs e))
 
-  pub small_level : (d : ℕ) → d ≡ max (max a b) c → d < 1048576
-  small_level d ed =
-      let n = gate_numbers table g in
-      let f = ready.few in
-      omega (
-        arith,
-        small_wire (get_or table (4 * g + 1) 0) (subst (λ (x : Gate). x.a < inputs + g) n ready.a_below),
-        small_wire (get_or table (4 * g + 2) 0) (subst (λ (x : Gate). x.b < inputs + g) n ready.b_below),
-        small_wire (get_or table (4 * g + 3) 0) (subst (λ (x : Gate). x.c < inputs + g) n ready.c_below),
-      )
+  module _ (a b c : ℕ) (ea : a ≡ wire_level inputs levels x.a) (eb : b ≡ wire_level inputs levels x.b)
+      (ec : c ≡ wire_level inputs levels x.c) where
+    pub level_by : (d : ℕ) (m : Bool) → d ≡ max (max a b) c → m ≡ conditional_of x.kind → d
+        + cond m 1 0 ≡ gate_level inputs levels (gate_at table g)
+    unfolding gate_level
+    level_by d m ed em = rw (ed, em, ea, eb, ec) (ap (gate_level inputs levels) is)
 
--- an operand names an input or a gate whose level is known
-pub operands_in : (inputs : ℕ) (table : List ℕ) (g : ℕ) (levels : List ℕ) → LevelReady inputs table g levels
-    → (get_or table (4 * g + 1) 0 < inputs + length levels) × (get_or table (4 * g + 2) 0 < inputs + length levels)
-    × (get_or table (4 * g + 3) 0 < inputs + length levels)
-operands_in inputs table g levels ready =
-    let n = gate_numbers table g in
-    let l = ready.in_levels in
-    let a : get_or table (4 * g + 1) 0 < inputs + g = subst (λ (x : Gate). x.a < inputs + g) n ready.a_below in
-    let b : get_or table (4 * g + 2) 0 < inputs + g = subst (λ (x : Gate). x.b < inputs + g) n ready.b_below in
-    let c : get_or table (4 * g + 3) 0 < inputs + g = subst (λ (x : Gate). x.c < inputs + g) n ready.c_below in
-    (omega arith, omega arith, omega arith)
+    pub small_level : (d : ℕ) → d ≡ max (max a b) c → d < 1048576
+    small_level d ed =
+        let f = ready.few in
+        omega (arith, small_wire x.a a_below, small_wire x.b b_below, small_wire x.c c_below)
