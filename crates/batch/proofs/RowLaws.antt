@@ -13,15 +13,29 @@ use native.Mathlib.Omega.{arith}
 use lib.Bits.{bit_and, bit_or, bit_xor}
 use lib.Dec.{eqb}
 use lib.ListN.{length, get_or, take, drop}
-use lib.Seq.{drop-drop}
-use borrow.Author.Tests.{ne_eqb, eqb-true, eqb-false}
+use lib.Seq.{drop-cons, drop-drop}
+use borrow.Author.Tests.{eq-eqb, ne_eqb, eqb-true, eqb-false}
 use Rattle.jury.specs.Ballots.{ones, rows_of, first_bad_row}
-use Rattle.jury.proofs.BallotLaws.{ones_here, ones_later, bad_here, bad_later}
+use Rattle.jury.proofs.BallotLaws.{bad_here, bad_later}
 use Rattle.batch_lanes.specs.Lane.{lane_count, lane, lane_of}
 use Rattle.batch_lanes.proofs.LaneLaws.{lane_bit, lane_none, lane_all, lane_and, lane_or, lane_xor}
 use Rattle.batch_lanes.proofs.ListLaws.{lanes_length, lanes_at}
 use Rattle.batch.specs.inner.Found.{found_bit}
 use Rattle.basics.proofs.Arithmetic.{bit_cases}
+
+-- the ones from place i on: first byte i, then the rest
+ones_step : (xs : List ℕ) (i : ℕ) → i < length xs → ones (drop i xs)
+    ≡ cond (eqb (get_or xs i 0) 1) (suc (ones (drop (suc i) xs))) (ones (drop (suc i) xs))
+unfolding ones
+ones_step xs i h = rw (drop-cons xs i 0)
+
+ones_here : (xs : List ℕ) (i : ℕ) → i < length xs → get_or xs i 0 ≡ 1 → ones (drop i xs) ≡ suc (ones (drop (suc i) xs))
+ones_here xs i h e = ones_step xs i h
+    ∙ ap (λ (t : Bool). cond t (suc (ones (drop (suc i) xs))) (ones (drop (suc i) xs))) (eq-eqb (get_or xs i 0) 1 e)
+
+ones_later : (xs : List ℕ) (i : ℕ) → i < length xs → (get_or xs i 0 ≡ 1 → ⊥) → ones (drop i xs) ≡ ones (drop (suc i) xs)
+ones_later xs i h e = ones_step xs i h
+    ∙ ap (λ (t : Bool). cond t (suc (ones (drop (suc i) xs))) (ones (drop (suc i) xs))) (ne_eqb (get_or xs i 0) 1 e)
 
 -- after words of a row of which m are 1 in lane j: whether there was a 1, and whether there was a second
 pub record Seen (j : ℕ) (once twice m : ℕ) : Type 0 where
