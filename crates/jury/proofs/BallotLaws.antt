@@ -8,8 +8,8 @@ use mathlib.Core.List.{List, [], ◌∷◌}
 use Prim.Native.Nat.{ℕ, suc, ◌+◌, ◌-◌, ◌≤◌, ◌<◌}
 use native.Mathlib.Omega.{arith}
 use lib.Dec.{eqb}
-use lib.ListN.{length, get_or, take, drop, length-take, get_or-eq_default}
-use lib.Seq.{drop-cons, get_or-take, get_or-drop}
+use lib.ListN.{length, take, drop, length-take, get_or-eq_default}
+use lib.Seq.{get_or-take, get_or-drop}
 use borrow.Author.Tests.{eq-eqb, ne_eqb}
 use Rattle.std.specs.Prelude.{Some, None}
 use Rattle.std.specs.Prelude as prelude
@@ -27,20 +27,6 @@ use Rattle.std.specs.List.{sum}
 use Rattle.std.proofs.lemmas.List.Sums.{sum_by_from}
 use Rattle.basics.proofs.Arithmetic.{bit_cases}
 use Rattle.basics.proofs.Cases.{below_or_not}
-
--- the ones from place i on: first byte i, then the rest
-ones_step : (xs : List ℕ) (i : ℕ) → i < length xs → ones (drop i xs)
-    ≡ cond (eqb (get_or xs i 0) 1) (suc (ones (drop (suc i) xs))) (ones (drop (suc i) xs))
-unfolding ones
-ones_step xs i h = rw (drop-cons xs i 0)
-
-pub ones_here : (xs : List ℕ) (i : ℕ) → i < length xs → get_or xs i 0 ≡ 1 → ones (drop i xs) ≡ suc (ones (drop (suc i) xs))
-ones_here xs i h e = ones_step xs i h
-    ∙ ap (λ (t : Bool). cond t (suc (ones (drop (suc i) xs))) (ones (drop (suc i) xs))) (eq-eqb (get_or xs i 0) 1 e)
-
-pub ones_later : (xs : List ℕ) (i : ℕ) → i < length xs → (get_or xs i 0 ≡ 1 → ⊥) → ones (drop i xs) ≡ ones (drop (suc i) xs)
-ones_later xs i h e = ones_step xs i h
-    ∙ ap (λ (t : Bool). cond t (suc (ones (drop (suc i) xs))) (ones (drop (suc i) xs))) (ne_eqb (get_or xs i 0) 1 e)
 
 -- bits add up to the number of ones among them
 pub bits_sum : (xs : List ℕ) → Bits xs → sum xs ≡ ones xs
