@@ -11,7 +11,7 @@ use Rattle.levels.specs.Answer.{level_reason_of, depths_outcome}
 use Rattle.levels.proofs.Reasons.{ListFacts, list_facts, of_list, other_length, all_pass, call_refused, call_accepted, depths_are, same_result}
 use Rattle.tally.proofs.Exits.{exit}
 use Rattle.levels.proofs.write.write.Goals as goal
-use Rattle.levels.proofs.write.write.Goals.{In_ok-size, Else-levels-size}
+use Rattle.levels.proofs.write.write.Goals.{In_ok-size}
 
 pub returns-in_err-size : goal.returns-in_err-size
 unfolding depths_outcome level_reason_of outcome_of
