@@ -7,14 +7,13 @@ use Prim.Native.Nat.{ℕ, zero, suc, ◌+◌, ◌*◌}
 use native.Mathlib.Nat.{zero-add, suc-add}
 use native.Mathlib.Omega.{arith}
 use lib.Dec.{eqb}
-use lib.ListN.{length, take, drop, replicate}
-use lib.Seq.{take_all}
+use lib.ListN.{length, drop, replicate}
 use borrow.Author.Tests.{eqb-true}
 use Rattle.gates.specs.Gate.{Gate, gates_of}
 use Rattle.gates.specs.Board.{conditional_count}
 use Rattle.gates.proofs.Counting.{count_most}
 use Rattle.gate_levels.specs.Levels.{levels_of, rounds_of}
-use Rattle.gate_levels.specs.declared.level.Compared.TheVariants.{Own, Other}
+use Rattle.std.specs.Prelude.{Some, None}
 use Rattle.gate_levels.specs.Compared.{compared}
 use Rattle.gate_levels.proofs.Laws.{length_levels}
 use Rattle.jury.specs.declared.shape.Shape.{Shape}
@@ -81,22 +80,22 @@ fit inputs k gs triples wire_parts published e =
     }
 
 -- what the comparison of levels says
-pub own_same : (inputs : ℕ) (gs : List Gate) (levels : List ℕ) (rounds : ℕ) → compared inputs gs levels ≡ Own rounds
+pub own_same : (inputs : ℕ) (gs : List Gate) (levels : List ℕ) (rounds : ℕ) → compared inputs gs levels ≡ Some rounds
     → (same_numbers levels (levels_of inputs gs) ≡ true) × (rounds ≡ rounds_of inputs gs)
 unfolding compared
 own_same inputs gs levels rounds e = go (same_numbers levels (levels_of inputs gs)) refl e
   where
-    go : (b : Bool) → same_numbers levels (levels_of inputs gs) ≡ b → cond b (Own (rounds_of inputs gs)) Other
-        ≡ Own rounds → (same_numbers levels (levels_of inputs gs) ≡ true) × (rounds ≡ rounds_of inputs gs)
+    go : (b : Bool) → same_numbers levels (levels_of inputs gs) ≡ b → cond b (Some (rounds_of inputs gs)) None
+        ≡ Some rounds → (same_numbers levels (levels_of inputs gs) ≡ true) × (rounds ≡ rounds_of inputs gs)
     go true f e = (f, cc)
     go false f e = let z : ◌≡◌ {A = ℕ} 0 1 = cc in absurd (omega arith)
 
-pub other_same : (inputs : ℕ) (gs : List Gate) (levels : List ℕ) → compared inputs gs levels ≡ Other
+pub other_same : (inputs : ℕ) (gs : List Gate) (levels : List ℕ) → compared inputs gs levels ≡ None
     → same_numbers levels (levels_of inputs gs) ≡ false
 unfolding compared
 other_same inputs gs levels e = go (same_numbers levels (levels_of inputs gs)) refl e
   where
-    go : (b : Bool) → same_numbers levels (levels_of inputs gs) ≡ b → cond b (Own (rounds_of inputs gs)) Other ≡ Other
+    go : (b : Bool) → same_numbers levels (levels_of inputs gs) ≡ b → cond b (Some (rounds_of inputs gs)) None ≡ None
         → same_numbers levels (levels_of inputs gs) ≡ false
     go true f e = let z : ◌≡◌ {A = ℕ} 0 1 = cc in absurd (omega arith)
     go false f e = f
@@ -115,12 +114,11 @@ drop_zeros zero n = ap (λ (k : ℕ). replicate {A = ℕ} k 0) (zero-add n)
 drop_zeros (suc m) n = ap (λ (k : ℕ). drop (suc m) (replicate {A = ℕ} k 0)) (suc-add m n) ∙ drop_zeros m n
 
 pub started : (parts wire_parts : List ℕ) (inputs gates : ℕ) → length parts ≡ inputs → length wire_parts ≡ inputs + gates
-    → take (length parts) parts ++ drop (length parts) (replicate {A = ℕ} (length wire_parts) 0) ≡ start_wires gates parts
+    → parts ++ drop (length parts) (replicate {A = ℕ} (length wire_parts) 0) ≡ start_wires gates parts
 unfolding start_wires
 started parts wire_parts inputs gates e f =
     let n : length wire_parts ≡ length parts + gates = omega arith in
-    ap (λ (l : List ℕ). l ++ drop (length parts) (replicate {A = ℕ} (length wire_parts) 0)) (take_all (length parts) parts (omega arith))
-    ∙ ap (λ (k : ℕ). parts ++ drop (length parts) (replicate {A = ℕ} k 0)) n
+    ap (λ (k : ℕ). parts ++ drop (length parts) (replicate {A = ℕ} k 0)) n
     ∙ ap (λ (l : List ℕ). parts ++ l) (drop_zeros (length parts) gates)
 
 pub started_published_lem : (published : List ℕ) (conditional k : ℕ) → length published ≡ 2 * conditional + k

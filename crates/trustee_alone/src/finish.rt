@@ -13,18 +13,11 @@ pub fn finish(shape: Shape, table: &[u32], wires: &mut [u8]) -> Answer
     ensures { record { answer = outcome_of result; wires = wires.new }
         ≡ finish_result shape table.now wires.old }
 {
-    let answer = tally::test::test(shape, table);
-    let Answer::Accepted {
-        gates,
-        conditional: _,
-    } = answer
-    else {
-        return answer;
-    };
+    let size = tally::test::test(shape, table)?;
     let inputs = shape.ballot_bytes();
-    if !gates::lengths::has_length(wires, inputs, gates) {
-        return Answer::Refused(Refusal::PartTables);
+    if !gates::lengths::has_length(wires, inputs, size.gates) {
+        return Err(Refusal::PartTables);
     }
-    basics::table::empty(wires);
-    answer
+    wires.fill(0);
+    Ok(size)
 }

@@ -9,11 +9,12 @@ ghost use Rattle.trustee_alone.specs.Rounds.{table_reasons, round_reasons, round
 ghost use Rattle.jury.specs.Shape.{ballot_bytes};
 
 use crate::own;
+use crate::own::OwnTables;
 use gate_levels::level;
-use gate_levels::level::Compared;
+use gates::list::ListSize;
 use jury::reason::Refusal;
 use jury::shape::Shape;
-use levels::answer::{Answer, LevelRefusal};
+use levels::answer::{Answer, Depths, LevelRefusal};
 use trustee_gates::dealing;
 use trustee_rounds::round::Seat;
 
@@ -21,55 +22,53 @@ use trustee_rounds::round::Seat;
 fn test_tables(
     inputs: usize,
     k: usize,
-    gates: usize,
-    conditional: usize,
+    size: ListSize,
     t: usize,
     p: usize,
     round: usize,
     table: &[u32],
     levels: &[u32],
-    triples: &[u8],
     heard: &[u8],
-    wires: &[u8],
-    published: &[u8],
+    own: OwnTables,
 ) -> Answer
-    requires { TablesReady inputs k gates conditional table.now }
+    requires { TablesReady inputs k size.gates size.conditional table.now }
     ensures { depths_outcome result
         ≡ outcome
         (first_of
-        (table_reasons inputs k (gates_of table.now) t p round levels.now triples.now
-        heard.now wires.now published.now))
+        (table_reasons inputs k (gates_of table.now) t p round levels.now own.entry.triples.now
+        heard.now own.entry.wires.now own.entry.published.now))
         (depths_of inputs (gates_of table.now)) }
 {
+    let ListSize { gates, conditional } = size;
     if !own::is_trustee(t, p) {
-        return Answer::Refused(LevelRefusal::OfCore(Refusal::Trustees));
+        return Err(LevelRefusal::OfCore(Refusal::Trustees));
     }
-    if !own::tables_fit(inputs, k, gates, conditional, triples, wires, published) {
-        return Answer::Refused(LevelRefusal::OfCore(Refusal::PartTables));
+    if !own::tables_fit(inputs, k, size, own) {
+        return Err(LevelRefusal::OfCore(Refusal::PartTables));
     }
-    if !dealing::only_bits(triples) {
-        return Answer::Refused(LevelRefusal::OfCore(Refusal::Dealing));
+    if !dealing::only_bits(own.triples) {
+        return Err(LevelRefusal::OfCore(Refusal::Dealing));
     }
     if levels.len() != gates {
-        return Answer::Refused(LevelRefusal::Levels);
+        return Err(LevelRefusal::Levels);
     }
-    let Compared::Own { rounds } = level::compare(inputs, table, levels) else {
-        return Answer::Refused(LevelRefusal::Levels);
+    let Some(rounds) = level::compare(inputs, table, levels) else {
+        return Err(LevelRefusal::Levels);
     };
     if rounds < round {
-        return Answer::Refused(LevelRefusal::Round);
+        return Err(LevelRefusal::Round);
     }
     if heard.len() != 2 * conditional {
-        return Answer::Refused(LevelRefusal::Heard);
+        return Err(LevelRefusal::Heard);
     }
     if !dealing::only_bits(heard) {
-        return Answer::Refused(LevelRefusal::Heard);
+        return Err(LevelRefusal::Heard);
     }
-    Answer::Accepted {
+    Ok(Depths {
         gates,
         conditional,
         rounds,
-    }
+    })
 }
 
 // All tests of a round, in their order.
@@ -80,36 +79,30 @@ fn test_round(
     p: usize,
     round: usize,
     levels: &[u32],
-    triples: &[u8],
     heard: &[u8],
-    wires: &[u8],
-    published: &[u8],
+    own: OwnTables,
 ) -> Answer
     ensures { depths_outcome result
         ≡ outcome
         (first_of
-        (round_reasons shape table.now t p round levels.now triples.now
-        heard.now wires.now published.now))
+        (round_reasons shape table.now t p round levels.now own.entry.triples.now
+        heard.now own.entry.wires.now own.entry.published.now))
         (depths_of (ballot_bytes shape) (gates_of table.now)) }
 {
-    match tally::test::test(shape, table) {
-        tally::answer::Answer::Refused(reason) => Answer::Refused(LevelRefusal::OfCore(reason)),
-        tally::answer::Answer::Accepted { gates, conditional } => test_tables(
-            shape.ballot_bytes(),
-            shape.candidates,
-            gates,
-            conditional,
-            t,
-            p,
-            round,
-            table,
-            levels,
-            triples,
-            heard,
-            wires,
-            published,
-        ),
-    }
+    let size = tally::test::test(shape, table)?;
+    let inputs = shape.ballot_bytes();
+    test_tables(
+        inputs,
+        shape.candidates,
+        size,
+        t,
+        p,
+        round,
+        table,
+        levels,
+        heard,
+        own,
+    )
 }
 
 // Round r of trustee p of t: it enters the parts of the gates of level r, and publishes the factors of the
@@ -130,29 +123,22 @@ pub fn round(
         ≡ round_result shape table.now t p round levels.now triples.now
         heard.now wires.old published.old }
 {
-    let answer = test_round(
-        shape, table, t, p, round, levels, triples, heard, wires, published,
-    );
-    let Answer::Accepted {
-        gates: _,
-        conditional,
-        rounds,
-    } = answer
-    else {
-        return answer;
+    let own = OwnTables {
+        triples,
+        wires,
+        published,
     };
-    let inputs = shape.ballot_bytes();
+    let depths = test_round(shape, table, t, p, round, levels, heard, own)?;
     let seat = Seat {
         trustee: p,
         round,
-        inputs,
+        inputs: shape.ballot_bytes(),
     };
-    let k = shape.candidates;
     trustee_rounds::round::round(
         seat,
-        rounds,
-        conditional,
-        k,
+        depths.rounds,
+        depths.conditional,
+        shape.candidates,
         table,
         levels,
         triples,
@@ -160,5 +146,5 @@ pub fn round(
         wires,
         published,
     );
-    answer
+    Ok(depths)
 }

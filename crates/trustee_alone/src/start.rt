@@ -1,12 +1,14 @@
 // The entry point [trustee-start].
 ghost use Rattle.std.specs.Prelude.{◌≡◌};
 ghost use Rattle.jury.specs.Reason.{refused_for, first_of};
-ghost use Rattle.tally.specs.Answer.{outcome_of};
+ghost use Rattle.tally.specs.Answer.{outcome_of, size_in};
 ghost use Rattle.trustees.specs.inner.Sizes.{SmallSizes};
 ghost use Rattle.trustee_alone.specs.Start.{own_reasons, start_result};
 
 use crate::own;
-use jury::reason::{Refusal, Verdict};
+use crate::own::OwnTables;
+use gates::list::ListSize;
+use jury::reason::Refusal;
 use jury::shape::Shape;
 use tally::answer::Answer;
 use trustee_gates::dealing;
@@ -15,37 +17,33 @@ use trustee_gates::dealing;
 fn test_own(
     inputs: usize,
     k: usize,
-    gates: usize,
-    conditional: usize,
+    size: ListSize,
     t: usize,
     p: usize,
     shares: &[u8],
-    triples: &[u8],
-    wires: &[u8],
-    published: &[u8],
-) -> Verdict
-    requires { SmallSizes inputs k gates conditional }
+    own: OwnTables,
+) -> Result<(), Refusal>
+    requires { SmallSizes inputs k size.gates size.conditional }
     ensures { refused_for result
-        ≡ first_of
-        (own_reasons inputs k (record { gates = gates; conditional = conditional }) t p shares.now
-        triples.now wires.now published.now) }
+        ≡ first_of (own_reasons inputs k (size_in size) t p shares.now own.entry.triples.now own.entry.wires.now
+        own.entry.published.now) }
 {
     if !own::is_trustee(t, p) {
-        return Verdict::Refused(Refusal::Trustees);
+        return Err(Refusal::Trustees);
     }
     if shares.len() != inputs {
-        return Verdict::Refused(Refusal::PartTables);
+        return Err(Refusal::PartTables);
     }
-    if !own::tables_fit(inputs, k, gates, conditional, triples, wires, published) {
-        return Verdict::Refused(Refusal::PartTables);
+    if !own::tables_fit(inputs, k, size, own) {
+        return Err(Refusal::PartTables);
     }
     if !dealing::only_bits(shares) {
-        return Verdict::Refused(Refusal::Dealing);
+        return Err(Refusal::Dealing);
     }
-    if !dealing::only_bits(triples) {
-        return Verdict::Refused(Refusal::Dealing);
+    if !dealing::only_bits(own.triples) {
+        return Err(Refusal::Dealing);
     }
-    Verdict::Accepted
+    Ok(())
 }
 
 // Trustee p of t starts: its wire parts become its ballot parts, then zeros; its published bits become zeros.
@@ -63,28 +61,16 @@ pub fn start(
         ≡ start_result shape table.now t p shares.now triples.now wires.old
         published.old }
 {
-    let answer = tally::test::test(shape, table);
-    let Answer::Accepted { gates, conditional } = answer else {
-        return answer;
-    };
+    let size = tally::test::test(shape, table)?;
     let inputs = shape.ballot_bytes();
-    let k = shape.candidates;
-    if let Verdict::Refused(reason) = test_own(
-        inputs,
-        k,
-        gates,
-        conditional,
-        t,
-        p,
-        shares,
+    let own = OwnTables {
         triples,
         wires,
         published,
-    ) {
-        return Answer::Refused(reason);
-    }
-    basics::table::empty(wires);
-    basics::byte::copy(shares, wires);
-    basics::table::empty(published);
-    answer
+    };
+    test_own(inputs, shape.candidates, size, t, p, shares, own)?;
+    wires.fill(0);
+    wires[..shares.len()].copy_from_slice(shares);
+    published.fill(0);
+    Ok(size)
 }

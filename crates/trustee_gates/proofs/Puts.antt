@@ -21,10 +21,6 @@ pub part_piece : (size : ℕ) (table : List ℕ) (p x : ℕ) → x < size → pa
 unfolding part piece
 part_piece size table p x h = get_or-take size (drop (p * size) table) x 0 h ∙ get_or-drop (p * size) table x 0
 
--- a trustee's piece lies in its table
-pub reaches : (t size : ℕ) (table : List ℕ) (p : ℕ) → length table ≡ t * size → p < t → p * size + size ≤ length table
-reaches t size table p e h = omega (arith, row_within p t size h)
-
 -- a piece after one entry is stored
 piece_set_same : (size : ℕ) (table : List ℕ) (p x v : ℕ) → x < size → piece size (set table (p * size + x) v) p
     ≡ set (piece size table p) x v

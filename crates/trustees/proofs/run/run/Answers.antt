@@ -13,7 +13,7 @@ use Rattle.trustees.specs.Result.{trustees_result_after, tallied_outcome, tallie
 use Rattle.trustees.proofs.Reasons.{call_passed, result_by, same_result}
 use Rattle.trustees.proofs.Sums.{Ready, call_ready, opened_closing}
 use Rattle.trustees.proofs.run.run.Goals as goal
-use Rattle.trustees.proofs.run.run.Goals.{Start, In_ok-size}
+use Rattle.trustees.proofs.run.run.Goals.{Start}
 
 -- this call
 abbrev call : Start → Call
