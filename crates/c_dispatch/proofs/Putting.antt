@@ -2,7 +2,6 @@
 -- Assumes nothing.
 use Rattle.std.proofs.Common.{◌≡◌, refl, List, ℕ}
 use Rattle.std.specs.Prelude.{Result, Ok, Err}
-use Rattle.jury.specs.Reason.{reason_at}
 use Rattle.tally.specs.Answer.{outcome}
 use Rattle.dispatch.specs.declared.refusal.JuryRefusal.{JuryRefusal}
 use Rattle.dispatch.specs.Reasons.{jury_reason_of, verdict_reason, rounds_in}

@@ -29,7 +29,6 @@ use Rattle.tally.specs.Rule.{closing_for}
 use Rattle.tally.specs.OwnList.{own_list}
 use Rattle.tally.proofs.Rules.{closing_length}
 use Rattle.tally.specs.Answer.{refused, accepted, outcome, Size, size_of, outcome_of}
-use Rattle.gates.specs.declared.list.ListSize.{ListSize}
 use Rattle.tally.specs.Run.{run_result}
 use Rattle.tally.specs.Write.{write_reasons, write_outcome, write_result}
 use Rattle.tally.specs.Demands.{list_in}

@@ -1,5 +1,5 @@
 -- `c_levels::calls::put_depths` meets its contract: each case of the answer is put as its numbers.
-use Rattle.std.proofs.Common.{◌∙◌, ap, ℕ, List, [], ◌∷◌, rules}
+use Rattle.std.proofs.Common.{◌∙◌, ap, [], ◌∷◌, rules}
 use Rattle.levels.specs.Answer.{level_reason_of}
 use Rattle.levels.specs.declared.answer.Depths.{Depths}
 use Rattle.c_answers.specs.Numbers.{result_numbers}

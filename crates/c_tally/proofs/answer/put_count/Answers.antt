@@ -1,5 +1,5 @@
 -- `c_tally::answer::put_count` meets its contract: each case of the answer is put as its numbers.
-use Rattle.std.proofs.Common.{◌∙◌, ap, ℕ, List, [], ◌∷◌, rules}
+use Rattle.std.proofs.Common.{◌∙◌, ap, ℕ, List, rules}
 use Rattle.jury.specs.Reason.{reason_of}
 use Rattle.c_answers.specs.Numbers.{result_numbers}
 use Rattle.c_answers.proofs.Answering.{puts_same, map_is}

@@ -1,5 +1,5 @@
 -- `c_tally::answer::put_measures` meets its contract: each case of the answer is put as its numbers.
-use Rattle.std.proofs.Common.{◌∙◌, ap, ℕ, List, [], ◌∷◌, rules}
+use Rattle.std.proofs.Common.{◌∙◌, ap, [], ◌∷◌, rules}
 use Rattle.jury.specs.Reason.{reason_of}
 use Rattle.tally.specs.declared.measure.Measures.{Measures}
 use Rattle.c_answers.specs.Numbers.{result_numbers}

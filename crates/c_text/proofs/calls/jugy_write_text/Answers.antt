@@ -6,7 +6,6 @@ use Rattle.jury.specs.declared.reason.Refusal.{Refusal}
 use mathlib.Core.Path.{◌∙◌, sym, ap}
 use mathlib.Core.List.{List, [], ◌∷◌}
 use Prim.Native.Nat.{ℕ}
-use borrow.Author.Rules.{rules}
 use Rattle.jury.specs.declared.shape.Shape.{Shape}
 use Rattle.jury.specs.Shape.{within_limits}
 use Rattle.jury.specs.Reason.{reason_at, reason_of}

@@ -1,5 +1,5 @@
 -- `c_text::calls::put_length` meets its contract: each case of the answer is put as its numbers.
-use Rattle.std.proofs.Common.{◌∙◌, ap, ℕ, List, [], ◌∷◌, rules}
+use Rattle.std.proofs.Common.{◌∙◌, ap, ℕ, [], ◌∷◌, rules}
 use Rattle.text.specs.Answer.{text_reason_of}
 use Rattle.c_answers.specs.Numbers.{result_numbers}
 use Rattle.c_answers.proofs.Answering.{puts_same, map_is}

@@ -1,6 +1,5 @@
 -- `c_trustees::by_trustees::jugy_trustees` meets its contract: if the answer array is long enough, it answers what
 -- the entry point does.
-use borrow.Author.Rules.{rules}
 use Rattle.std.specs.Prelude.{Err}
 use Rattle.jury.specs.declared.reason.Refusal.{Refusal}
 use mathlib.Core.Path.{◌∙◌, sym, ap}
@@ -11,7 +10,6 @@ use Rattle.jury.specs.Shape.{within_limits}
 use Rattle.jury.specs.Reason.{reason_at, reason_of}
 use Rattle.jury.specs.ClosingBytes.{eight_bytes}
 use Rattle.jury.proofs.Constructed.{shape_is, outside_is}
-use Rattle.tally.specs.Answer.{outcome_of}
 use Rattle.tally.proofs.TestReasons.{outside_list}
 use Rattle.trustees.specs.Call.{Call}
 use Rattle.trustees.specs.Result.{TrusteesResult, trustees_result_after, trustees_result, tallied_outcome, tallied_closing}

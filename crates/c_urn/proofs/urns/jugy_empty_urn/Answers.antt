@@ -6,7 +6,6 @@ use Rattle.urn.specs.Facts.{UrnResult}
 use Rattle.urn.specs.Empty.{emptying}
 use Rattle.c_answers.specs.Numbers.{one_numbers}
 use Rattle.c_answers.proofs.Answering.{short_call, put_call}
-use borrow.Author.Rules.{rules}
 use Rattle.c_urn.proofs.urns.jugy_empty_urn.Goals as goal
 
 pub returns-then-answer-lt-ONE_ANSWER : goal.returns-then-answer-lt-ONE_ANSWER

@@ -7,7 +7,6 @@ use Rattle.tally.specs.Answer.{Outcome}
 use Rattle.urn.specs.Withdraw.{withdraw_outcome}
 use Rattle.c_answers.specs.Numbers.{one_numbers}
 use Rattle.c_answers.proofs.Answering.{short_call, put_call}
-use borrow.Author.Rules.{rules}
 use Rattle.c_urn.proofs.urns.jugy_preview_withdraw.Goals as goal
 
 pub returns-then-answer-lt-ONE_ANSWER : goal.returns-then-answer-lt-ONE_ANSWER

@@ -1,7 +1,6 @@
 -- `dispatch::dispatch::dispatch` meets its contract: the first reason decides; if there is none, the rounds finish
 -- every jury, and then the wires are emptied.
 use Rattle.std.proofs.Common.{◌≡◌, ◌∙◌, sym, ap, true, ◌&&◌, List, ℕ, ◌*◌, ◌≤◌, leb, length, length-take, arith}
-use Rattle.std.specs.Prelude.{Ok, Err}
 use Rattle.std.proofs.Math.Option.{Option, none, some}
 use Rattle.std.proofs.Math.Seq.{length-take-le}
 use borrow.Author.Tests.{leb-true}

@@ -1,5 +1,5 @@
 -- `dispatch::dispatch::longest_list` meets its contract: a turn takes the next header from the rest.
-use Rattle.std.proofs.Common.{◌≡◌, ap, ℕ, [], suc, ◌+◌, max, drop, drop-cons, drop_of_length-le, get_or, add-one, arith}
+use Rattle.std.proofs.Common.{◌≡◌, ap, ℕ, [], suc, max, drop, drop-cons, drop_of_length-le, get_or, add-one, arith}
 use Rattle.dispatch_rounds.proofs.Turns.{blank}
 use Rattle.dispatch.specs.inner.Rounds.{longest_list}
 use Rattle.dispatch.proofs.Whole.{most_first, most_none}

@@ -1,5 +1,5 @@
 -- `dispatch::dispatch::run_rounds`: each round gives every jury its next gates, and none is idle.
-use Rattle.std.proofs.Common.{◌≡◌, ℕ, ◌*◌, ◌-◌, ◌≤◌, ◌<◌, length}
+use Rattle.std.proofs.Common.{ℕ, ◌*◌, ◌-◌, ◌≤◌, ◌<◌}
 use Rattle.dispatch_rounds.specs.Tables.{tables_of}
 use Rattle.dispatch_rounds.specs.Rounds.{RoundState}
 use Rattle.dispatch.proofs.dispatch.run_rounds.Given as goal

@@ -1,7 +1,6 @@
 -- `dispatch::tests::test_juries` meets its contract: as long as all juries pass, the first reason is that of the
 -- rest.
-use Rattle.std.proofs.Common.{◌≡◌, ◌∙◌, sym, subst, List, [], length, drop, drop_of_length-le, arith}
-use Rattle.std.proofs.Math.Option.{none}
+use Rattle.std.proofs.Common.{◌≡◌, subst, List, [], drop, drop_of_length-le, arith}
 use Rattle.dispatch_rounds.specs.declared.header.JuryHeader.{JuryHeader}
 use Rattle.dispatch_rounds.specs.Tables.{tables_of}
 use Rattle.dispatch.specs.Reasons.{jury_reason_of, verdict_reason}

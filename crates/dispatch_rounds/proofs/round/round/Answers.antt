@@ -1,6 +1,6 @@
 -- `dispatch_rounds::round::round` meets its contract: the juries before j have had their turn, and the others are
 -- as they were before the round.
-use Rattle.std.proofs.Common.{◌≡◌, sym, ap, subst, List, [], ℕ, ◌+◌, ◌*◌, length, drop, drop_of_length-le, suc-mul, mul-le-mul, arith}
+use Rattle.std.proofs.Common.{◌≡◌, sym, subst, List, [], ℕ, ◌+◌, ◌*◌, drop, drop_of_length-le, suc-mul, arith}
 use Rattle.dispatch_rounds.specs.declared.header.JuryHeader.{JuryHeader}
 use Rattle.dispatch_rounds.specs.Tables.{tables_of, pieces_of}
 use Rattle.dispatch_rounds.specs.Rounds.{RoundState}

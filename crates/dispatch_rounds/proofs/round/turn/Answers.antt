@@ -5,7 +5,6 @@ use mathlib.Core.List.{List}
 use Prim.Native.Nat.{ℕ, ◌+◌, ◌<◌}
 use native.Mathlib.Omega.{arith}
 use lib.ListN.{length}
-use borrow.Author.Rules.{rules}
 use Rattle.gates.specs.Gate.{gates_of}
 use Rattle.gates.proofs.Prefix.{Stands, can_step, step_stands, can_close}
 use Rattle.dispatch_rounds.specs.Tables.{tables_of}

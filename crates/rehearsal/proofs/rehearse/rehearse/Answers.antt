@@ -1,6 +1,6 @@
 -- `rehearsal::rehearse::rehearse` meets its contract: a shape outside the limits is refused; otherwise the list is
 -- written and run.
-use Rattle.std.proofs.Common.{sym, ap, arith}
+use Rattle.std.proofs.Common.{sym, arith}
 use Rattle.jury.specs.Shape.{within_limits}
 use Rattle.jury.proofs.Constructed.{shape_is, outside_is}
 use Rattle.tally.proofs.Exits.{exit}

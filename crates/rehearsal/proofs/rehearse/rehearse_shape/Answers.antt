@@ -1,6 +1,6 @@
 -- `rehearsal::rehearse::rehearse_shape` meets its contract: if the write is refused, its reason is the answer;
 -- otherwise the run decides.
-use Rattle.std.proofs.Common.{◌≡◌, ◌∙◌, refl, ap, List, ℕ, ◌*◌, ◌-◌, ◌≤◌, length, take, drop, arith}
+use Rattle.std.proofs.Common.{◌≡◌, ◌∙◌, refl, ap, List, ℕ, ◌*◌, ◌-◌, ◌≤◌, length, take, arith}
 use Rattle.std.specs.Prelude.{Ok}
 use Rattle.jury.specs.declared.shape.Shape.{Shape}
 use Rattle.tally.specs.Answer.{outcome_of}
