@@ -1,5 +1,3 @@
-// What all floors share: bytes as numbers, and functions that empty or copy a table.
 #![tactic(auto)]
 
-pub mod byte;
-pub mod table;
+// What all floors share: definitions and laws of truth values, sums and tables. There is no program here.

@@ -64,10 +64,6 @@ room_after w t gs t₁ w₁ m n a h r =
       counted = omega (arith, a.conditionals, a.gates, r.counted, count_most gs);
     }
 
--- the table keeps its length
-pub wrote_long : (w : Writer) (t : List ℕ) (gs : List Gate) (t₁ : List ℕ) (w₁ : Writer) → Wrote w t gs t₁ w₁ → length t₁ ≡ length t
-wrote_long w t gs t₁ w₁ a = a.long
-
 -- the length stays, whether or not the store is made
 kept_long : (done : Bool) (t : List ℕ) (i : ℕ) (vs : List ℕ) → length (cond done (sets t i vs) t) ≡ length t
 kept_long true t i vs = length-sets t i vs

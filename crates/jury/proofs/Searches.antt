@@ -93,22 +93,6 @@ none_some test (suc m) e i h =
     ⊎_elim (none_some test m (or_none_first (some_below m test) (test m) e) i)
     (λ l. let s : i ≡ m = omega arith in ap test s ∙ or_none_second (some_below m test) (test m) e) (below_or_not i m)
 
--- the places of a ballot lie within it
-rank_within : (k b i j : ℕ) → i < k → j < k → (b * k + i) * k + j < (b + 1) * k * k
-rank_within k b i j hi hj =
-    let l : b * k + k ≤ (b + 1) * k = row_within b (b + 1) k (omega arith) in
-    let m : (b * k + i) * k + k ≤ (b + 1) * k * k = row_within (b * k + i) ((b + 1) * k) k (omega arith) in
-    omega arith
-
--- the number of a row is no larger than any place in it
-row_below : (k row : ℕ) → 0 < k → row ≤ row * k
-row_below k row h = let l : row * 1 ≤ row * k = mul-le-mul {n₁ = row} {m₁ = 1} {n₂ = row} {m₂ = k} (omega arith) h in omega arith
-
--- the facts about a place that the loops over a ballot need: it lies within the ballots so far, and its row's
--- number is no larger than the place where the row begins
-pub rank_known : (k b i j : ℕ) → i < k → j < k → ((b * k + i) * k + j < (b + 1) * k * k) × (b * k + i ≤ (b * k + i) * k)
-rank_known k b i j hi hj = (rank_within k b i j hi hj, row_below k (b * k + i) (omega arith))
-
 -- a ballot lies within the ballots
 pub ballot_within : (k n b : ℕ) → b < n → (b + 1) * k * k ≤ n * k * k
 ballot_within k n b h = mul-le-mul {n₁ = (b + 1) * k} {m₁ = k} {n₂ = n * k} {m₂ = k}

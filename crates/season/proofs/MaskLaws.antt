@@ -21,9 +21,6 @@ half_below rest m = go (ltb rest (2 ^ suc m)) refl
 pub fits_step : (rest i k : ℕ) → i < k → ltb (rest / 2) (2 ^ (k - (i + 1))) ≡ ltb rest (2 ^ (k - i))
 fits_step rest i k h = half_below rest (k - (i + 1)) ∙ ap (λ (n : ℕ). ltb rest (2 ^ n)) {x = suc (k - (i + 1))} {y = k - i} (omega arith)
 
-pub fits_end : (rest i k : ℕ) → k ≤ i → ltb rest 1 ≡ ltb rest (2 ^ (k - i))
-fits_end rest i k h = ap (λ (n : ℕ). ltb rest (2 ^ n)) {x = 0} {y = k - i} (omega arith)
-
 -- the ones of a mask: the lowest digit, then those of its half
 pub ones_step : (rest i digits : ℕ) → i < digits → ones_in (digits - i) rest ≡ rest % 2 + ones_in (digits - (i + 1)) (rest / 2)
 unfolding ones_in
