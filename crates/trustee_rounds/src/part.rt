@@ -18,10 +18,7 @@ fn own_part(p: usize, gate: Numbers, z: u8, wires: &[u8]) -> u8
     ensures { result ≡ part_of_kind p gate.kind (part wires.now gate.a) (part wires.now gate.b)
         (part wires.now gate.c) z }
 {
-    let a = gate.a;
-    let b = gate.b;
-    let c = gate.c;
-    bits::part_of_kind(p, gate.kind, wires[a], wires[b], wires[c], z)
+    bits::part_of_kind(p, gate.kind, wires[gate.a], wires[gate.b], wires[gate.c], z)
 }
 
 // The trustee's bit of the i-th product, from its triple and the two sums that were heard.
