@@ -38,8 +38,13 @@ returns-in_err-size c =
     })
 
 pub overflow_mul-list : goal.overflow_mul-list
-overflow_mul-list c = record { fits = omega (arith, gates_few _ _ _ _ _ c.requires.buffers c.in_ok-size.size.gates c.in_ok-size.size.conditional
-    c.in_ok-size.ensures.answers) }
+overflow_mul-list c = record {
+  fits = omega (
+    arith,
+    gates_few _ _ _ _ _ c.requires.buffers c.in_ok-size.size.gates c.in_ok-size.size.conditional
+        c.in_ok-size.ensures.answers,
+  );
+}
 
 pub slice_bounds-list-end : goal.slice_bounds-list-end
 slice_bounds-list-end c =
@@ -60,7 +65,7 @@ pub returns : goal.returns
 returns c =
     record {
       answers = c.run_list.ensures.answers ∙ same_answer _ _ _ _ _ c.requires.buffers c.in_ok-size.size.gates c.in_ok-size.size.conditional
-    c.in_ok-size.ensures.answers c.args.input.now _ c.requires.shape_is
+          c.in_ok-size.ensures.answers c.args.input.now _ c.requires.shape_is
           (ballots_after c.args.input.now c.get.result _ c.unwrap_or-ballots.result c.get.ensures.lookup refl c.unwrap_or-ballots.ensures);
       on_board = c.run_list.ensures.on_board;
     }
