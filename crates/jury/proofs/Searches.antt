@@ -13,7 +13,6 @@ use Rattle.jury.specs.Rankings.{rank_place, before, or_else, first_over, not_asy
 use Rattle.basics.specs.Below.{some_below}
 use Rattle.basics.proofs.Cases.{below_or_not}
 use Rattle.basics.proofs.Flags.{or_first, or_second}
-use Rattle.basics.proofs.Arithmetic.{row_within}
 
 -- no search has found anything yet
 pub first_start : (found : ℕ → Option ℕ) → first_over 0 found ≡ None
