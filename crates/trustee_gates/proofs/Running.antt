@@ -24,10 +24,9 @@ use Rattle.trustee_shares.specs.Shares.{part, first_factor, second_factor, maske
 use Rattle.trustee_shares.specs.Views.{piece, joined, masked_factors}
 use Rattle.trustee_shares.proofs.Accuracy.{opened_same, part_before, count_mark, mark_one}
 use Rattle.trustee_shares.proofs.Tables.{length_piece, whole_table, joined_cong}
-use Rattle.trustee_gates.specs.declared.gate.Numbers.{Numbers}
 use Rattle.trustee_gates.specs.declared.gate.Pieces.{Pieces}
 use Rattle.trustee_gates.specs.inner.Tables.{each_puts}
-use Rattle.trustee_gates.specs.inner.Gate.{gate_of_numbers, GateReady}
+use Rattle.trustee_gates.specs.inner.Gate.{GateReady}
 use Rattle.trustee_gates.proofs.Puts.{length_puts, puts_at}
 use Rattle.trustee_shares.proofs.Publishing.{mark_none}
 
@@ -338,7 +337,7 @@ module _ (t inputs : ℕ) (pieces : Pieces) (table triples : List ℕ) (final fi
     (ws published : List ℕ) (i g : ℕ)
     (left : Left t pieces.wires pieces.published inputs (piece pieces.triples triples) table final
     final_published ws published i g) (h : g < length (gates_of table))
-    (r : Numbers) (is : gate_of_numbers r ≡ gate_at table g) where
+    (r : Gate) (is : r ≡ gate_at table g) where
   -- the next gate can be run
   pub gate_ready : GateReady t pieces r (inputs + g) i triples ws published
   gate_ready =
@@ -370,13 +369,13 @@ module _ (t inputs : ℕ) (pieces : Pieces) (table triples : List ℕ) (final fi
       }
 
   -- the invariant after that gate
-  pub turn_by : (ws' published' : List ℕ) (i' g' : ℕ) → i' ≡ i + mark_of (gate_of_numbers r)
+  pub turn_by : (ws' published' : List ℕ) (i' g' : ℕ) → i' ≡ i + mark_of r
       → ws' ≡ each_puts t pieces.wires (inputs + g)
-      (λ p. new_part t (piece pieces.triples triples) (piece pieces.wires ws) i (gate_of_numbers r) p ∷ []) ws
+      (λ p. new_part t (piece pieces.triples triples) (piece pieces.wires ws) i r p ∷ []) ws
       → published' ≡ cond (conditional_of r.kind)
       (each_puts t pieces.published (2 * i)
-      (λ p. masked_first (piece pieces.wires ws p) (piece pieces.triples triples p) i (gate_of_numbers r) ∷ masked_second
-      (piece pieces.wires ws p) (piece pieces.triples triples p) i (gate_of_numbers r) ∷ []) published) published
+      (λ p. masked_first (piece pieces.wires ws p) (piece pieces.triples triples p) i r ∷ masked_second
+      (piece pieces.wires ws p) (piece pieces.triples triples p) i r ∷ []) published) published
       → g' ≡ suc g → Left t pieces.wires pieces.published inputs (piece pieces.triples triples) table final
       final_published ws' published' i' g'
   turn_by ws' published' i' g' ei ew ep eg =

@@ -1,27 +1,13 @@
 // The evaluation of a whole list by trustees. Nothing here is an entry point: the callers' tests establish what a
 // `requires` asks.
 ghost use Rattle.std.specs.Prelude.{◌≡◌, ◌+◌, ◌*◌, ◌<◌, length};
-ghost use Rattle.trustee_gates.specs.inner.Gate.{gate_of_numbers};
 ghost use Rattle.gates.specs.Gate.{gate_at};
 ghost use Rattle.trustee_gates.specs.inner.Evaluate.{RunReady, EvaluateReady, GatesRan, Evaluated};
 
-use crate::gate::{Numbers, Pieces};
-use crate::{gate, table};
+use crate::gate::Pieces;
+use crate::table;
+use gates::gate::Gate;
 use gates::kind;
-
-// Gate g of a table.
-pub fn numbers_at(table: &[u32], g: usize) -> Numbers
-    requires { 4 * g + 3 < length table.now }
-    ensures { gate_of_numbers result ≡ gate_at table.now g }
-{
-    let at = 4 * g;
-    Numbers {
-        kind: table[at],
-        a: table[at + 1] as usize,
-        b: table[at + 2] as usize,
-        c: table[at + 3] as usize,
-    }
-}
 
 // Runs all gates in order. The inputs are already in the wire parts.
 fn run_gates(
@@ -40,12 +26,12 @@ fn run_gates(
     let marks = kind::CONDITIONAL;
     let mut i = 0;
     for g in 0..table.len() / 4 {
-        let numbers = numbers_at(table, g);
-        i = gate::run_gate(
+        let gate = Gate::at(table, g);
+        i = crate::gate::run_gate(
             &marks,
             t,
             pieces,
-            numbers,
+            gate,
             inputs + g,
             i,
             triples,

@@ -3,11 +3,12 @@ ghost use Rattle.std.specs.Prelude.{◌≡◌, ◌∷◌, []};
 ghost use Rattle.trustee_shares.specs.Shares.{second_factor, masked_first, masked_second, product_part, part_of_kind, part};
 ghost use Rattle.trustee_shares.specs.Views.{piece};
 ghost use Rattle.trustee_gates.specs.inner.Tables.{each_puts};
-ghost use Rattle.trustee_gates.specs.inner.Gate.{gate_of_numbers, InWires, InTriples, PublishReady, ProductReady, FreeReady, GateReady};
+ghost use Rattle.trustee_gates.specs.inner.Gate.{InWires, InTriples, PublishReady, ProductReady, FreeReady, GateReady};
 ghost use Rattle.trustee_gates.specs.inner.Gate.{FactorReady, Published, GateRan};
 ghost use Rattle.gates.specs.inner.Marked.{Marked};
 
 use crate::{bits, table};
+use gates::gate::Gate;
 use gates::kind;
 use gates::kind::ConditionalMarks;
 
@@ -19,15 +20,6 @@ pub struct Pieces {
     pub published: usize,
 }
 
-// A gate as its four numbers.
-#[derive(Clone, Copy)]
-pub struct Numbers {
-    pub kind: u32,
-    pub a: usize,
-    pub b: usize,
-    pub c: usize,
-}
-
 // The opened sums of both masked factors.
 #[derive(Clone, Copy)]
 pub struct Opened {
@@ -36,13 +28,13 @@ pub struct Opened {
 }
 
 // Trustee p's bit of the second factor.
-fn second_factor(size: usize, gate: Numbers, p: usize, wires: &[u8]) -> u8
+fn second_factor(size: usize, gate: Gate, p: usize, wires: &[u8]) -> u8
     requires { InWires size gate p wires.now }
-    ensures { result ≡ second_factor (piece size wires.now p) (gate_of_numbers gate) }
+    ensures { result ≡ second_factor (piece size wires.now p) gate }
 {
-    let b = table::entry(wires, size, p, gate.b);
+    let b = table::entry(wires, size, p, gate.b as usize);
     if gate.kind == kind::CHOICE {
-        return bits::plus(b, table::entry(wires, size, p, gate.c));
+        return bits::plus(b, table::entry(wires, size, p, gate.c as usize));
     }
     b
 }
@@ -50,7 +42,7 @@ fn second_factor(size: usize, gate: Numbers, p: usize, wires: &[u8]) -> u8
 // Trustee p's bit of the first factor, masked.
 pub fn masked_first(
     pieces: Pieces,
-    gate: Numbers,
+    gate: Gate,
     i: usize,
     p: usize,
     triples: &[u8],
@@ -58,16 +50,16 @@ pub fn masked_first(
 ) -> u8
     requires { FactorReady pieces gate i p triples.now wires.now }
     ensures { result ≡ masked_first (piece pieces.wires wires.now p)
-        (piece pieces.triples triples.now p) i (gate_of_numbers gate) }
+        (piece pieces.triples triples.now p) i gate }
 {
-    let a = table::entry(wires, pieces.wires, p, gate.a);
+    let a = table::entry(wires, pieces.wires, p, gate.a as usize);
     bits::plus(a, table::entry(triples, pieces.triples, p, 3 * i))
 }
 
 // Trustee p's bit of the second factor, masked.
 pub fn masked_second(
     pieces: Pieces,
-    gate: Numbers,
+    gate: Gate,
     i: usize,
     p: usize,
     triples: &[u8],
@@ -75,7 +67,7 @@ pub fn masked_second(
 ) -> u8
     requires { FactorReady pieces gate i p triples.now wires.now }
     ensures { result ≡ masked_second (piece pieces.wires wires.now p)
-        (piece pieces.triples triples.now p) i (gate_of_numbers gate) }
+        (piece pieces.triples triples.now p) i gate }
 {
     let factor = second_factor(pieces.wires, gate, p, wires);
     bits::plus(factor, table::entry(triples, pieces.triples, p, 3 * i + 1))
@@ -85,7 +77,7 @@ pub fn masked_second(
 fn publish(
     t: usize,
     pieces: Pieces,
-    gate: Numbers,
+    gate: Gate,
     i: usize,
     triples: &[u8],
     wires: &[u8],
@@ -122,14 +114,14 @@ fn product_part(size: usize, i: usize, p: usize, opened: Opened, triples: &[u8])
 }
 
 // Trustee p's part of a gate's wire, from its bit z of the product.
-fn new_part(size: usize, gate: Numbers, p: usize, z: u8, wires: &[u8]) -> u8
+fn new_part(size: usize, gate: Gate, p: usize, z: u8, wires: &[u8]) -> u8
     requires { InWires size gate p wires.now }
     ensures { result ≡ part_of_kind p gate.kind (part (piece size wires.now p) gate.a)
         (part (piece size wires.now p) gate.b) (part (piece size wires.now p) gate.c) z }
 {
-    let a = table::entry(wires, size, p, gate.a);
-    let b = table::entry(wires, size, p, gate.b);
-    let c = table::entry(wires, size, p, gate.c);
+    let a = table::entry(wires, size, p, gate.a as usize);
+    let b = table::entry(wires, size, p, gate.b as usize);
+    let c = table::entry(wires, size, p, gate.c as usize);
     bits::part_of_kind(p, gate.kind, a, b, c, z)
 }
 
@@ -137,7 +129,7 @@ fn new_part(size: usize, gate: Numbers, p: usize, z: u8, wires: &[u8]) -> u8
 fn enter_products(
     t: usize,
     pieces: Pieces,
-    gate: Numbers,
+    gate: Gate,
     own: usize,
     i: usize,
     opened: Opened,
@@ -160,7 +152,7 @@ fn enter_products(
 }
 
 // Stores each trustee's part of a free gate's wire, which needs no product.
-fn enter_free(t: usize, size: usize, gate: Numbers, own: usize, wires: &mut [u8])
+fn enter_free(t: usize, size: usize, gate: Gate, own: usize, wires: &mut [u8])
     requires { FreeReady t size gate own wires.old }
     ensures { wires.new ≡ each_puts t size own (λ p. part_of_kind p gate.kind
         (part (piece size wires.old p) gate.a) (part (piece size wires.old p) gate.b)
@@ -176,7 +168,7 @@ pub(crate) fn run_gate(
     marks: &ConditionalMarks,
     t: usize,
     pieces: Pieces,
-    gate: Numbers,
+    gate: Gate,
     own: usize,
     i: usize,
     triples: &[u8],

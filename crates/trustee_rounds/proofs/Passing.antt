@@ -22,8 +22,6 @@ use Rattle.gates.proofs.Reading.{Below, operands_below}
 use Rattle.trustee_shares.specs.Shares.{part, masked_first, masked_second, product_part, part_of_kind, mark_of}
 use Rattle.trustee_shares.specs.Views.{piece}
 use Rattle.trustee_shares.proofs.Accuracy.{count_mark, mark_one}
-use Rattle.trustee_gates.specs.declared.gate.Numbers.{Numbers}
-use Rattle.trustee_gates.specs.inner.Gate.{gate_of_numbers}
 use Rattle.trustee_rounds.specs.Rounds.{Turn, heard_part, enters_gate, enters, publishes_gate, publishes}
 use Rattle.trustee_rounds.specs.inner.Passes.{GateIn, PartReady, PublishReady}
 use Rattle.trustee_rounds.proofs.Closing.{length_cond}
@@ -71,9 +69,9 @@ module _ (inputs : ℕ) (table : List ℕ) where
         })
 
     -- the same, from the four numbers that the program has read
-    module _ (n : Numbers) (is : gate_of_numbers n ≡ gate_at table g) where
+    module _ (n : Gate) (is : n ≡ gate_at table g) where
       pub mark_by : (m : ℕ) → m ≡ cond (conditional_of n.kind) 1 0 → i + m ≡ i + mark_of (gate_at table g)
-      mark_by m e = ap (λ (k : ℕ). i + k) (e ∙ sym (mark_is (gate_of_numbers n)) ∙ ap mark_of is)
+      mark_by m e = ap (λ (k : ℕ). i + k) (e ∙ sym (mark_is n) ∙ ap mark_of is)
 
       pub mark_small : (m : ℕ) → m ≡ cond (conditional_of n.kind) 1 0 → i + m ≤ conditional_count (gates_of table)
       mark_small m e = omega (arith, mark_by m e, count_here)
@@ -122,7 +120,7 @@ pub enter_start : (u : Turn) (table ws : List ℕ) → first_bad u.inputs 0 (gat
 enter_start u table ws good long = record { ahead = ahead_start u.inputs table good; long = long; rest = refl }
 
 module _ (u : Turn) (table ws₀ ws : List ℕ) (g i : ℕ) (left : EnterLeft u table ws₀ ws g i) (pos : 1 ≤ u.inputs)
-    (h : g < length (gates_of table)) (n : Numbers) (is : gate_of_numbers n ≡ gate_at table g) where
+    (h : g < length (gates_of table)) (n : Gate) (is : n ≡ gate_at table g) where
   pub enter_turn : (level : ℕ) (ws' : List ℕ) (m i' g' : ℕ) → level ≡ get_or u.levels g 0
       → ws' ≡ cond (eqb level u.round)
       (set ws (u.inputs + g) (part_of_kind u.trustee n.kind (part ws n.a) (part ws n.b) (part ws n.c)
@@ -142,7 +140,7 @@ module _ (u : Turn) (table ws₀ ws : List ℕ) (g i : ℕ) (left : EnterLeft u 
             ∙ sym (ap (λ (gs : List Gate). enters u gs g i ws) (starts u.inputs table g i left.ahead pos h)) ∙ left.rest;
       }
     where
-      stored : ws' ≡ enters_gate u g i (gate_of_numbers n) ws
+      stored : ws' ≡ enters_gate u g i n ws
       stored = unfold enters_gate heard_part in ew
           ∙ ap (λ (k : ℕ). cond (eqb k u.round)
           (set ws (u.inputs + g) (part_of_kind u.trustee n.kind (part ws n.a) (part ws n.b)
@@ -168,10 +166,10 @@ publish_start u table ws published good = record { ahead = ahead_start u.inputs 
 
 module _ (u : Turn) (table ws published₀ published : List ℕ) (g i : ℕ)
     (left : PublishLeft u table ws published₀ published g i) (pos : 1 ≤ u.inputs) (h : g < length (gates_of table))
-    (n : Numbers) (is : gate_of_numbers n ≡ gate_at table g) where
+    (n : Gate) (is : n ≡ gate_at table g) where
   pub publish_turn : (level next : ℕ) (published' : List ℕ) (m i' g' : ℕ) → level ≡ get_or u.levels g 0 → next ≡ suc u.round
       → published' ≡ cond (conditional_of n.kind && eqb level next)
-      (sets published (2 * i) (masked_first ws u.triples i (gate_of_numbers n) ∷ masked_second ws u.triples i (gate_of_numbers n) ∷
+      (sets published (2 * i) (masked_first ws u.triples i n ∷ masked_second ws u.triples i n ∷
       [])) published
       → m ≡ cond (conditional_of n.kind) 1 0 → i' ≡ i + m → g' ≡ suc g → PublishLeft u table ws published₀ published' g' i'
   unfolding publishes
@@ -183,7 +181,7 @@ module _ (u : Turn) (table ws published₀ published : List ℕ) (g i : ℕ)
         ahead = ahead_turn u.inputs table g i left.ahead pos h i' g' mk eg;
         long = ap length ep ∙ length_cond (conditional_of n.kind && eqb level next) _ published
             (length-sets published (2 * i)
-            (masked_first ws u.triples i (gate_of_numbers n) ∷ masked_second ws u.triples i (gate_of_numbers n) ∷ [])) ∙ left.long;
+            (masked_first ws u.triples i n ∷ masked_second ws u.triples i n ∷ [])) ∙ left.long;
         rest = ap (λ (k : ℕ). publishes u ws (drop k (gates_of table)) k i' published') eg
             ∙ ap (λ (k : ℕ). publishes u ws (drop (suc g) (gates_of table)) (suc g) k published') mk
             ∙ ap (λ (l : List ℕ). publishes u ws (drop (suc g) (gates_of table)) (suc g) (i + mark_of x) l) e
@@ -191,15 +189,15 @@ module _ (u : Turn) (table ws published₀ published : List ℕ) (g i : ℕ)
             (starts u.inputs table g i left.ahead pos h)) ∙ left.rest;
       }
     where
-      stored : published' ≡ publishes_gate u ws g i (gate_of_numbers n) published
+      stored : published' ≡ publishes_gate u ws g i n published
       stored =
           unfold publishes_gate in ep
           ∙ ap (λ (k : ℕ). cond (conditional_of n.kind && eqb k next)
-          (sets published (2 * i) (masked_first ws u.triples i (gate_of_numbers n) ∷ masked_second ws u.triples i
-          (gate_of_numbers n) ∷ [])) published) el
+          (sets published (2 * i) (masked_first ws u.triples i n ∷ masked_second ws u.triples i
+          n ∷ [])) published) el
           ∙ ap (λ (k : ℕ). cond (conditional_of n.kind && eqb (get_or u.levels g 0) k)
-          (sets published (2 * i) (masked_first ws u.triples i (gate_of_numbers n) ∷ masked_second ws u.triples i
-          (gate_of_numbers n) ∷ [])) published) en
+          (sets published (2 * i) (masked_first ws u.triples i n ∷ masked_second ws u.triples i
+          n ∷ [])) published) en
 
 pub publish_end : (u : Turn) (table ws published₀ published : List ℕ) (g i : ℕ)
     → PublishLeft u table ws published₀ published g i → length (gates_of table) ≤ g → published

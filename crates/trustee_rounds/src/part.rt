@@ -3,22 +3,25 @@ ghost use Rattle.std.specs.Prelude.{◌≡◌, cond, ◌&&◌, ◌∷◌, [], �
 ghost use Rattle.std.proofs.lemmas.List.Edits.{sets};
 ghost use Rattle.gates.specs.Kind.{conditional_of};
 ghost use Rattle.trustee_shares.specs.Shares.{part, masked_first, masked_second, product_part, part_of_kind};
-ghost use Rattle.trustee_gates.specs.inner.Gate.{gate_of_numbers};
 ghost use Rattle.trustee_rounds.specs.inner.Passes.{GateIn, PartReady, EnterReady, PublishReady};
 ghost use Rattle.gates.specs.inner.Marked.{Marked};
 
+use gates::gate::Gate;
 use gates::kind;
 use gates::kind::ConditionalMarks;
-use trustee_gates::gate::{Numbers, Pieces};
+use trustee_gates::gate::Pieces;
 use trustee_gates::{bits, gate};
 
 // The part of a gate's wire, from the trustee's parts of the operands and its bit z of the product.
-fn own_part(p: usize, gate: Numbers, z: u8, wires: &[u8]) -> u8
+fn own_part(p: usize, gate: Gate, z: u8, wires: &[u8]) -> u8
     requires { GateIn gate wires.now }
     ensures { result ≡ part_of_kind p gate.kind (part wires.now gate.a) (part wires.now gate.b)
         (part wires.now gate.c) z }
 {
-    bits::part_of_kind(p, gate.kind, wires[gate.a], wires[gate.b], wires[gate.c], z)
+    let a = wires[gate.a as usize];
+    let b = wires[gate.b as usize];
+    let c = wires[gate.c as usize];
+    bits::part_of_kind(p, gate.kind, a, b, c, z)
 }
 
 // The trustee's bit of the i-th product, from its triple and the two sums that were heard.
@@ -41,7 +44,7 @@ fn product(p: usize, i: usize, triples: &[u8], heard: &[u8]) -> u8
 fn gate_part(
     marks: &ConditionalMarks,
     p: usize,
-    gate: Numbers,
+    gate: Gate,
     i: usize,
     triples: &[u8],
     heard: &[u8],
@@ -66,7 +69,7 @@ pub(crate) fn enter_gate(
     p: usize,
     round: usize,
     level: usize,
-    gate: Numbers,
+    gate: Gate,
     own: usize,
     i: usize,
     triples: &[u8],
@@ -93,7 +96,7 @@ pub(crate) fn publish_gate(
     marks: &ConditionalMarks,
     next: usize,
     level: usize,
-    numbers: Numbers,
+    numbers: Gate,
     i: usize,
     triples: &[u8],
     wires: &[u8],
@@ -104,8 +107,8 @@ pub(crate) fn publish_gate(
         ≡ cond (conditional_of numbers.kind
         && eqb level next)
         (sets published.old (2 * i)
-        (masked_first wires.now triples.now i (gate_of_numbers numbers)
-        ∷ masked_second wires.now triples.now i (gate_of_numbers numbers) ∷ []))
+        (masked_first wires.now triples.now i numbers
+        ∷ masked_second wires.now triples.now i numbers ∷ []))
         published.old }
 {
     if !kind::conditional(marks, numbers.kind) {

@@ -6,8 +6,8 @@ ghost use Rattle.trustee_rounds.specs.inner.Passes.{turn_by, EnterPass, PublishP
 
 use crate::part;
 use gate_levels::level;
+use gates::gate::Gate;
 use gates::kind;
-use trustee_gates::evaluate;
 
 // The trustee's number, the round, and how many inputs the list has.
 #[derive(Clone, Copy)]
@@ -30,7 +30,7 @@ fn enter(seat: Seat, table: &[u32], levels: &[u32], triples: &[u8], heard: &[u8]
     let inputs = seat.inputs;
     let mut i = 0;
     for (g, entry) in levels.iter().enumerate() {
-        let gate = evaluate::numbers_at(table, g);
+        let gate = Gate::at(table, g);
         let depth = level::rounds(*entry);
         part::enter_gate(
             &marks,
@@ -76,7 +76,7 @@ fn publish(
     let next = round + 1;
     let mut i = 0;
     for (g, entry) in levels.iter().enumerate() {
-        let gate = evaluate::numbers_at(table, g);
+        let gate = Gate::at(table, g);
         let depth = level::rounds(*entry);
         part::publish_gate(&marks, next, depth, gate, i, triples, wires, published);
         i += kind::mark(&marks, gate.kind);

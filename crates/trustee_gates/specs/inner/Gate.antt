@@ -4,17 +4,12 @@ use Rattle.gates.specs.Kind.{conditional_of, kind_count}
 use Rattle.gates.specs.Gate.{Gate}
 use Rattle.trustee_shares.specs.Shares.{masked_first, masked_second, opened_first, opened_second, new_part, mark_of}
 use Rattle.trustee_shares.specs.Views.{piece}
-use Rattle.trustee_gates.specs.declared.gate.Numbers.{Numbers}
 use Rattle.trustee_gates.specs.declared.gate.Pieces.{Pieces}
 use Rattle.trustee_gates.specs.declared.gate.Opened.{Opened}
 use Rattle.trustee_gates.specs.inner.Tables.{each_puts}
 
--- The gate that has these four numbers.
-abbrev pub gate_of_numbers : Numbers → Gate
-gate_of_numbers g = record { kind = g.kind; a = g.a; b = g.b; c = g.c }
-
 -- Trustee p's parts of the operands are in the table.
-pub record InWires (size : ℕ) (g : Numbers) (p : ℕ) (wires : List ℕ) : Type 0 where
+pub record InWires (size : ℕ) (g : Gate) (p : ℕ) (wires : List ℕ) : Type 0 where
   pub a_in : g.a < size
   pub b_in : g.b < size
   pub c_in : g.c < size
@@ -26,12 +21,12 @@ pub record InTriples (size i p : ℕ) (triples : List ℕ) : Type 0 where
   pub triples_reach : p * size + size ≤ length triples
 
 -- Trustee p's parts of the operands and its bits of the triple are in the tables.
-pub record FactorReady (pieces : Pieces) (g : Numbers) (i p : ℕ) (triples wires : List ℕ) : Type 0 where
+pub record FactorReady (pieces : Pieces) (g : Gate) (i p : ℕ) (triples wires : List ℕ) : Type 0 where
   pub operands : InWires pieces.wires g p wires
   pub triple : InTriples pieces.triples i p triples
 
 -- The operands and the own wire of a gate are within the pieces of the wire table of t trustees.
-pub record FreeReady (t size : ℕ) (g : Numbers) (own : ℕ) (wires : List ℕ) : Type 0 where
+pub record FreeReady (t size : ℕ) (g : Gate) (own : ℕ) (wires : List ℕ) : Type 0 where
   pub a_in : g.a < size
   pub b_in : g.b < size
   pub c_in : g.c < size
@@ -39,7 +34,7 @@ pub record FreeReady (t size : ℕ) (g : Numbers) (own : ℕ) (wires : List ℕ)
   pub wires_length : length wires ≡ t * size
 
 -- All trustees can publish their factors of the i-th conditional gate.
-pub record PublishReady (t : ℕ) (pieces : Pieces) (g : Numbers) (i : ℕ) (triples wires published : List ℕ)
+pub record PublishReady (t : ℕ) (pieces : Pieces) (g : Gate) (i : ℕ) (triples wires published : List ℕ)
     : Type 0 where
   pub a_in : g.a < pieces.wires
   pub b_in : g.b < pieces.wires
@@ -51,13 +46,13 @@ pub record PublishReady (t : ℕ) (pieces : Pieces) (g : Numbers) (i : ℕ) (tri
   pub published_length : length published ≡ t * pieces.published
 
 -- All trustees can enter their parts of the i-th conditional gate's wire.
-pub record ProductReady (t : ℕ) (pieces : Pieces) (g : Numbers) (own i : ℕ) (triples wires : List ℕ) : Type 0 where
+pub record ProductReady (t : ℕ) (pieces : Pieces) (g : Gate) (own i : ℕ) (triples wires : List ℕ) : Type 0 where
   pub free : FreeReady t pieces.wires g own wires
   pub triple_in : 3 * i + 2 < pieces.triples
   pub triples_length : length triples ≡ t * pieces.triples
 
 -- A gate, conditional or free: if it is conditional, the tables have places for its triple and its factors.
-pub record GateReady (t : ℕ) (pieces : Pieces) (g : Numbers) (own i : ℕ) (triples wires published : List ℕ)
+pub record GateReady (t : ℕ) (pieces : Pieces) (g : Gate) (own i : ℕ) (triples wires published : List ℕ)
     : Type 0 where
   pub free : FreeReady t pieces.wires g own wires
   pub known : g.kind < kind_count
@@ -68,27 +63,27 @@ pub record GateReady (t : ℕ) (pieces : Pieces) (g : Numbers) (own i : ℕ) (tr
   pub published_length : length published ≡ t * pieces.published
 
 -- What trustee p publishes for the i-th conditional gate: both factors, masked.
-abbrev pub both_masked : Pieces → Numbers → ℕ → List ℕ → List ℕ → ℕ → List ℕ
+abbrev pub both_masked : Pieces → Gate → ℕ → List ℕ → List ℕ → ℕ → List ℕ
 both_masked pieces g i triples wires p =
-    masked_first (piece pieces.wires wires p) (piece pieces.triples triples p) i (gate_of_numbers g)
-    ∷ masked_second (piece pieces.wires wires p) (piece pieces.triples triples p) i (gate_of_numbers g)
+    masked_first (piece pieces.wires wires p) (piece pieces.triples triples p) i g
+    ∷ masked_second (piece pieces.wires wires p) (piece pieces.triples triples p) i g
     ∷ []
 
 -- After all trustees have published for a gate: the opened sums, and the table with the published bits.
-pub record Published (t : ℕ) (pieces : Pieces) (g : Numbers) (i : ℕ) (triples wires old : List ℕ) (r : Opened)
+pub record Published (t : ℕ) (pieces : Pieces) (g : Gate) (i : ℕ) (triples wires old : List ℕ) (r : Opened)
     (new : List ℕ) : Type 0 where
   pub first : r.first
-      ≡ opened_first t (piece pieces.triples triples) (piece pieces.wires wires) i (gate_of_numbers g)
+      ≡ opened_first t (piece pieces.triples triples) (piece pieces.wires wires) i g
   pub second : r.second
-      ≡ opened_second t (piece pieces.triples triples) (piece pieces.wires wires) i (gate_of_numbers g)
+      ≡ opened_second t (piece pieces.triples triples) (piece pieces.wires wires) i g
   pub shown : new ≡ each_puts t pieces.published (2 * i) (λ p. both_masked pieces g i triples wires p) old
 
 -- After one gate: the number of conditional gates so far, each trustee's part of the gate's wire, and what was
 -- published.
-pub record GateRan (t : ℕ) (pieces : Pieces) (g : Numbers) (own i : ℕ) (triples wires old : List ℕ) (r : ℕ)
+pub record GateRan (t : ℕ) (pieces : Pieces) (g : Gate) (own i : ℕ) (triples wires old : List ℕ) (r : ℕ)
     (wires' new : List ℕ) : Type 0 where
-  pub next : r ≡ i + mark_of (gate_of_numbers g)
+  pub next : r ≡ i + mark_of g
   pub parts : wires' ≡ each_puts t pieces.wires own
-      (λ p. new_part t (piece pieces.triples triples) (piece pieces.wires wires) i (gate_of_numbers g) p ∷ []) wires
+      (λ p. new_part t (piece pieces.triples triples) (piece pieces.wires wires) i g p ∷ []) wires
   pub shown : new ≡ cond (conditional_of g.kind)
       (each_puts t pieces.published (2 * i) (λ p. both_masked pieces g i triples wires p) old) old

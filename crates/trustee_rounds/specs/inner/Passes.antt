@@ -1,10 +1,9 @@
 -- What inner functions require and leave; no entry point's contract needs it.
 use Rattle.std.specs.Prelude.{◌≡◌, true, List, ℕ, ◌+◌, ◌*◌, ◌≤◌, ◌<◌, length, None}
 use Rattle.gates.specs.Kind.{conditional_of, kind_count}
-use Rattle.gates.specs.Gate.{gates_of}
+use Rattle.gates.specs.Gate.{Gate, gates_of}
 use Rattle.gates.specs.Board.{conditional_count}
 use Rattle.gates.specs.Test.{first_bad}
-use Rattle.trustee_gates.specs.declared.gate.Numbers.{Numbers}
 use Rattle.trustee_rounds.specs.declared.round.Seat.{Seat}
 use Rattle.trustee_rounds.specs.Rounds.{Turn, enters, publishes, closes}
 
@@ -21,23 +20,23 @@ turn_by seat levels triples heard = record {
 }
 
 -- The operands are in the wire table.
-pub record GateIn (g : Numbers) (ws : List ℕ) : Type 0 where
+pub record GateIn (g : Gate) (ws : List ℕ) : Type 0 where
   pub a_in : g.a < length ws
   pub b_in : g.b < length ws
   pub c_in : g.c < length ws
 
 -- The same and, if the gate is conditional, its triple and its two sums are in their tables.
-pub record PartReady (g : Numbers) (i : ℕ) (triples heard ws : List ℕ) : Type 0 where
+pub record PartReady (g : Gate) (i : ℕ) (triples heard ws : List ℕ) : Type 0 where
   pub operands : GateIn g ws
   pub known : g.kind < kind_count
   pub triple_in : conditional_of g.kind ≡ true → 3 * i + 2 < length triples
   pub sums_in : conditional_of g.kind ≡ true → 2 * i + 1 < length heard
 
-pub record EnterReady (g : Numbers) (own i : ℕ) (triples heard ws : List ℕ) : Type 0 where
+pub record EnterReady (g : Gate) (own i : ℕ) (triples heard ws : List ℕ) : Type 0 where
   pub ready : PartReady g i triples heard ws
   pub own_in : own < length ws
 
-pub record PublishReady (g : Numbers) (i : ℕ) (triples ws published : List ℕ) : Type 0 where
+pub record PublishReady (g : Gate) (i : ℕ) (triples ws published : List ℕ) : Type 0 where
   pub operands : GateIn g ws
   pub triple_in : conditional_of g.kind ≡ true → 3 * i + 2 < length triples
   pub places_in : conditional_of g.kind ≡ true → 2 * i + 1 < length published

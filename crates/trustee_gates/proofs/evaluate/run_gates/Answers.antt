@@ -26,8 +26,8 @@ run_gate-i-requires c =
       gate = gate_ready a.t a.inputs a.pieces a.table.now a.triples.now _ _ r.wires_size r.few
           r.triples_size r.published_size r.some_input r.triples_length l.wires l.published l.i
           l.g l.invariant
-          (omega (arith, length_gates a.table.now, c.loop-g-test.true)) c.numbers_at-numbers.result
-          c.numbers_at-numbers.ensures;
+          (omega (arith, length_gates a.table.now, c.loop-g-test.true)) c.at-gate.result
+          c.at-gate.ensures;
     }
 
 pub loop-g-preserved : goal.loop-g-preserved
@@ -38,8 +38,8 @@ loop-g-preserved c =
     turn_by a.t a.inputs a.pieces a.table.now a.triples.now _ _ r.wires_size r.few
     r.triples_size r.published_size r.some_input r.triples_length l.wires l.published l.i l.g
     l.invariant
-    (omega (arith, length_gates a.table.now, c.loop-g-test.true)) c.numbers_at-numbers.result
-    c.numbers_at-numbers.ensures _ _ _ _ c.run_gate-i.ensures.next c.run_gate-i.ensures.parts
+    (omega (arith, length_gates a.table.now, c.loop-g-test.true)) c.at-gate.result
+    c.at-gate.ensures _ _ _ _ c.run_gate-i.ensures.next c.run_gate-i.ensures.parts
     c.run_gate-i.ensures.shown (add-one l.g)
 
 pub returns : goal.returns

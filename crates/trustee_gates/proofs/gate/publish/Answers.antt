@@ -9,7 +9,6 @@ use native.Mathlib.Omega.{arith}
 use Rattle.trustee_shares.specs.Shares.{opened, masked_first, masked_second, opened_first, opened_second}
 use Rattle.trustee_shares.specs.Views.{piece}
 use Rattle.trustee_gates.specs.inner.Tables.{each_puts}
-use Rattle.trustee_gates.specs.inner.Gate.{gate_of_numbers}
 use Rattle.trustee_gates.proofs.Puts.{puts_two}
 use Rattle.trustee_gates.proofs.Parity.{opened_more, opened_none}
 use Rattle.trustee_gates.proofs.gate.publish.Goals as goal
@@ -24,9 +23,9 @@ loop-p-preserved c =
     let p = c.loop-p.p in
     let before = c.loop-p.invariant in
     let f : ℕ → ℕ = λ q. masked_first (piece a.pieces.wires a.wires.now q) (piece a.pieces.triples a.triples.now q) a.i
-    (gate_of_numbers a.gate) in
+    a.gate in
     let g : ℕ → ℕ = λ q. masked_second (piece a.pieces.wires a.wires.now q) (piece a.pieces.triples a.triples.now q) a.i
-    (gate_of_numbers a.gate) in
+    a.gate in
     record {
       shown = puts_two f g c.loop-p.published a.published.now p a.pieces.published (2 * a.i) c.masked_first-x.result
           c.masked_second-y.result before.shown c.masked_first-x.ensures c.masked_second-y.ensures;
@@ -41,9 +40,9 @@ unfolding opened_first opened_second
 returns c =
     let a = c.args in
     let f : ℕ → ℕ = λ q. masked_first (piece a.pieces.wires a.wires.now q) (piece a.pieces.triples a.triples.now q) a.i
-    (gate_of_numbers a.gate) in
+    a.gate in
     let g : ℕ → ℕ = λ q. masked_second (piece a.pieces.wires a.wires.now q) (piece a.pieces.triples a.triples.now q) a.i
-    (gate_of_numbers a.gate) in
+    a.gate in
     let e : c.loop-p.p ≡ a.t = omega arith in
     record {
       first = c.loop-p.invariant.first ∙ ap (λ (n : ℕ). opened n f) e;

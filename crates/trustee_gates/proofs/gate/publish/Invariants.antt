@@ -7,17 +7,16 @@ use Prim.Native.Nat.{◌*◌}
 use Rattle.trustee_shares.specs.Shares.{opened, masked_first, masked_second}
 use Rattle.trustee_shares.specs.Views.{piece}
 use Rattle.trustee_gates.specs.inner.Tables.{each_puts}
-use Rattle.trustee_gates.specs.inner.Gate.{gate_of_numbers}
 use Rattle.trustee_gates.proofs.gate.publish.Given as goal
 
 abbrev pub invariant-loop-p : goal.invariant-loop-p
 invariant-loop-p l = record {
   shown : l.published ≡ each_puts l.p l.pieces.published (2 * l.i)
-      (λ q. masked_first (piece l.pieces.wires l.wires q) (piece l.pieces.triples l.triples q) l.i (gate_of_numbers l.gate)
-      ∷ masked_second (piece l.pieces.wires l.wires q) (piece l.pieces.triples l.triples q) l.i (gate_of_numbers l.gate)
+      (λ q. masked_first (piece l.pieces.wires l.wires q) (piece l.pieces.triples l.triples q) l.i l.gate
+      ∷ masked_second (piece l.pieces.wires l.wires q) (piece l.pieces.triples l.triples q) l.i l.gate
       ∷ []) l.initial.published;
   first : l.first ≡ opened l.p
-      (λ q. masked_first (piece l.pieces.wires l.wires q) (piece l.pieces.triples l.triples q) l.i (gate_of_numbers l.gate));
+      (λ q. masked_first (piece l.pieces.wires l.wires q) (piece l.pieces.triples l.triples q) l.i l.gate);
   second : l.second ≡ opened l.p
-      (λ q. masked_second (piece l.pieces.wires l.wires q) (piece l.pieces.triples l.triples q) l.i (gate_of_numbers l.gate));
+      (λ q. masked_second (piece l.pieces.wires l.wires q) (piece l.pieces.triples l.triples q) l.i l.gate);
 }

@@ -11,7 +11,6 @@ use Rattle.trustee_shares.specs.Shares.{masked_first, masked_second}
 use Rattle.trustee_shares.specs.Views.{piece}
 use Rattle.trustee_shares.proofs.Accuracy.{mark_one}
 use Rattle.trustee_gates.specs.inner.Tables.{each_puts}
-use Rattle.trustee_gates.specs.inner.Gate.{gate_of_numbers}
 use Rattle.trustee_gates.proofs.Entering.{products_entered, free_entered}
 use Rattle.trustee_shares.proofs.Publishing.{mark_none}
 use Rattle.trustee_gates.proofs.gate.run_gate.Goals as goal
@@ -29,12 +28,12 @@ returns-then-conditional c = let a = c.args in
     let X : Bool → List ℕ = λ b. cond b
     (each_puts a.t a.pieces.published (2 * a.i)
     (λ p. masked_first (piece a.pieces.wires a.wires.now p) (piece a.pieces.triples a.triples.now p)
-    a.i (gate_of_numbers a.gate) ∷ masked_second (piece a.pieces.wires a.wires.now p)
-    (piece a.pieces.triples a.triples.now p) a.i (gate_of_numbers a.gate) ∷ []) a.published.now)
+    a.i a.gate ∷ masked_second (piece a.pieces.wires a.wires.now p)
+    (piece a.pieces.triples a.triples.now p) a.i a.gate ∷ []) a.published.now)
     a.published.now in
     record {
-      next = sym (ap (λ (n : ℕ). a.i + n) (mark_one (gate_of_numbers a.gate) is));
-      parts = products_entered a.t a.pieces.wires a.own a.i (gate_of_numbers a.gate)
+      next = sym (ap (λ (n : ℕ). a.i + n) (mark_one a.gate is));
+      parts = products_entered a.t a.pieces.wires a.own a.i a.gate
           (piece a.pieces.triples a.triples.now) a.wires.now _ _ _ c.publish-opened.ensures.first
           c.publish-opened.ensures.second c.enter_products.ensures;
       shown = c.publish-opened.ensures.shown ∙ sym (ap X is);
@@ -46,12 +45,12 @@ returns c = let a = c.args in
     let X : Bool → List ℕ = λ b. cond b
     (each_puts a.t a.pieces.published (2 * a.i)
     (λ p. masked_first (piece a.pieces.wires a.wires.now p) (piece a.pieces.triples a.triples.now p)
-    a.i (gate_of_numbers a.gate) ∷ masked_second (piece a.pieces.wires a.wires.now p)
-    (piece a.pieces.triples a.triples.now p) a.i (gate_of_numbers a.gate) ∷ []) a.published.now)
+    a.i a.gate ∷ masked_second (piece a.pieces.wires a.wires.now p)
+    (piece a.pieces.triples a.triples.now p) a.i a.gate ∷ []) a.published.now)
     a.published.now in
     record {
-      next = omega (arith, mark_none (gate_of_numbers a.gate) is);
-      parts = free_entered a.t a.pieces.wires a.own a.i (gate_of_numbers a.gate)
+      next = omega (arith, mark_none a.gate is);
+      parts = free_entered a.t a.pieces.wires a.own a.i a.gate
           (piece a.pieces.triples a.triples.now) a.wires.now _ c.requires.gate.known is
           c.enter_free.ensures;
       shown = sym (ap X is);

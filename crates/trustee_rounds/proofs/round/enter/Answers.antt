@@ -24,8 +24,8 @@ loop-g-init c = let a = c.args in
     }) a.table.now a.wires.now
     c.requires.pass.good c.requires.pass.wires_length
 
-pub numbers_at-gate-requires : goal.numbers_at-gate-requires
-numbers_at-gate-requires c = let l = c.loop-g in
+pub at-gate-requires : goal.at-gate-requires
+at-gate-requires c = let l = c.loop-g in
     let a = c.args in
     let r = c.requires.pass in
     omega (arith, r.levels_length, length_gates a.table.now, c.loop-g-test.true)
@@ -34,7 +34,7 @@ pub enter_gate-requires : goal.enter_gate-requires
 enter_gate-requires c = let l = c.loop-g in
     let a = c.args in
     let r = c.requires.pass in
-    let n = c.numbers_at-gate in
+    let n = c.at-gate in
     let h = c.loop-g-test.true in
     let inside : l.g < length (gates_of a.table.now) = omega (arith, r.levels_length) in
     record {
@@ -51,7 +51,7 @@ pub loop-g-preserved : goal.loop-g-preserved
 loop-g-preserved c = let l = c.loop-g in
     let a = c.args in
     let r = c.requires.pass in
-    let n = c.numbers_at-gate in
+    let n = c.at-gate in
     let h = c.loop-g-test.true in
     let inside : l.g < length (gates_of a.table.now) = omega (arith, r.levels_length) in
     enter_turn (record {

@@ -24,8 +24,8 @@ loop-g-init c = let a = c.args in
       heard = hs;
     }) a.table.now a.wires.now a.published.now c.requires.pass.good
 
-pub numbers_at-gate-requires : goal.numbers_at-gate-requires
-numbers_at-gate-requires c = let l = c.loop-g in
+pub at-gate-requires : goal.at-gate-requires
+at-gate-requires c = let l = c.loop-g in
     let a = c.args in
     let r = c.requires.pass in
     omega (arith, r.levels_length, length_gates a.table.now, c.loop-g-test.true)
@@ -34,7 +34,7 @@ pub publish_gate-requires : goal.publish_gate-requires
 publish_gate-requires c = let l = c.loop-g in
     let a = c.args in
     let r = c.requires.pass in
-    let n = c.numbers_at-gate in
+    let n = c.at-gate in
     let h = c.loop-g-test.true in
     let inside : l.g < length (gates_of a.table.now) = omega (arith, r.levels_length) in
     let inv = l.invariant 0 [] in
@@ -49,7 +49,7 @@ pub overflow_add-i : goal.overflow_add-i
 overflow_add-i c = let l = c.loop-g in
     let a = c.args in
     let r = c.requires.pass in
-    let n = c.numbers_at-gate in
+    let n = c.at-gate in
     let h = c.loop-g-test.true in
     let inside : l.g < length (gates_of a.table.now) = omega (arith, r.levels_length) in
     omega (
@@ -64,7 +64,7 @@ pub loop-g-preserved : goal.loop-g-preserved
 loop-g-preserved c = let l = c.loop-g in
     let a = c.args in
     let r = c.requires.pass in
-    let n = c.numbers_at-gate in
+    let n = c.at-gate in
     let h = c.loop-g-test.true in
     let inside : l.g < length (gates_of a.table.now) = omega (arith, r.levels_length) in
     λ q hs.
