@@ -1,7 +1,5 @@
 // The evaluation of a whole list by trustees. Nothing here is an entry point: the callers' tests establish what a
 // `requires` asks.
-ghost use Rattle.std.specs.Prelude.{◌≡◌, ◌+◌, ◌*◌, ◌<◌, length};
-ghost use Rattle.gates.specs.Gate.{gate_at};
 ghost use Rattle.trustee_gates.specs.inner.Evaluate.{RunReady, EvaluateReady, GatesRan, Evaluated};
 
 use crate::gate::Pieces;
