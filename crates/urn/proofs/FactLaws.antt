@@ -26,6 +26,7 @@ use Rattle.urn_chains.proofs.Lists.{all_append, eqb_sym}
 use Rattle.urn_chains.proofs.Marks.{true_or_false}
 use Rattle.urn_chains.proofs.SoundLaws.{parts_found, jurors_of_entries}
 use Rattle.urn_chains.proofs.SoundLayouts.{its_urn_length, its_parts, its_length}
+use Rattle.urn_chains.proofs.SlotLaws.{size_least}
 use Rattle.urn_chains.proofs.SlotTests.{table, few_bytes, slots_by_bytes, free_by_bytes, count_by_bytes}
 
 -- what a place says is not lost
@@ -71,6 +72,12 @@ empty_chain (suc n) (suc i) S h = sym (eqb-suc-zero i)
 module _ (k d : ℕ) (urn : List ℕ) (w : T (graded_limits (jury_of_one k d))) (e : sound k d urn ≡ true) where
   pub its_table : SlotTable (k * d) (slot_count (k * d) (length urn)) urn
   its_table = table (k * d) urn (slot_count (k * d) (length urn)) (few_bytes k d w) (its_urn_length k d urn e) refl
+
+  -- such an urn has at least two slots
+  pub its_long : 4 ≤ length urn
+  its_long =
+      let n = slot_count (k * d) (length urn) in
+      omega (arith, its_table.size, size_least (k * d) n its_table.least)
 
   pub can_find : all (in_urn (slot_count (k * d) (length urn)))
       (chain (slot_count (k * d) (length urn)) (get_or urn 0 0) (slots_of (k * d) (slot_count (k * d) (length urn)) urn))

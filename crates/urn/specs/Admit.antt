@@ -24,7 +24,8 @@ admit_reason_numbers = 1 ∷ 13 ∷ 14 ∷ 4 ∷ 5 ∷ 6 ∷ 15 ∷ []
 
 -- The answer, given the facts about the urn: a reason, or the new number of ballots.
 unfoldable pub admit_outcome_by : ℕ → ℕ → UrnFacts → ℕ → List ℕ → Outcome ℕ
-admit_outcome_by k d facts juror ballot = outcome (first_of (admit_reasons k d facts juror ballot)) (ballots_in facts + 1)
+admit_outcome_by k d facts juror ballot =
+    outcome (first_of (admit_reasons k d facts juror ballot)) (ballots_in facts + 1)
 
 -- The answer of an admission, and of its preview.
 abbrev pub admit_outcome : ℕ → ℕ → List ℕ → ℕ → List ℕ → Outcome ℕ

@@ -31,8 +31,8 @@ pub fn slots_in(bytes: usize, length: usize) -> usize
     slots
 }
 
-// Tests slot 0 and both chains of an urn of the right length, and answers how many ballots a sound one has. No slot is in both chains; so if the chains together
-// have as many slots as there are from 1 on, none is left out.
+// Tests slot 0 and both chains of an urn of the right length, and answers how many ballots a sound one has. No slot
+// is in both chains; so if the chains together have as many slots as there are from 1 on, none is left out.
 fn test_slots(k: usize, d: usize, urn: &[u8], slots: usize) -> Option<usize>
     requires { GradedTable k d slots urn.now }
     ensures { result ≡ soundness (sound_slots k d (slots_of (k * d) slots urn.now))

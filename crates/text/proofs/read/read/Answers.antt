@@ -82,14 +82,19 @@ returns-then-lines-gt-MOST_GATES c = let a = c.args in
     (enough (goal.at.returns-then-lines-gt-MOST_GATES c).Else-lines-shape) (omega (arith, c.line_count-lines.ensures, c.if-lines-gt-MOST_GATES.true))))
 
 pub first_bad-requires : goal.first_bad-requires
-first_bad-requires c = record { some = inputs_some (goal.at.first_bad-requires c).After-ballot_bytes; few = inputs_few (goal.at.first_bad-requires c).After-ballot_bytes; formed = gates_all (goal.at.first_bad-requires c).In_default }
+first_bad-requires c = record {
+  some = inputs_some (goal.at.first_bad-requires c).After-ballot_bytes;
+  few = inputs_few (goal.at.first_bad-requires c).After-ballot_bytes;
+  formed = gates_all (goal.at.first_bad-requires c).In_default;
+}
 
 pub returns-then-output-lines : goal.returns-then-output-lines
 unfolding length_outcome text_reason_of
 returns-then-output-lines c = let a = c.args in
     same_text (read_refused a.shape a.text.now a.output.now (reason_at 24 0)
     (numbers_short a.shape a.text.now a.output.now (limits (goal.at.returns-then-output-lines c).Else-not-is_within_limits)
-    (enough (goal.at.returns-then-output-lines c).Else-lines-shape) (few (goal.at.returns-then-output-lines c).Else-lines-gt-MOST_GATES) (gates_all (goal.at.returns-then-output-lines c).In_default)
+    (enough (goal.at.returns-then-output-lines c).Else-lines-shape)
+    (few (goal.at.returns-then-output-lines c).Else-lines-gt-MOST_GATES) (gates_all (goal.at.returns-then-output-lines c).In_default)
     (gates_good (goal.at.returns-then-output-lines c).In_default-first_bad) (omega (arith, c.line_count-lines.ensures, c.if-output-lines.true))))
 
 -- the numbers have room
@@ -133,5 +138,6 @@ returns-in-Some-first_bad c =
     let a = c.args in
     same_text (read_refused a.shape a.text.now a.output.now (reason_at 3 c.in-Some-first_bad.g)
     (bad_gate a.shape a.text.now a.output.now (limits (goal.at.returns-in-Some-first_bad c).Else-not-is_within_limits)
-    (enough (goal.at.returns-in-Some-first_bad c).Else-lines-shape) (few (goal.at.returns-in-Some-first_bad c).Else-lines-gt-MOST_GATES) (gates_all (goal.at.returns-in-Some-first_bad c).In_default)
+    (enough (goal.at.returns-in-Some-first_bad c).Else-lines-shape)
+    (few (goal.at.returns-in-Some-first_bad c).Else-lines-gt-MOST_GATES) (gates_all (goal.at.returns-in-Some-first_bad c).In_default)
     c.in-Some-first_bad.g (tested (goal.at.returns-in-Some-first_bad c).After-first_bad ∙ c.in-Some-first_bad.is)))

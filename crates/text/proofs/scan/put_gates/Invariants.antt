@@ -11,7 +11,8 @@ use Rattle.text.specs.Text.{lines_of, first_malformed, gates_in}
 use Rattle.text.proofs.scan.put_gates.Given as goal
 
 abbrev pub invariant-loop-at : goal.invariant-loop-at
-invariant-loop-at l = (l.at ≤ length l.text) × (first_malformed 0 (lines_of (drop l.at l.text)) ≡ None) × (l.i + 4 * length (lines_of (drop l.at l.text)) ≤ length l.output)
+invariant-loop-at l = (l.at ≤ length l.text) × (first_malformed 0 (lines_of (drop l.at l.text)) ≡ None)
+    × (l.i + 4 * length (lines_of (drop l.at l.text)) ≤ length l.output)
     × (length l.output ≡ length l.initial.output)
     × (sets l.output l.i (numbers_of (gates_in (lines_of (drop l.at l.text))))
     ≡ sets l.initial.output 0 (numbers_of (gates_in (lines_of l.text))))

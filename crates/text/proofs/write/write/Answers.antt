@@ -15,7 +15,7 @@ use Rattle.text.specs.Text.{text_of}
 use Rattle.text.specs.Answer.{text_reason_of, length_outcome}
 use Rattle.text.proofs.Storing.{sets_front}
 use Rattle.text.proofs.Reasons.{same_text, text_of_list, text_short, text_good, text_refused, text_accepted}
-use Rattle.std.proofs.lemmas.Result.{err_from_is_err_and}
+use Rattle.tally.proofs.Exits.{exit}
 use Rattle.text.proofs.write.write.Goals as goal
 use Rattle.text.proofs.write.write.Goals.{Else-output-length}
 
@@ -53,7 +53,7 @@ pub returns-in_err-test : goal.returns-in_err-test
 unfolding length_outcome text_reason_of outcome_of
 returns-in_err-test c =
     let a = c.args in
-    let p = err_from_is_err_and c.from_residual.result c.from_residual.ensures.1 in
+    let p = exit c.from_residual.result c.from_residual.ensures in
     let r = reason_of c.in_err-test.field-0.0 in
     rw (p.1, p.2) (same_text (text_refused a.shape a.table.now a.output.now r
     (text_of_list a.shape a.table.now a.output.now r (sym c.in_err-test.ensures))))

@@ -7,10 +7,17 @@ use native.Mathlib.Omega.{arith}
 use Rattle.text_lines.proofs.print.put_line.Goals as goal
 
 pub put-kind_end-requires : goal.put-kind_end-requires
-put-kind_end-requires c = omega (arith, line_long c.operands-count.result (record { kind = c.args.kind; a = c.args.a; b = c.args.b; c = c.args.c }) c.operands-count.ensures)
+put-kind_end-requires c = omega (
+  arith,
+  line_long c.operands-count.result (record { kind = c.args.kind; a = c.args.a; b = c.args.b; c = c.args.c }) c.operands-count.ensures,
+)
 
 pub put_operand-a_end-requires : goal.put_operand-a_end-requires
-put_operand-a_end-requires c = omega (arith, stored_long c.put-kind_end.ensures, line_long c.operands-count.result (record { kind = c.args.kind; a = c.args.a; b = c.args.b; c = c.args.c }) c.operands-count.ensures)
+put_operand-a_end-requires c = omega (
+  arith,
+  stored_long c.put-kind_end.ensures,
+  line_long c.operands-count.result (record { kind = c.args.kind; a = c.args.a; b = c.args.b; c = c.args.c }) c.operands-count.ensures,
+)
 
 pub put_operand-b_end-requires : goal.put_operand-b_end-requires
 put_operand-b_end-requires c = omega (

@@ -8,7 +8,7 @@ use Rattle.urn.specs.Facts.{facts_of, present_in, counted_by}
 use Rattle.urn.specs.Admit.{admit_outcome_by, admitted}
 use Rattle.urn_chains.proofs.BytesLaws.{good_length}
 use Rattle.urn.proofs.FactLaws.{facts_sound, facts_free}
-use Rattle.std.proofs.lemmas.Result.{err_from_is_err_and}
+use Rattle.tally.proofs.Exits.{exit}
 use Rattle.urn.proofs.Outcomes.{both_parts, admissible, accepted_none, refused_kept, none_new}
 use Rattle.urn.proofs.admit.admit.Goals as goal
 
@@ -30,7 +30,7 @@ put_ballot-requires c =
 pub returns-in_err-ballots : goal.returns-in_err-ballots
 unfolding admitted admit_outcome_by counted_by
 returns-in_err-ballots c =
-    let p = err_from_is_err_and c.from_residual.result c.from_residual.ensures.1 in
+    let p = exit c.from_residual.result c.from_residual.ensures in
     let answered = c.in_err-ballots.ensures in
     rw (p.1, p.2) (both_parts answered (sym (refused_kept _ _ _ _ _ (sym answered))))
 

@@ -10,7 +10,7 @@ use Rattle.jury.proofs.Limits.{graded_T}
 use Rattle.urn_chains.specs.Sound.{jury_of_one, good_juror}
 use Rattle.urn.specs.Facts.{counted_by}
 use Rattle.urn.specs.Admit.{admit_outcome_by}
-use Rattle.std.proofs.lemmas.Result.{err_from_is_err_and}
+use Rattle.tally.proofs.Exits.{exit}
 use Rattle.urn.proofs.Outcomes.{admit_first_lem, admit_14, admit_ballot, admit_15, admit_none, outcome_refused, outcome_accepted, juror_present, juror_absent}
 use Rattle.basics.proofs.Flags.{and_first_fails}
 use Rattle.urn.proofs.admit.decide.Goals as goal
@@ -39,7 +39,7 @@ pub returns-in_err-test : goal.returns-in_err-test
 unfolding admit_outcome_by counted_by jury_of_one refused_for
 returns-in_err-test c =
     let a = c.args in
-    let p = err_from_is_err_and c.from_residual.result c.from_residual.ensures.1 in
+    let p = exit c.from_residual.result c.from_residual.ensures in
     rw (p.1, p.2) (outcome_refused _ _ _ (admit_first_lem a.k a.d (Some a.facts) a.juror a.ballot.now
     ∙ admit_ballot _ _ _ _ _ _ (T_true _ c.requires.graded) refl
     (juror_absent (good_juror a.juror) a.facts.present

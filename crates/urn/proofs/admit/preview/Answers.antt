@@ -4,7 +4,7 @@ use mathlib.Core.Path.{◌∙◌, sym, ap}
 use Rattle.jury.specs.Reason.{reason_of}
 use Rattle.urn.specs.Facts.{facts_of, sound_in, counted_by}
 use Rattle.urn.specs.Admit.{admit_outcome_by}
-use Rattle.std.proofs.lemmas.Result.{err_from_is_err_and}
+use Rattle.tally.proofs.Exits.{exit}
 use Rattle.urn.proofs.FactLaws.{not_looked}
 use Rattle.urn.proofs.Outcomes.{admit_first_lem, admit_1, admit_13, outcome_refused}
 use Rattle.urn.proofs.admit.preview.Goals as goal
@@ -19,7 +19,7 @@ pub returns-in_err-looked : goal.returns-in_err-looked
 unfolding admit_outcome_by counted_by reason_of
 returns-in_err-looked c =
     let a = c.args in
-    let p = err_from_is_err_and c.from_residual.result c.from_residual.ensures.1 in
+    let p = exit c.from_residual.result c.from_residual.ensures in
     let n = not_looked _ _ _ c.in_err-looked.ensures.value in
     let unsound = rw n.1 at c.check.ensures in
     rw (p.1, p.2, n.0) (outcome_refused _ _ _ (admit_first_lem a.k a.d (facts_of a.k a.d a.urn.now a.juror) a.juror a.ballot.now

@@ -4,21 +4,12 @@ use mathlib.Core.Path.{◌≡◌, ◌∙◌, ap}
 use Prim.Native.Nat.{ℕ, ◌+◌, ◌*◌, ◌≤◌}
 use mathlib.Core.List.{◌∷◌, ◌++◌}
 use lib.ListN.{length, get_or, set, take, drop}
-use Rattle.urn_chains.specs.Sound.{slot_count}
-use Rattle.urn_chains.proofs.SlotLaws.{size_least}
 use Rattle.urn_chains.proofs.GoodBallots.{juror_most}
-use Rattle.urn.proofs.FactLaws.{its_table}
+use Rattle.urn.proofs.FactLaws.{its_long}
 use Rattle.urn.proofs.AdmittedBytes.{free_inside, admit_bytes}
 use native.Mathlib.Omega.{arith}
 use Rattle.urn.proofs.admit.put_ballot.Goals as goal
 use Rattle.urn.proofs.admit.put_ballot.Goals.{After-from, Start}
-
--- the urn has at least two slots
-long : (s : Start) → 4 ≤ length s.args.urn.now
-long s =
-    let a = s.args in
-    let t = its_table a.k a.d a.urn.now (s.requires.graded) s.requires.is_sound in
-    omega (arith, t.size, size_least (a.k * a.d) (slot_count (a.k * a.d) (length a.urn.now)) t.least)
 
 inside : (s : Start) → get_or s.args.urn.now 1 0 * (2 + s.args.k * s.args.d)
     + (2 + s.args.k * s.args.d) ≤ length s.args.urn.now
@@ -33,11 +24,11 @@ placed : (c : After-from) →
 placed c = let a = c.args in ap (λ (m : ℕ). m * (2 + a.k * a.d)) c.from.ensures
 
 pub bounds-urn-0 : goal.bounds-urn-0
-bounds-urn-0 c = let l = long (goal.at.bounds-urn-0 c).Start in
+bounds-urn-0 c = let l = its_long c.args.k c.args.d c.args.urn.now c.requires.graded c.requires.is_sound in
     omega arith
 
 pub bounds-urn-1 : goal.bounds-urn-1
-bounds-urn-1 c = let l = long (goal.at.bounds-urn-1 c).Start in
+bounds-urn-1 c = let l = its_long c.args.k c.args.d c.args.urn.now c.requires.graded c.requires.is_sound in
     omega arith
 
 pub overflow_mul-at : goal.overflow_mul-at

@@ -1,16 +1,15 @@
 -- `urn::facts::check` meets its contract: the facts are the definition's for what the test and the search found.
 -- Assumes nothing.
 use mathlib.Core.Path.{◌∙◌, sym, ap}
-use Prim.Native.Nat.{◌*◌, ◌<◌}
+use Prim.Native.Nat.{◌<◌}
 use lib.ListN.{length}
 use Rattle.std.specs.Prelude.{is_some}
 use Rattle.basics.specs.Lists.{member}
 use Rattle.urn_chains.specs.Slots.{slot_bytes}
 use Rattle.urn_chains.specs.Sound.{slot_count, urn_slots}
-use Rattle.urn_chains.proofs.SlotLaws.{size_least}
 use Rattle.urn_chains.proofs.SlotTests.{few_bytes, soundness_sound, soundness_unsound}
 use Rattle.urn.specs.inner.Position.{position_in}
-use Rattle.urn.proofs.FactLaws.{link_found, its_table, can_find, jurors_are, full_is, few_ballots, facts_are, no_facts, same_facts}
+use Rattle.urn.proofs.FactLaws.{link_found, its_table, its_long, can_find, jurors_are, full_is, few_ballots, facts_are, no_facts, same_facts}
 use native.Mathlib.Omega.{arith}
 use Rattle.urn.proofs.facts.check.Goals as goal
 
@@ -26,17 +25,16 @@ overflow_add-slots c = omega (arith, few_bytes c.args.k c.args.d c.requires)
 pub bounds-urn-1 : goal.bounds-urn-1
 bounds-urn-1 c =
     let a = c.args in
-    let t = its_table a.k a.d a.urn.now c.requires (soundness_sound _ _ _ (sym c.in_ok-ballots.ensures)).0 in
-    let l : 1 < length a.urn.now =
-    omega (arith, t.size, size_least (a.k * a.d) (slot_count (a.k * a.d) (length a.urn.now)) t.least) in
+    let s = soundness_sound _ _ _ (sym c.in_ok-ballots.ensures) in
+    let l : 1 < length a.urn.now = omega (arith, its_long a.k a.d a.urn.now c.requires s.0) in
     l
 
 pub find-position-requires : goal.find-position-requires
 unfolding slot_count slot_bytes
 find-position-requires c =
     let a = c.args in
-    let e = (soundness_sound _ _ _ (sym c.in_ok-ballots.ensures)).0 in
-    record { table = its_table a.k a.d a.urn.now c.requires e; inside = can_find a.k a.d a.urn.now c.requires e }
+    let s = soundness_sound _ _ _ (sym c.in_ok-ballots.ensures) in
+    record { table = its_table a.k a.d a.urn.now c.requires s.0; inside = can_find a.k a.d a.urn.now c.requires s.0 }
 
 pub returns : goal.returns
 unfolding position_in urn_slots slot_count slot_bytes

@@ -11,9 +11,8 @@ use Rattle.urn_chains.specs.Chains.{chain}
 use Rattle.urn_chains.specs.Sound.{jury_of_one, slot_count, urn_slots}
 use Rattle.urn.specs.inner.Position.{position_in}
 use Rattle.urn_chains.specs.inner.Position.{placed_at, position_of}
-use Rattle.urn_chains.proofs.SlotLaws.{size_least}
 use Rattle.urn_chains.proofs.SlotTests.{few_bytes}
-use Rattle.urn.proofs.FactLaws.{its_table}
+use Rattle.urn.proofs.FactLaws.{its_table, its_long}
 use Rattle.urn.proofs.WithdrawnBytes.{take_zeros, slot_below, slot_inside, link_inside, withdraw_bytes}
 use native.Mathlib.Omega.{arith}
 use Rattle.urn.proofs.withdraw.take_ballot.Goals as goal
@@ -21,13 +20,6 @@ use Rattle.urn.proofs.withdraw.take_ballot.Goals.{Start}
 
 limits : (s : Start) → T (graded_limits (jury_of_one s.args.k s.args.d))
 limits s = s.requires.graded
-
--- the urn has at least two slots
-long : (s : Start) → 4 ≤ length s.args.urn.now
-long s =
-    let a = s.args in
-    let t = its_table a.k a.d a.urn.now (limits s) s.requires.is_sound in
-    omega (arith, t.size, size_least (a.k * a.d) (slot_count (a.k * a.d) (length a.urn.now)) t.least)
 
 small : (s : Start) → s.args.k * s.args.d ≤ most_candidates * most_grades
 small s = few_bytes s.args.k s.args.d (limits s)
@@ -69,7 +61,7 @@ pub overflow_mul-at : goal.overflow_mul-at
 overflow_mul-at c = omega (arith, at_inside (goal.at.overflow_mul-at c).Start)
 
 pub bounds-urn-1 : goal.bounds-urn-1
-bounds-urn-1 c = let l = long (goal.at.bounds-urn-1 c).Start in
+bounds-urn-1 c = let l = its_long c.args.k c.args.d c.args.urn.now c.requires.graded c.requires.is_sound in
     omega arith
 
 pub bounds-urn-at : goal.bounds-urn-at

@@ -12,7 +12,7 @@ use Rattle.urn_chains.specs.Sound.{good_juror, slot_count, urn_slots}
 use Rattle.urn_chains.proofs.SlotTests.{clash}
 use mathlib.Core.List.{List}
 use Rattle.std.specs.Prelude.{is_some}
-use Rattle.std.proofs.lemmas.Result.{err_from_is_err_and}
+use Rattle.tally.proofs.Exits.{exit}
 use Rattle.urn_chains.specs.inner.Position.{placed_at}
 use Rattle.urn.specs.inner.Position.{position_in}
 use Rattle.urn.specs.Facts.{UrnFacts, jurors_of, facts_of, sound_in, present_in, counted_by}
@@ -32,7 +32,7 @@ pub returns-in_err-looked : goal.returns-in_err-looked
 unfolding withdraw_outcome_by withdrawn counted_by reason_of
 returns-in_err-looked c =
     let a = c.args in
-    let p = err_from_is_err_and c.from_residual.result c.from_residual.ensures.1 in
+    let p = exit c.from_residual.result c.from_residual.ensures in
     let n = not_looked _ _ _ c.in_err-looked.ensures.value in
     let unsound = rw n.1 at c.check.ensures in
     let e = withdraw_first_lem a.k a.d (facts_of a.k a.d a.urn.now a.juror) a.juror
@@ -43,7 +43,7 @@ pub returns-in_err-ballots : goal.returns-in_err-ballots
 unfolding withdrawn withdraw_outcome_by counted_by
 returns-in_err-ballots c =
     let a = c.args in
-    let p = err_from_is_err_and c.from_residual-in_err-ballots.result c.from_residual-in_err-ballots.ensures.1 in
+    let p = exit c.from_residual-in_err-ballots.result c.from_residual-in_err-ballots.ensures in
     let looked = rw c.in_ok-looked.ensures.ok_part at c.check.ensures in
     let answered = c.in_err-ballots.ensures ∙ ap (λ (x : UrnFacts). withdraw_outcome_by a.k a.d x a.juror) (sym looked.told) in
     rw (p.1, p.2) (both_parts answered (sym (refused_kept _ _ _ _ _ (sym answered))))

@@ -45,10 +45,12 @@ pub overflow_add-ballots : goal.overflow_add-ballots
 overflow_add-ballots c =
     let a = c.args in
     let ss = slots_of (a.k * a.d) a.slots a.urn.now in
+    let w = walk_told _ _ _ _ c.in_ok-ballots.ensures in
+    let f = walk_told _ _ _ _ c.in_ok-free.ensures in
     omega (
       arith,
-      (walk_told _ _ _ _ c.in_ok-ballots.ensures).2,
-      (walk_told _ _ _ _ c.in_ok-free.ensures).2,
+      w.2,
+      f.2,
       chain_most a.slots (get_or a.urn.now 0 0) ss,
       chain_most a.slots (get_or a.urn.now 1 0) ss,
       c.requires.table.most,

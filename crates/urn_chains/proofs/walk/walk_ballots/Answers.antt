@@ -55,10 +55,11 @@ bounds-jurors-link c =
 
 pub returns-then-jurors-link : goal.returns-then-jurors-link
 returns-then-jurors-link c = let a = c.args in
+    let w = looked_well _ _ _ c.in_ok-link.ensures in
     let p : 0 < c.loop-slot.slot = omega (arith, c.loop-slot-test.true) in
     not_walked _ _ _ (ballots_fail a.k a.d _ a.slots _ _ _ _ _ c.loop-slot.invariant p
     (λ l. ballots_twice a.k a.d _ (a.slots - c.loop-slot.count) c.loop-slot.slot _ _ (omega arith) p
-    (rw (looked_well _ _ _ c.in_ok-link.ensures).1 at c.if-jurors-link.true)))
+    (rw w.1 at c.if-jurors-link.true)))
 
 pub bounds-marks-slot-in-loop-slot : goal.bounds-marks-slot-in-loop-slot
 bounds-marks-slot-in-loop-slot c =

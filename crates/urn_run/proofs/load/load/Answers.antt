@@ -1,13 +1,11 @@
 -- `urn_run::load::load` meets its contract: writing the rest of the ballots after those written gives the table
 -- that writing all gives.
 -- Assumes nothing.
-use Prim.Native.Nat.{◌*◌, ◌<◌}
+use Prim.Native.Nat.{◌<◌}
 use native.Mathlib.Omega.{arith}
 use lib.ListN.{length}
-use Rattle.urn_chains.specs.Sound.{slot_count}
-use Rattle.urn_chains.proofs.SlotLaws.{size_least}
 use Rattle.urn_chains.proofs.SlotTests.{few_bytes}
-use Rattle.urn.proofs.FactLaws.{its_table}
+use Rattle.urn.proofs.FactLaws.{its_table, its_long}
 use Rattle.urn_run.proofs.LoadedWires.{load_begin, load_end, loaded, turn_more, turn_inside, turn_room, turn_on}
 use Rattle.urn_run.proofs.load.load.Goals as goal
 
@@ -20,9 +18,7 @@ overflow_add-size c = omega (arith, few_bytes c.args.k c.args.d c.requires.grade
 pub bounds-urn-0 : goal.bounds-urn-0
 bounds-urn-0 c =
     let a = c.args in
-    let t = its_table a.k a.d a.urn.now c.requires.graded c.requires.is_sound in
-    let l : 0 < length a.urn.now =
-    omega (arith, t.size, size_least (a.k * a.d) (slot_count (a.k * a.d) (length a.urn.now)) t.least) in
+    let l : 0 < length a.urn.now = omega (arith, its_long a.k a.d a.urn.now c.requires.graded c.requires.is_sound) in
     l
 
 pub loop-slot-init : goal.loop-slot-init
@@ -71,7 +67,11 @@ overflow_add-count c =
     let a = c.args in
     let l = c.loop-slot in
     let goes_on : 0 < l.slot = omega (arith, c.loop-slot-test.true) in
-    omega (arith, turn_more a.k a.d a.urn.now c.requires.graded c.requires.is_sound _ _ l.wires l.count l.slot l.invariant goes_on, (its_table a.k a.d a.urn.now c.requires.graded c.requires.is_sound).most)
+    omega (
+      arith,
+      turn_more a.k a.d a.urn.now c.requires.graded c.requires.is_sound _ _ l.wires l.count l.slot l.invariant goes_on,
+      (its_table a.k a.d a.urn.now c.requires.graded c.requires.is_sound).most,
+    )
 
 pub loop-slot-smaller : goal.loop-slot-smaller
 loop-slot-smaller c =

@@ -11,7 +11,8 @@ use Rattle.urn_run.proofs.LoadedWires.{OnLoad, along}
 use Rattle.urn_run.proofs.load.load.Given as goal
 
 abbrev pub invariant-loop-slot : goal.invariant-loop-slot
-invariant-loop-slot l = OnLoad (slots_of (l.k * l.d) (slot_count (l.k * l.d) (length l.urn)) l.urn) (slot_count (l.k * l.d) (length l.urn)) (l.k * l.d) (length l.initial.wires)
+invariant-loop-slot l = OnLoad (slots_of (l.k * l.d) (slot_count (l.k * l.d) (length l.urn)) l.urn)
+    (slot_count (l.k * l.d) (length l.urn)) (l.k * l.d) (length l.initial.wires)
     (sets l.initial.wires 0 (along (slots_of (l.k * l.d) (slot_count (l.k * l.d) (length l.urn)) l.urn)
     (chain (slot_count (l.k * l.d) (length l.urn)) (get_or l.urn 0 0) (slots_of (l.k * l.d) (slot_count (l.k * l.d) (length l.urn)) l.urn))))
     l.wires l.count l.slot

@@ -64,7 +64,8 @@ finish-requires c =
     let p = passed (goal.at.finish-requires c).In_ok-size in
     let l = c.load in
     subst (λ (i : ℕ). FinishReady i a.table.now a.shape.candidates a.tape.now l.new.wires a.board.now) (sym c.ballot_bytes-inputs.ensures)
-    (finish_ready a.shape a.table.now a.urn.now a.tape.now a.wires.now a.board.now p l.new.wires (loaded_length a.shape a.table.now a.urn.now a.tape.now a.wires.now a.board.now p l.new.wires l.ensures))
+    (finish_ready a.shape a.table.now a.urn.now a.tape.now a.wires.now a.board.now p l.new.wires
+    (loaded_length a.shape a.table.now a.urn.now a.tape.now a.wires.now a.board.now p l.new.wires l.ensures))
 
 pub returns : goal.returns
 unfolding outcome run_result_after
@@ -75,7 +76,8 @@ returns c =
     let p = passed (goal.at.returns c).In_ok-size in
     let gs = gates_of a.table.now in
     let same = c.finish.auto.wires ∙ loaded_length a.shape a.table.now a.urn.now a.tape.now a.wires.now a.board.now p l.new.wires l.ensures in
-    let front = ap (λ (i : ℕ). take i l.new.wires) c.ballot_bytes-inputs.ensures ∙ loaded_front a.shape a.table.now a.urn.now a.tape.now a.wires.now a.board.now p l.new.wires l.ensures in
+    let front = ap (λ (i : ℕ). take i l.new.wires) c.ballot_bytes-inputs.ensures
+    ∙ loaded_front a.shape a.table.now a.urn.now a.tape.now a.wires.now a.board.now p l.new.wires l.ensures in
     same_result
     (c.in_ok-size.ensures ∙ ap (λ (o : Option Reason). outcome o (size_of gs)) n)
     (c.fill.ensures.after (λ y e. e) ∙ ap (λ (n : ℕ). replicate n 0) same)
