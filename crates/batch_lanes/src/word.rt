@@ -15,6 +15,7 @@ pub fn value(kind: u32, a: u64, b: u64, c: u64) -> u64
         0 => 0,
         1 => ALL,
         2 => a,
+        // Not `!a`, whose clause gives 2 ^ 64 - 1 - a: no lane by itself.
         3 => a ^ ALL,
         4 => a & b,
         5 => a | b,

@@ -15,7 +15,8 @@ fn told(size: ListSize) -> [usize; 2]
     [size.gates, size.conditional]
 }
 
-// Puts reason, place, G and C, and returns the status.
+// Puts reason, place, G and C, and returns the status. A call for C answers a number; so a refusal is put here and not
+// handed on by `?`.
 pub fn put_size(outcome: Answer, answer: &mut [usize]) -> usize
     requires { size_answer ≤ length answer.old }
     ensures { Puts size_answer (size_numbers (outcome_of outcome)) answer.old answer.new result }

@@ -99,7 +99,8 @@ pub fn last_of(
     next
 }
 
-// The words of the first such grade: the grades are visited from the last to the first.
+// The words of the first such grade: the grades are visited from the last to the first. It stays apart from `last_of`,
+// since it goes the other way and has its own definition.
 pub fn first_of(
     w: Writer,
     table: &mut [u32],
@@ -147,7 +148,7 @@ pub fn left_end(n: u32, u: u32, above: u32, count: u32) -> u32
     n + (count - 1) * (2 * above + 2)
 }
 
-// The same for the second key, with v.
+// The same for the second key, with v. It does not call `left_end`, which would ask for room for this word too.
 pub fn right_end(n: u32, v: u32, above: u32, count: u32) -> u32
     requires { (n + count * either_span above < writer_limit) × (above ≤ 7) × (count ≤ 6) }
     ensures { result ≡ right_end n v above count }

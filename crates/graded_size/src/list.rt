@@ -13,7 +13,8 @@ use jury::shape::Shape;
 const SELECT_FLAGS: u32 = 3;
 
 // The best of one or two candidates: if there are two, their merge and the better key. A merge is a contest, these
-// three gates and a wire for each candidate. `contest` and `key` are the spans of a contest and a key.
+// three gates and a wire for each candidate. `contest` and `key` are the spans of a contest and a key,
+// passed apart as the clauses name them.
 fn pair_span(p: Plan, contest: u32, key: u32, count: u32) -> u32
     requires { GroupReady p contest key count 2 }
     ensures { result ≡ levels_span p 1 count }

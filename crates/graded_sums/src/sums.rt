@@ -1,4 +1,5 @@
-// The running sums of one candidate: rows of bits, and the levels of adders that count them.
+// The running sums of one candidate: rows of bits, and the levels of adders that count them. The plan, the rows' first
+// wire, candidate and grade are passed one by one, as the definitions of `graded_circuit` take them.
 ghost use Rattle.std.specs.Prelude.{◌≡◌, suc, ◌-◌, ◌*◌};
 ghost use Rattle.gate_words.specs.Writing.{Wrote};
 ghost use Rattle.gate_words.specs.Rows.{xor_rows};

@@ -1,5 +1,6 @@
 // What is kept for each pair of k candidates: the first wire of their word, or a wire about them. For i and j it is
-// at place i * k + j. The list is flat, as `kept_of` has it, because a table's blocks have one number each.
+// at place i * k + j. The list is flat, as `kept_of` has it, because a table's blocks have one number each. Wires
+// are cast to places, here and where they are kept: there is no `From<u32>` for `usize`.
 ghost use Rattle.std.specs.Prelude.{◌≡◌};
 ghost use Rattle.ranked_circuit.specs.Stages as spec;
 ghost use Rattle.ranked_blocks.specs.Ranked.{kept_of};

@@ -1,4 +1,4 @@
-// Who is beaten, and the output gates.
+// Who is beaten, and the output gates. The kept wires and k are passed apart, as `kept_of` takes them.
 ghost use Rattle.std.specs.Prelude.{◌≡◌, suc, ◌-◌, ◌<◌};
 ghost use Rattle.gate_words.specs.Writing.{Wrote};
 ghost use Rattle.ranked_circuit.specs.RankedList as spec;

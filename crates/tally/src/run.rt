@@ -62,7 +62,8 @@ fn test_run(
 }
 
 // Runs a list, whoever wrote it, on the ballots of a jury, with one mask for each conditional gate. Meanwhile the
-// wire table holds ballots and values in the clear; it is emptied after the closing bytes are on the board.
+// wire table holds ballots and values in the clear; it is emptied after the closing bytes are on the board. What is
+// lent stays apart, as C hands it over.
 pub fn run(
     shape: Shape,
     table: &[u32],

@@ -106,7 +106,8 @@ fn test_round(
 }
 
 // Round r of trustee p of t: it enters the parts of the gates of level r, and publishes the factors of the
-// conditional gates of level r + 1. The last round also publishes the closing bits.
+// conditional gates of level r + 1. The last round also publishes the closing bits. What is lent stays
+// apart, as C hands it over.
 pub fn round(
     shape: Shape,
     table: &[u32],

@@ -46,7 +46,8 @@ fn test_own(
     Ok(())
 }
 
-// Trustee p of t starts: its wire parts become its ballot parts, then zeros; its published bits become zeros.
+// Trustee p of t starts: its wire parts become its ballot parts, then zeros; its published bits become zeros. What is
+// lent stays apart, as C hands it over.
 pub fn start(
     shape: Shape,
     table: &[u32],

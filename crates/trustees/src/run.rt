@@ -34,6 +34,7 @@ fn open_closing(t: usize, size: usize, first: usize, k: usize, published: &[u8])
 
 // Runs a list on ballots that t trustees hold in parts, with a dealt triple for each conditional gate. Meanwhile
 // the wire parts together reveal every wire; they are emptied after the closing bits are published.
+// What is lent stays apart, as C hands it over.
 pub fn run(
     shape: Shape,
     table: &[u32],

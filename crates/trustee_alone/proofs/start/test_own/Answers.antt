@@ -9,12 +9,9 @@ use Rattle.trustee_alone.specs.Own.{is_trustee, own_tables_fit}
 use Rattle.trustee_alone.specs.Start.{own_reasons}
 use Rattle.trustee_alone.proofs.Tests.{pass, fail, end, and_both}
 use Rattle.trustee_alone.proofs.start.test_own.Goals as goal
-use Rattle.trustee_alone.proofs.start.test_own.Goals.{Else-not-is_trustee, Else-shares-inputs, Else-not-tables_fit, Else-not-only_bits}
+use Rattle.trustee_alone.proofs.start.test_own.Goals.{Else-shares-inputs, Else-not-tables_fit, Else-not-only_bits}
 
 -- the outcomes of the tests
-trustee : (c : Else-not-is_trustee) → is_trustee c.args.t c.args.p ≡ true
-trustee c = sym c.is_trustee.ensures ∙ c.if-not-is_trustee.false
-
 long : (c : Else-shares-inputs) → eqb (length c.args.shares.now) c.args.inputs ≡ true
 long c = eq-eqb (length c.args.shares.now) c.args.inputs c.if-shares-inputs.false
 
@@ -32,22 +29,21 @@ returns-then-not-is_trustee c = sym (fail _ 16 _ (sym c.is_trustee.ensures ∙ c
 pub returns-then-shares-inputs : goal.returns-then-shares-inputs
 unfolding refused_for reason_of own_reasons
 returns-then-shares-inputs c =
-    let at = goal.at.returns-then-shares-inputs c in
-    sym (pass _ 16 _ (trustee at.Else-not-is_trustee)
+    sym (pass _ 16 _ (sym c.is_trustee.ensures ∙ c.if-not-is_trustee.false)
     ∙ fail _ 17 _ (and_first_fails _ _ (ne_eqb (length c.args.shares.now) c.args.inputs c.if-shares-inputs.true)))
 
 pub returns-then-not-tables_fit : goal.returns-then-not-tables_fit
 unfolding refused_for reason_of own_reasons
 returns-then-not-tables_fit c =
     let at = goal.at.returns-then-not-tables_fit c in
-    sym (pass _ 16 _ (trustee at.Else-not-is_trustee)
+    sym (pass _ 16 _ (sym c.is_trustee.ensures ∙ c.if-not-is_trustee.false)
     ∙ fail _ 17 _ (and_both _ _ false (long at.Else-shares-inputs) (sym c.tables_fit.ensures ∙ c.if-not-tables_fit.true)))
 
 pub returns-then-not-only_bits : goal.returns-then-not-only_bits
 unfolding refused_for reason_of own_reasons
 returns-then-not-only_bits c =
     let at = goal.at.returns-then-not-only_bits c in
-    sym (pass _ 16 _ (trustee at.Else-not-is_trustee)
+    sym (pass _ 16 _ (sym c.is_trustee.ensures ∙ c.if-not-is_trustee.false)
     ∙ pass _ 17 _ (and_both _ _ true (long at.Else-shares-inputs) (fits at.Else-not-tables_fit))
     ∙ fail _ 18 _ (and_first_fails _ _ (sym c.only_bits.ensures ∙ c.if-not-only_bits.true)))
 
@@ -55,7 +51,7 @@ pub returns-then-not-only_bits-2 : goal.returns-then-not-only_bits-2
 unfolding refused_for reason_of own_reasons
 returns-then-not-only_bits-2 c =
     let at = goal.at.returns-then-not-only_bits-2 c in
-    sym (pass _ 16 _ (trustee at.Else-not-is_trustee)
+    sym (pass _ 16 _ (sym c.is_trustee.ensures ∙ c.if-not-is_trustee.false)
     ∙ pass _ 17 _ (and_both _ _ true (long at.Else-shares-inputs) (fits at.Else-not-tables_fit))
     ∙ fail _ 18 _ (and_both _ _ false (bits at.Else-not-only_bits) (sym c.only_bits-2.ensures ∙ c.if-not-only_bits-2.true)))
 
@@ -63,6 +59,6 @@ pub returns : goal.returns
 unfolding refused_for reason_of own_reasons
 returns c =
     let at = goal.at.returns c in
-    sym (pass _ 16 _ (trustee at.Else-not-is_trustee)
+    sym (pass _ 16 _ (sym c.is_trustee.ensures ∙ c.if-not-is_trustee.false)
     ∙ pass _ 17 _ (and_both _ _ true (long at.Else-shares-inputs) (fits at.Else-not-tables_fit))
     ∙ pass _ 18 _ (and_both _ _ true (bits at.Else-not-only_bits) (sym c.only_bits-2.ensures ∙ c.if-not-only_bits-2.false)) ∙ end)
