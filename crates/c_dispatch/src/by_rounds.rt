@@ -2,7 +2,7 @@
 ghost use Rattle.std.specs.Prelude.{◌≡◌, [], ◌∷◌, ◌<◌, get_or};
 ghost use Rattle.dispatch_rounds.specs.Tables.{tables_of};
 ghost use Rattle.dispatch_rounds.specs.Rounds.{most_juries};
-ghost use Rattle.c_dispatch.specs.Numbers.{header_at, headers_in, dispatch_answer, dispatch_call};
+ghost use Rattle.c_dispatch.specs.Numbers.{header_at, headers_in, dispatch_call};
 
 use c_answers::array::{SHORT_ANSWER, put};
 use dispatch_rounds::header::{Headers, JuryHeader, MOST_JURIES};

@@ -1,55 +1,14 @@
 -- Writing one slot of an urn.
 -- Assumes nothing.
 use mathlib.Core.Path.{◌≡◌, ◌∙◌, refl, sym, ap}
-use mathlib.Core.List.{List, [], ◌∷◌, ◌++◌, append_assoc, append-nil}
+use mathlib.Core.List.{List, [], ◌∷◌, ◌++◌, append_assoc}
 use Prim.Native.Nat.{ℕ, zero, suc, ◌+◌, ◌*◌, ◌-◌, ◌≤◌, ◌<◌}
 use native.Mathlib.Nat.{zero-mul, suc-mul}
 use native.Mathlib.Omega.{arith}
-use lib.ListN.{length, set, take, drop, length-take, length-drop, length-set, drop_of_length-le}
-use lib.Seq.{take-suc-set, drop-set-lt, take-set-le, drop-set-add, take-set-lt, take_all, take-length, drop-drop, take_at, drop_at, take-add, length-take-le}
+use lib.ListN.{length, set, take, drop, length-take, length-drop}
+use lib.Seq.{drop-set-lt, take-set-le, drop-set-add, take-set-lt, drop-drop, take_at, drop_at, take-add, length-take-le}
 use Rattle.urn_chains.specs.Slots.{Slot, slot_bytes, slot_of, slots_of, slot_at}
 use Rattle.urn_chains.proofs.SlotLaws.{size_is}
-
--- two stores and a copy after them
-module _ (urn ballot last : List ℕ) (at next juror : ℕ) (fits : at + 2 + length ballot ≤ length urn) where
-  abbrev pub stored : List ℕ
-  stored = set (set urn at next) (at + 1) juror
-
-  pub stored_length : length stored ≡ length urn
-  stored_length = length-set (set urn at next) (at + 1) juror ∙ length-set urn at next
-
-  front : take (at + 2) stored ≡ take at urn ++ (next ∷ juror ∷ [])
-  front =
-      ap (λ (n : ℕ). take n (set (set urn at next) (at + 1) juror)) {x = at + 2} {y = suc (at + 1)} (omega arith)
-      ∙ take-suc-set (set urn at next) (at + 1) juror (omega (arith, length-set urn at next))
-      ∙ ap (λ (n : ℕ). take n (set urn at next) ++ (juror ∷ [])) {x = at + 1} {y = suc at} (omega arith)
-      ∙ ap (λ (xs : List ℕ). xs ++ (juror ∷ [])) (take-suc-set urn at next (omega arith))
-      ∙ append_assoc (take at urn) (next ∷ []) (juror ∷ [])
-
-  back : drop (at + 2) stored ≡ drop (at + 2) urn
-  back = drop-set-lt (at + 2) (set urn at next) (at + 1) juror (omega arith) ∙ drop-set-lt (at + 2) urn at next (omega arith)
-
-  abbrev pub part : List ℕ
-  part = take (length stored - (at + 2)) (drop (at + 2) stored)
-
-  part_is : part ≡ drop (at + 2) urn
-  part_is = take_all (length stored - (at + 2)) (drop (at + 2) stored) (omega (arith, length-drop (at + 2) stored)) ∙ back
-
-  pub put_done : last ≡ take (length ballot) ballot ++ drop (length ballot) part →
-      take (at + 2) stored ++ (last ++ drop (length stored - (at + 2)) (drop (at + 2) stored))
-      ≡ take at urn ++ (next ∷ juror ∷ ballot) ++ drop (at + 2 + length ballot) urn
-  put_done e =
-      let none : drop (length stored - (at + 2)) (drop (at + 2) stored) ≡ [] =
-      drop_of_length-le (drop (at + 2) stored) {i = length stored - (at + 2)}
-      (omega (arith, length-drop (at + 2) stored)) in
-      ap (λ (xs : List ℕ). take (at + 2) stored ++ (last ++ xs)) none
-      ∙ ap (λ (xs : List ℕ). take (at + 2) stored ++ xs)
-      (append-nil last ∙ e ∙ ap (λ (xs : List ℕ). xs ++ drop (length ballot) part) (take-length ballot)
-      ∙ ap (λ (xs : List ℕ). ballot ++ drop (length ballot) xs) part_is
-      ∙ ap (λ (xs : List ℕ). ballot ++ xs) (drop-drop (length ballot) (at + 2) urn))
-      ∙ ap (λ (xs : List ℕ). xs ++ (ballot ++ drop (at + 2 + length ballot) urn)) front
-      ∙ append_assoc (take at urn) (next ∷ juror ∷ []) (ballot ++ drop (at + 2 + length ballot) urn)
-      ∙ sym (append_assoc (take at urn) (next ∷ juror ∷ ballot) (drop (at + 2 + length ballot) urn))
 
 regroup : (a b c d : List ℕ) → a ++ b ++ c ++ d ≡ a ++ (b ++ c ++ d)
 regroup a b c d = simp append_assoc

@@ -5,7 +5,7 @@ use mathlib.Core.Logic.{◌≢◌}
 use mathlib.Core.Bool.{Bool, true, cond}
 use mathlib.Core.List.{List, ◌∷◌}
 use Prim.Native.Nat.{ℕ, ◌+◌, ◌-◌, ◌≤◌, ◌<◌}
-use native.Mathlib.Nat.{sub-zero}
+
 use native.Mathlib.Omega.{arith}
 use borrow.Author.Tests.{eq-eqb, ne_eqb}
 use Rattle.std.specs.Prelude.{None}
@@ -24,16 +24,6 @@ pub record OnFind (slots : List Slot) (n first juror before count slot : ℕ) : 
   pub within : count ≤ n
   pub rest : position_of slots juror before (chain (n - count) slot slots) ≡ position_of slots juror 0 (chain n first slots)
   pub inside : all (in_urn n) (chain (n - count) slot slots) ≡ true
-
-pub find_start : (slots : List Slot) (n first juror slot : ℕ) → slot ≡ first → all (in_urn n) (chain n first slots)
-    ≡ true → OnFind slots n first juror 0 0 slot
-find_start slots n first juror slot e h =
-    subst (λ (i : ℕ). OnFind slots n first juror 0 0 i) (sym e)
-    (record {
-      within = omega arith;
-      rest = ap (λ (m : ℕ). position_of slots juror 0 (chain m first slots)) (sub-zero n);
-      inside = ap (λ (m : ℕ). all (in_urn n) (chain m first slots)) (sub-zero n) ∙ h;
-    })
 
 module _ (slots : List Slot) (n first juror before count slot : ℕ) (on : OnFind slots n first juror before count slot) where
   step : count < n → 0 < slot → chain (n - count) slot slots ≡ slot ∷ chain (n - (count + 1)) (slot_at slots slot).next slots

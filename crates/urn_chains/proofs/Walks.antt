@@ -251,20 +251,6 @@ pub record OnFree (slots : List Slot) (n first : ℕ) (met marks : List Bool) (c
   pub marked : mark_all (chain (n - count) slot slots) marks ≡ mark_all (chain n first slots) met
   pub counted : count + length (chain (n - count) slot slots) ≡ length (chain n first slots)
 
-free_begin : (slots : List Slot) (n first : ℕ) (met : List Bool) → length met ≡ 256 → OnFree slots n first met met 0 first
-free_begin slots n first met e =
-    record {
-      within = omega arith;
-      marks_size = e;
-      rest = ap (λ (m : ℕ). free_from slots m first met) (sub-zero n);
-      marked = ap (λ (m : ℕ). mark_all (chain m first slots) met) (sub-zero n);
-      counted = omega (arith, ap (λ (m : ℕ). length (chain m first slots)) (sub-zero n));
-    }
-
-pub free_start : (slots : List Slot) (n first slot : ℕ) (met : List Bool) → length met ≡ 256 → slot ≡ first
-    → OnFree slots n first met met 0 slot
-free_start slots n first slot met l e = subst (λ (i : ℕ). OnFree slots n first met met 0 i) (sym e) (free_begin slots n first met l)
-
 module _ (slots : List Slot) (n first : ℕ) (met marks : List Bool) (count slot : ℕ) (on : OnFree slots n first met marks count slot) where
   free_on : count ≢ n → 0 < slot → free_at slots slot ≡ true → get_or marks slot false ≡ false →
       OnFree slots n first met (set marks slot true) (count + 1) (slot_at slots slot).next
