@@ -19,12 +19,12 @@ use Rattle.gates.proofs.Reading.{first_bad_nil, first_bad_cons, good_by}
 use Rattle.text_lines.specs.Decimal.{taken}
 use Rattle.text_lines.specs.Line.{gate_in, gate_of}
 use Rattle.text.specs.Text.{in_front, lines_of, malformed_at, first_malformed, gates_in}
-use Rattle.text_lines.specs.inner.Found.{gate_read, line_found, LineRead}
+use Rattle.text_lines.specs.inner.Found.{line_found, LineRead}
 use Rattle.text_lines.specs.declared.line.Line.{Line}
 use Rattle.text.proofs.TextLaws.{gate_first, other_first, other_here, other_later, gates_cons, first_line}
 
 module _ (text : List ℕ) (at : ℕ) (l : Line) (reads : LineRead text (gate_in (drop at text)) (Some l)) where
-  gate_here : gate_in (drop at text) ≡ taken (gate_read l) (drop l.next text)
+  gate_here : gate_in (drop at text) ≡ taken l.gate (drop l.next text)
   unfolding line_found
   gate_here = sym reads.found
 
@@ -33,31 +33,31 @@ module _ (text : List ℕ) (at : ℕ) (l : Line) (reads : LineRead text (gate_in
 
   pub next_later : at < l.next
   next_later =
-      let f = (gate_first (drop at text) (record { value = gate_read l; rest = drop l.next text }) gate_here).shorter in
+      let f = (gate_first (drop at text) (record { value = l.gate; rest = drop l.next text }) gate_here).shorter in
       omega (arith, length-drop l.next text, length-drop at text, next_within)
 
   pub later_other : (i : ℕ) → first_malformed i (lines_of (drop at text)) ≡ first_malformed (suc i) (lines_of (drop l.next text))
-  later_other i = other_later i (drop at text) (record { value = gate_read l; rest = drop l.next text }) gate_here
+  later_other i = other_later i (drop at text) (record { value = l.gate; rest = drop l.next text }) gate_here
 
-  pub later_gates : gates_in (lines_of (drop at text)) ≡ gate_read l ∷ gates_in (lines_of (drop l.next text))
-  later_gates = gates_cons (drop at text) (record { value = gate_read l; rest = drop l.next text }) gate_here
+  pub later_gates : gates_in (lines_of (drop at text)) ≡ l.gate ∷ gates_in (lines_of (drop l.next text))
+  later_gates = gates_cons (drop at text) (record { value = l.gate; rest = drop l.next text }) gate_here
 
   pub later_lines : length (lines_of (drop at text)) ≡ suc (length (lines_of (drop l.next text)))
-  later_lines = ap length (gate_first (drop at text) (record { value = gate_read l; rest = drop l.next text }) gate_here).lines
+  later_lines = ap length (gate_first (drop at text) (record { value = l.gate; rest = drop l.next text }) gate_here).lines
 
   -- a gate that was read is good exactly if all its operands are below its own wire
-  pub good_here : (own : ℕ) → 0 < own → good_gate own (gate_read l) ≡ (ltb l.a own && ltb l.b own && ltb l.c own)
+  pub good_here : (own : ℕ) → 0 < own → good_gate own l.gate ≡ (ltb l.gate.a own && ltb l.gate.b own && ltb l.gate.c own)
   good_here own pos =
-      let w = (gate_first (drop at text) (record { value = gate_read l; rest = drop l.next text }) gate_here).writable in
-      good_by own (gate_read l) pos w.known
+      let w = (gate_first (drop at text) (record { value = l.gate; rest = drop l.next text }) gate_here).writable in
+      good_by own l.gate pos w.known
       (record { a_zero = w.a_holds.unused; b_zero = w.b_holds.unused; c_zero = w.c_holds.unused })
 
   module _ (inputs i : ℕ) (pos : 0 < inputs) (t : Bool)
-      (e : t ≡ (ltb l.a (inputs + i) && ltb l.b (inputs + i) && ltb l.c (inputs + i))) where
+      (e : t ≡ (ltb l.gate.a (inputs + i) && ltb l.gate.b (inputs + i) && ltb l.gate.c (inputs + i))) where
     bad_from : first_bad inputs i (gates_in (lines_of (drop at text)))
         ≡ cond t (first_bad inputs (suc i) (gates_in (lines_of (drop l.next text)))) (Some i)
     bad_from =
-        ap (first_bad inputs i) later_gates ∙ first_bad_cons inputs i (gate_read l) (gates_in (lines_of (drop l.next text)))
+        ap (first_bad inputs i) later_gates ∙ first_bad_cons inputs i l.gate (gates_in (lines_of (drop l.next text)))
         ∙ ap (λ (u : Bool). cond u (first_bad inputs (suc i) (gates_in (lines_of (drop l.next text)))) (Some i))
         (good_here (inputs + i) (omega arith) ∙ sym e)
 

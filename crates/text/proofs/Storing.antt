@@ -1,16 +1,15 @@
 -- Numbers and lines stored one after the other.
 -- Assumes nothing.
-use mathlib.Core.Path.{◌≡◌, ◌∙◌, ap}
+use mathlib.Core.Path.{◌≡◌, ◌∙◌, sym, ap}
 use mathlib.Core.List.{List, [], ◌∷◌, ◌++◌}
-use Prim.Native.Nat.{ℕ, suc, ◌+◌, ◌*◌, ◌≤◌, ◌<◌}
+use Prim.Native.Nat.{ℕ, suc, ◌+◌, ◌≤◌, ◌<◌}
 use native.Mathlib.Nat.{zero-add}
 use native.Mathlib.Numerals.{add-one, add-two, add-three, add-four}
 use native.Mathlib.Omega.{arith}
-use lib.ListN.{length, get_or, set, drop, length-set, drop_of_length-le}
+use lib.ListN.{length, set, drop, length-set, drop_of_length-le}
 use lib.Seq.{sets, sets-eq}
-use Rattle.gates.specs.Gate.{Gate, gates_of}
+use Rattle.gates.specs.Gate.{Gate, gates_of, gate_at}
 use Rattle.gates.proofs.Table.{gates_from}
-use Rattle.gates.proofs.Reading.{gate_numbers}
 use Rattle.text_lines.specs.Line.{line_of}
 use Rattle.text.specs.Text.{text_of}
 
@@ -22,18 +21,11 @@ put_four l i k a b c rest = rw (add-one i, add-two i, add-three i, add-four i)
 pub long_four : (l : List ℕ) (i k a b c : ℕ) → length (set (set (set (set l i k) (i + 1) a) (i + 2) b) (i + 3) c) ≡ length l
 long_four l i k a b c = simp length-set
 
--- the text from gate g on begins with gate g's line
-pub text_from : (t : List ℕ) (g : ℕ) → g < length (gates_of t)
-    → text_of (drop g (gates_of t)) ≡ line_of
-    (record {
-      kind = get_or t (4 * g) 0;
-      a = get_or t (4 * g + 1) 0;
-      b = get_or t (4 * g + 2) 0;
-      c =
-          get_or t (4 * g + 3) 0;
-    }) ++ text_of (drop (suc g) (gates_of t))
+-- the text from gate g on begins with the line of gate g, the one that was read
+pub text_from : (t : List ℕ) (g : ℕ) (x : Gate) → x ≡ gate_at t g → g < length (gates_of t)
+    → text_of (drop g (gates_of t)) ≡ line_of x ++ text_of (drop (suc g) (gates_of t))
 unfolding text_of
-text_from t g h = ap text_of (gates_from t g h) ∙ ap (λ (x : Gate). line_of x ++ text_of (drop (suc g) (gates_of t))) (gate_numbers t g)
+text_from t g x e h = ap text_of (gates_from t g h) ∙ ap (λ (y : Gate). line_of y ++ text_of (drop (suc g) (gates_of t))) (sym e)
 
 pub text_end : (t : List ℕ) (g : ℕ) → length (gates_of t) ≤ g → text_of (drop g (gates_of t)) ≡ []
 unfolding text_of

@@ -6,8 +6,9 @@ ghost use Rattle.gates.specs.Test.{first_bad};
 ghost use Rattle.text.specs.Text.{lines_of, first_malformed, gates_in};
 ghost use Rattle.text.specs.inner.Scan.{ScanReady, PutReady};
 
+use gates::gate::Gate;
 use text_lines::line;
-use text_lines::line::{LINE_FEED, Line};
+use text_lines::line::LINE_FEED;
 
 // How many lines a text has: its line feeds, plus one if characters follow the last of them.
 pub(crate) fn line_count(text: &[u8]) -> usize
@@ -43,16 +44,16 @@ pub(crate) fn first_malformed(text: &[u8]) -> Option<usize>
 
 // Whether all operands name wires before the gate's own one. An unused operand is read as 0, and wire 0 is an
 // input.
-fn are_below(own: usize, line: Line) -> bool
-    ensures { result ≡ (ltb line.a own && ltb line.b own && ltb line.c own) }
+fn are_below(own: usize, gate: Gate) -> bool
+    ensures { result ≡ (ltb gate.a own && ltb gate.b own && ltb gate.c own) }
 {
-    if own <= line.a as usize {
+    if own <= gate.a as usize {
         return false;
     }
-    if own <= line.b as usize {
+    if own <= gate.b as usize {
         return false;
     }
-    (line.c as usize) < own
+    (gate.c as usize) < own
 }
 
 // The first bad gate of a text whose lines are all gates.
@@ -64,7 +65,7 @@ pub(crate) fn first_bad(inputs: usize, text: &[u8]) -> Option<usize>
     let mut i = 0;
     while at < text.len() {
         let line = line::gate_at(text, at)?;
-        if !are_below(inputs + i, line) {
+        if !are_below(inputs + i, line.gate) {
             return Some(i);
         }
         at = line.next;
@@ -85,10 +86,10 @@ pub(crate) fn put_gates(text: &[u8], output: &mut [u32])
         let Some(line) = line::gate_at(text, at) else {
             return;
         };
-        output[i] = line.kind;
-        output[i + 1] = line.a;
-        output[i + 2] = line.b;
-        output[i + 3] = line.c;
+        output[i] = line.gate.kind;
+        output[i + 1] = line.gate.a;
+        output[i + 2] = line.gate.b;
+        output[i + 3] = line.gate.c;
         at = line.next;
         i += 4;
     }

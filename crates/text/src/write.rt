@@ -8,6 +8,7 @@ ghost use Rattle.text.specs.Answer.{length_outcome};
 ghost use Rattle.text.specs.Write.{write_text_result};
 
 use crate::answer::{Answer, TextRefusal};
+use gates::gate::Gate;
 use jury::shape::Shape;
 use text_lines::print;
 
@@ -18,8 +19,8 @@ fn text_length(table: &[u32]) -> usize
 {
     let mut total: usize = 0;
     for g in 0..table.len() / 4 {
-        let at = 4 * g;
-        total += print::line_length(table[at], table[at + 1], table[at + 2], table[at + 3]);
+        let gate = Gate::at(table, g);
+        total += print::line_length(gate);
     }
     total
 }
@@ -31,15 +32,8 @@ fn put_text(table: &[u32], output: &mut [u8])
 {
     let mut place = 0;
     for g in 0..table.len() / 4 {
-        let at = 4 * g;
-        place = print::put_line(
-            table[at],
-            table[at + 1],
-            table[at + 2],
-            table[at + 3],
-            place,
-            output,
-        );
+        let gate = Gate::at(table, g);
+        place = print::put_line(gate, place, output);
     }
 }
 

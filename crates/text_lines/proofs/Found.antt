@@ -91,7 +91,7 @@ module _ (text : List ℕ) (at : ℕ) where
             }
 
             pub whole : c.next < length text → get_or text c.next 0 ≡ 10 → LineRead text (gate_in (drop at text))
-                (Some (record { kind = k.value; a = a.value; b = b.value; c = c.value; next = c.next + 1 }))
+                (Some (record { gate = record { kind = k.value; a = a.value; b = b.value; c = c.value }; next = c.next + 1 }))
             unfolding gate_in bind known_kind line_found
             whole l f = record {
               found = rw (

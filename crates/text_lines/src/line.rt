@@ -5,6 +5,7 @@ ghost use Rattle.text_lines.specs.inner.Found.{NumberRead, LineRead};
 
 use crate::decimal;
 use crate::decimal::Found;
+use gates::gate::Gate;
 use gates::kind;
 
 // What precedes each operand, and what ends a line.
@@ -15,10 +16,7 @@ pub const LINE_FEED: u8 = 10;
 // The gate of a line and the place after the line.
 #[derive(Clone, Copy)]
 pub struct Line {
-    pub kind: u32,
-    pub a: u32,
-    pub b: u32,
-    pub c: u32,
+    pub gate: Gate,
     pub next: usize,
 }
 
@@ -60,11 +58,14 @@ pub fn gate_at(text: &[u8], at: usize) -> Option<Line>
     if !ended {
         return None;
     }
-    Some(Line {
+    let gate = Gate {
         kind: kind.value,
         a: a.value,
         b: b.value,
         c: c.value,
+    };
+    Some(Line {
+        gate,
         next: c.next + 1,
     })
 }

@@ -5,6 +5,7 @@ ghost use Rattle.text_lines.specs.inner.Stored.{Stored, LineLength};
 
 use crate::decimal;
 use crate::line::{LINE_FEED, SPACE};
+use gates::gate::Gate;
 use gates::kind;
 
 // How many characters an operand has.
@@ -15,15 +16,15 @@ fn operand_length(used: bool, n: u32) -> usize
 }
 
 // How many characters a gate's line has.
-pub fn line_length(kind: u32, a: u32, b: u32, c: u32) -> usize
-    ensures { LineLength (record { kind = kind; a = a; b = b; c = c }) result }
+pub fn line_length(gate: Gate) -> usize
+    ensures { LineLength gate result }
 {
     let counts = kind::OPERANDS;
-    let count = kind::operands(&counts, kind);
-    let kind_length = decimal::count(kind);
-    let a_length = operand_length(0 < count, a);
-    let b_length = operand_length(1 < count, b);
-    let c_length = operand_length(2 < count, c);
+    let count = kind::operands(&counts, gate.kind);
+    let kind_length = decimal::count(gate.kind);
+    let a_length = operand_length(0 < count, gate.a);
+    let b_length = operand_length(1 < count, gate.b);
+    let c_length = operand_length(2 < count, gate.c);
     kind_length + a_length + b_length + c_length + 1
 }
 
@@ -40,16 +41,16 @@ fn put_operand(used: bool, n: u32, at: usize, output: &mut [u8]) -> usize
 }
 
 // Puts a gate's line, and answers the place after it.
-pub fn put_line(kind: u32, a: u32, b: u32, c: u32, at: usize, output: &mut [u8]) -> usize
-    requires { at + length (line_of (record { kind = kind; a = a; b = b; c = c })) ≤ length output.old }
-    ensures { Stored output.old at (line_of (record { kind = kind; a = a; b = b; c = c })) output.new result }
+pub fn put_line(gate: Gate, at: usize, output: &mut [u8]) -> usize
+    requires { at + length (line_of gate) ≤ length output.old }
+    ensures { Stored output.old at (line_of gate) output.new result }
 {
     let counts = kind::OPERANDS;
-    let count = kind::operands(&counts, kind);
-    let kind_end = decimal::put(kind, at, output);
-    let a_end = put_operand(0 < count, a, kind_end, output);
-    let b_end = put_operand(1 < count, b, a_end, output);
-    let c_end = put_operand(2 < count, c, b_end, output);
+    let count = kind::operands(&counts, gate.kind);
+    let kind_end = decimal::put(gate.kind, at, output);
+    let a_end = put_operand(0 < count, gate.a, kind_end, output);
+    let b_end = put_operand(1 < count, gate.b, a_end, output);
+    let c_end = put_operand(2 < count, gate.c, b_end, output);
     output[c_end] = LINE_FEED;
     c_end + 1
 }

@@ -137,6 +137,7 @@ pub fn walk_free(urn: &[u8], bytes: usize, slots: usize, met: [bool; 256]) -> Op
     let mut marks = met;
     let mut count = 0;
     let mut slot = usize::from(urn[1]);
+    // A `while`, as above. The two walks stay apart: a slot of ballots is sound for other reasons than a free one.
     while slot != 0 {
         if count == slots {
             return None;

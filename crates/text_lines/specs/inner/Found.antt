@@ -16,12 +16,8 @@ abbrev pub NumberWithin : List ℕ → rust.Option Found → Type 0
 NumberWithin text (Some n) = n.next ≤ length text
 NumberWithin text None = Unit {0}
 
--- The gate that was read from a line.
-abbrev pub gate_read : Line → Gate
-gate_read l = record { kind = l.kind; a = l.a; b = l.b; c = l.c }
-
 unfoldable pub line_found : List ℕ → rust.Option Line → Option (Taken Gate)
-line_found text (Some l) = taken (gate_read l) (drop l.next text)
+line_found text (Some l) = taken l.gate (drop l.next text)
 line_found text None = none
 
 abbrev pub LineWithin : List ℕ → rust.Option Line → Type 0

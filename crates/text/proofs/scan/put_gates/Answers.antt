@@ -8,7 +8,6 @@ use native.Mathlib.Omega.{arith}
 use Rattle.gates.specs.Gate.{numbers_of}
 use Rattle.gates.proofs.Reading.{numbers_cons}
 use Rattle.gates.proofs.Laws.{numbers_nil}
-use Rattle.text_lines.specs.inner.Found.{gate_read}
 use Rattle.text.specs.Text.{lines_of, first_malformed, gates_in}
 use Rattle.text.proofs.Scanning.{next_within, next_later, later_other, later_gates, later_lines, here_other, gates_end, not_both, nowhere_any}
 use Rattle.text.proofs.Storing.{put_four, long_four}
@@ -66,11 +65,11 @@ loop-at-preserved c =
     let rest = numbers_of (gates_in (lines_of (drop line.next text))) in (
       next_within text l.at _ reads,
       nowhere_any _ 1 0 (sym (later_other text l.at _ reads 0) ∙ l.invariant.1),
-      omega (arith, l.invariant.2, long_four l.output l.i line.kind line.a line.b line.c, later_lines text l.at _ reads),
-      long_four l.output l.i line.kind line.a line.b line.c ∙ l.invariant.3,
-      put_four l.output l.i line.kind line.a line.b line.c rest
+      omega (arith, l.invariant.2, long_four l.output l.i line.gate.kind line.gate.a line.gate.b line.gate.c, later_lines text l.at _ reads),
+      long_four l.output l.i line.gate.kind line.gate.a line.gate.b line.gate.c ∙ l.invariant.3,
+      put_four l.output l.i line.gate.kind line.gate.a line.gate.b line.gate.c rest
           ∙ ap (sets l.output l.i) (sym (ap numbers_of (later_gates text l.at _ reads)
-          ∙ numbers_cons (gate_read line) (gates_in (lines_of (drop line.next text)))))
+          ∙ numbers_cons line.gate (gates_in (lines_of (drop line.next text)))))
           ∙ l.invariant.4,
     )
 

@@ -3,9 +3,9 @@
 -- Assumes nothing.
 use mathlib.Core.Path.{◌∙◌, sym, ap}
 use mathlib.Core.List.{List}
-use Prim.Native.Nat.{ℕ, suc, ◌+◌, ◌*◌}
+use Prim.Native.Nat.{ℕ, suc}
 use native.Mathlib.Numerals.{add-one}
-use lib.ListN.{length, get_or, drop, length-append}
+use lib.ListN.{length, drop, length-append}
 use lib.Seq.{sets, length-sets}
 use Rattle.gates.specs.Gate.{gates_of}
 use Rattle.gates.proofs.Table.{length_gates}
@@ -23,15 +23,9 @@ put_line-place-requires c = let l = c.loop-g in
     omega (
       arith,
       l.invariant.0,
-      ap length (text_from t l.g (omega (arith, length_gates t))),
+      ap length (text_from t l.g c.at-gate.result c.at-gate.ensures (omega (arith, length_gates t))),
       length-append
-          (line_of (record {
-            kind = get_or t (4 * l.g) 0;
-            a = get_or t (4 * l.g + 1) 0;
-            b = get_or t (4 * l.g + 2) 0;
-            c =
-                get_or t (4 * l.g + 3) 0;
-          })) rest,
+          (line_of c.at-gate.result) rest,
     )
 
 pub loop-g-preserved : goal.loop-g-preserved
@@ -39,14 +33,8 @@ loop-g-preserved c = let l = c.loop-g in
     let t = c.args.table.now in
     let rest = text_of (drop (suc l.g) (gates_of t)) in
     let line =
-    line_of (record {
-      kind = get_or t (4 * l.g) 0;
-      a = get_or t (4 * l.g + 1) 0;
-      b = get_or t (4 * l.g + 2) 0;
-      c =
-          get_or t (4 * l.g + 3) 0;
-    }) in
-    let here = text_from t l.g (omega (arith, length_gates t)) in
+    line_of c.at-gate.result in
+    let here = text_from t l.g c.at-gate.result c.at-gate.ensures (omega (arith, length_gates t)) in
     let e = ap length here in
     let n = length-append line rest in
     let k = ap (λ (j : ℕ). text_of (drop j (gates_of t))) (add-one l.g) in

@@ -1,9 +1,9 @@
 -- `text::write::text_length` meets its contract: the total so far plus the length of the rest is the whole length.
 -- Assumes nothing.
 use mathlib.Core.Path.{ap}
-use Prim.Native.Nat.{ℕ, suc, ◌+◌, ◌*◌}
+use Prim.Native.Nat.{ℕ, suc}
 use native.Mathlib.Numerals.{add-one}
-use lib.ListN.{length, get_or, drop, length-append}
+use lib.ListN.{length, drop, length-append}
 use Rattle.gates.specs.Gate.{gates_of}
 use Rattle.gates.proofs.Table.{length_gates}
 use Rattle.text_lines.specs.Line.{line_of}
@@ -24,15 +24,9 @@ pub loop-g-preserved : goal.loop-g-preserved
 loop-g-preserved c = let l = c.loop-g in
     let t = c.args.table.now in
     let rest = text_of (drop (suc l.g) (gates_of t)) in
-    let e = ap length (text_from t l.g (omega (arith, length_gates t))) in
+    let e = ap length (text_from t l.g c.at-gate.result c.at-gate.ensures (omega (arith, length_gates t))) in
     let n = length-append
-    (line_of (record {
-      kind = get_or t (4 * l.g) 0;
-      a = get_or t (4 * l.g + 1) 0;
-      b = get_or t (4 * l.g + 2) 0;
-      c =
-          get_or t (4 * l.g + 3) 0;
-    })) rest in
+    (line_of c.at-gate.result) rest in
     let k = ap (λ (j : ℕ). length (text_of (drop j (gates_of t)))) (add-one l.g) in
     (omega (arith, c.line_length-total.ensures.short), omega (arith, c.line_length-total.ensures.is, l.invariant.1))
 

@@ -9,37 +9,37 @@ pub overflow_add-result : goal.overflow_add-result
 overflow_add-result c =
     let s = c.args in
     let m = c.operands-count.result in
-    omega (arith, decimal_most s.kind, operand_most (ltb 0 m) s.a, operand_most (ltb 1 m) s.b, operand_most (ltb 2 m) s.c)
+    omega (arith, decimal_most s.gate.kind, operand_most (ltb 0 m) s.gate.a, operand_most (ltb 1 m) s.gate.b, operand_most (ltb 2 m) s.gate.c)
 
 pub overflow_add-result-2 : goal.overflow_add-result-2
 overflow_add-result-2 c =
     let s = c.args in
     let m = c.operands-count.result in
-    omega (arith, decimal_most s.kind, operand_most (ltb 0 m) s.a, operand_most (ltb 1 m) s.b, operand_most (ltb 2 m) s.c)
+    omega (arith, decimal_most s.gate.kind, operand_most (ltb 0 m) s.gate.a, operand_most (ltb 1 m) s.gate.b, operand_most (ltb 2 m) s.gate.c)
 
 pub overflow_add-result-3 : goal.overflow_add-result-3
 overflow_add-result-3 c =
     let s = c.args in
     let m = c.operands-count.result in
-    omega (arith, decimal_most s.kind, operand_most (ltb 0 m) s.a, operand_most (ltb 1 m) s.b, operand_most (ltb 2 m) s.c)
+    omega (arith, decimal_most s.gate.kind, operand_most (ltb 0 m) s.gate.a, operand_most (ltb 1 m) s.gate.b, operand_most (ltb 2 m) s.gate.c)
 
 pub overflow_add-result-4 : goal.overflow_add-result-4
 overflow_add-result-4 c =
     let s = c.args in
     let m = c.operands-count.result in
-    omega (arith, decimal_most s.kind, operand_most (ltb 0 m) s.a, operand_most (ltb 1 m) s.b, operand_most (ltb 2 m) s.c)
+    omega (arith, decimal_most s.gate.kind, operand_most (ltb 0 m) s.gate.a, operand_most (ltb 1 m) s.gate.b, operand_most (ltb 2 m) s.gate.c)
 
 pub returns : goal.returns
 returns c =
     let s = c.args in
     let m = c.operands-count.result in
     record {
-      is = omega (arith, line_long m (record { kind = s.kind; a = s.a; b = s.b; c = s.c }) c.operands-count.ensures);
+      is = omega (arith, line_long m s.gate c.operands-count.ensures);
       short = omega (
         arith,
-        decimal_most s.kind,
-        operand_most (ltb 0 m) s.a,
-        operand_most (ltb 1 m) s.b,
-        operand_most (ltb 2 m) s.c,
+        decimal_most s.gate.kind,
+        operand_most (ltb 0 m) s.gate.a,
+        operand_most (ltb 1 m) s.gate.b,
+        operand_most (ltb 2 m) s.gate.c,
       );
     }

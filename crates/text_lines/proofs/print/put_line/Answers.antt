@@ -9,14 +9,14 @@ use Rattle.text_lines.proofs.print.put_line.Goals as goal
 pub put-kind_end-requires : goal.put-kind_end-requires
 put-kind_end-requires c = omega (
   arith,
-  line_long c.operands-count.result (record { kind = c.args.kind; a = c.args.a; b = c.args.b; c = c.args.c }) c.operands-count.ensures,
+  line_long c.operands-count.result c.args.gate c.operands-count.ensures,
 )
 
 pub put_operand-a_end-requires : goal.put_operand-a_end-requires
 put_operand-a_end-requires c = omega (
   arith,
   stored_long c.put-kind_end.ensures,
-  line_long c.operands-count.result (record { kind = c.args.kind; a = c.args.a; b = c.args.b; c = c.args.c }) c.operands-count.ensures,
+  line_long c.operands-count.result c.args.gate c.operands-count.ensures,
 )
 
 pub put_operand-b_end-requires : goal.put_operand-b_end-requires
@@ -24,7 +24,7 @@ put_operand-b_end-requires c = omega (
   arith,
   stored_long c.put-kind_end.ensures,
   stored_long c.put_operand-a_end.ensures,
-  line_long c.operands-count.result (record { kind = c.args.kind; a = c.args.a; b = c.args.b; c = c.args.c }) c.operands-count.ensures,
+  line_long c.operands-count.result c.args.gate c.operands-count.ensures,
 )
 
 pub put_operand-c_end-requires : goal.put_operand-c_end-requires
@@ -33,7 +33,7 @@ put_operand-c_end-requires c = omega (
   stored_long c.put-kind_end.ensures,
   stored_long c.put_operand-a_end.ensures,
   stored_long c.put_operand-b_end.ensures,
-  line_long c.operands-count.result (record { kind = c.args.kind; a = c.args.a; b = c.args.b; c = c.args.c }) c.operands-count.ensures,
+  line_long c.operands-count.result c.args.gate c.operands-count.ensures,
 )
 
 pub bounds-output-c_end : goal.bounds-output-c_end
@@ -43,7 +43,7 @@ bounds-output-c_end c = omega (
   stored_long c.put_operand-a_end.ensures,
   stored_long c.put_operand-b_end.ensures,
   stored_long c.put_operand-c_end.ensures,
-  line_long c.operands-count.result (record { kind = c.args.kind; a = c.args.a; b = c.args.b; c = c.args.c }) c.operands-count.ensures,
+  line_long c.operands-count.result c.args.gate c.operands-count.ensures,
 )
 
 pub overflow_add-result : goal.overflow_add-result
@@ -53,7 +53,7 @@ overflow_add-result c = omega (
   stored_long c.put_operand-a_end.ensures,
   stored_long c.put_operand-b_end.ensures,
   stored_long c.put_operand-c_end.ensures,
-  line_long c.operands-count.result (record { kind = c.args.kind; a = c.args.a; b = c.args.b; c = c.args.c }) c.operands-count.ensures,
+  line_long c.operands-count.result c.args.gate c.operands-count.ensures,
 )
 
 pub returns : goal.returns
@@ -61,5 +61,5 @@ returns c =
     let a = stored_then c.put-kind_end.ensures c.put_operand-a_end.ensures in
     let b = stored_then a c.put_operand-b_end.ensures in
     let most = stored_then b c.put_operand-c_end.ensures in
-    rw (← line_with_lem c.operands-count.result (record { kind = c.args.kind; a = c.args.a; b = c.args.b; c = c.args.c }) c.operands-count.ensures)
+    rw (← line_with_lem c.operands-count.result c.args.gate c.operands-count.ensures)
     (stored_then most {ys = 10 ∷ []} (record { next = refl; is = refl }))
