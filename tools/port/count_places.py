@@ -97,8 +97,13 @@ def index_loops():
 
 
 def by_hand():
-    yield from lines_with(r"^\s*(pub(\([a-z]+\))? )?fn (wide|rounds|larger|stronger|weaker|copy\w*|empty\w*|differs|byte)\(")
-    yield from lines_with(r" as (u8|u16|u32|u64|usize)\b")
+    """Functions that do what a derive, `From` or a method of the library does, and casts to types that have a `From`.
+
+    A cast of a list's 32-bit number to a place is none: there is no `From<u32>` for `usize`.
+    """
+    names = "wide|rounds|larger|stronger|weaker|copy|copy_words|copy_part|empty_words|differs|due|power|is_digit"
+    yield from lines_with(rf"^\s*(pub(\([a-z]+\))? )?fn ({names})\(|fn empty\(bytes")
+    yield from lines_with(r" as (u8|u16|u64)\b")
 
 
 def travelling():

@@ -91,7 +91,7 @@ fn run_rounds(
 
 // Runs up to eight juries in rounds. The juries' pieces follow each other in the five tables; headers past the
 // number of juries are not read. At the end the juries' wires are emptied. Answers how many rounds each jury took, 0
-// past the last jury.
+// past the last jury. The five tables stay apart, as C lends them.
 pub fn dispatch(
     count: usize,
     headers: Headers,

@@ -11,7 +11,7 @@ use gates::gate::Gate;
 use gates::kind;
 use gates::kind::ConditionalMarks;
 
-// A level as a number of rounds.
+// A level as a number of rounds. A cast: there is no `From<u32>` for `usize`.
 pub fn rounds(level: u32) -> usize
     ensures { result ≡ level }
 {

@@ -17,7 +17,7 @@ pub(crate) struct Found {
 }
 
 // Reads digits from place `at` on; `first` is the value of the digits before. It stops at the first value above the
-// largest number, so nothing wraps.
+// largest number, so nothing wraps, and the casts back need no `try_from`, which would have nothing to refuse.
 fn digits(text: &[u8], at: usize, first: u32) -> Option<Found>
     requires { at ≤ length text.now }
     ensures { NumberRead text.now (digits_in first (drop at text.now)) result }
@@ -80,6 +80,7 @@ pub(crate) fn count(n: u32) -> usize
     more + 1
 }
 
+// The character of a digit. The cast needs no `try_from`: the digit is below 10.
 fn digit(d: u32) -> u8
     requires { d < 10 }
     ensures { result ≡ 48 + d }

@@ -27,7 +27,8 @@ pub fn open(table: &[u8], size: usize, t: usize, index: usize) -> u8
     sum
 }
 
-// Copies `count` bytes from place `at` of one table to place `into` of another.
+// Copies `count` bytes from place `at` of one table to place `into` of another. The library's method is called in a
+// function, whose clause says by `sets` what the loop over trustees needs.
 fn copy_part(count: usize, from: &[u8], at: usize, to: &mut [u8], into: usize)
     requires { (at + count ≤ length from.now) × (into + count ≤ length to.old) }
     ensures { to.new ≡ sets to.old into (take count (drop at from.now)) }

@@ -84,7 +84,7 @@ fn publish(
 }
 
 // A whole round: it enters the parts of this level and publishes the factors of the next one; in the last round it
-// also publishes the closing bits.
+// also publishes the closing bits. The lent tables stay apart: each part of a round takes some of them.
 pub fn round(
     seat: Seat,
     rounds: usize,

@@ -34,7 +34,8 @@ pub(crate) fn is_juror(juror: usize) -> bool
     1 <= juror && juror <= MOST_JURORS
 }
 
-// The answer to an admission to a sound urn. It knows nothing about the urn except the facts.
+// The answer to an admission to a sound urn. It knows nothing about the urn except the facts. The numbers k and d stay
+// apart, as C hands them over: they may be outside the limits of a shape.
 fn decide(k: usize, d: usize, facts: Facts, juror: usize, ballot: &[u8]) -> Answer
     requires { DecideReady k d facts }
     ensures { counted_by result ≡ admit_outcome_by k d (Some facts) juror ballot.now }
@@ -68,7 +69,8 @@ pub fn preview(k: usize, d: usize, urn: &[u8], juror: usize, ballot: &[u8]) -> A
     decide(k, d, looked.facts, juror, ballot)
 }
 
-// Puts a ballot into the first free slot, and makes that slot the first of the ballot chain.
+// Puts a ballot into the first free slot, and makes that slot the first of the ballot chain. A juror's number is at
+// most 255, so the cast needs no `try_from`.
 fn put_ballot(k: usize, d: usize, urn: &mut [u8], juror: usize, ballot: &[u8])
     requires { Admissible k d urn.old juror ballot.now }
     ensures { urn.new

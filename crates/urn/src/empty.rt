@@ -11,7 +11,8 @@ use jury::reason::Refusal;
 use urn_chains::sound;
 
 // Frees all slots from 1 on, in a table of slots for ballots of `bytes` bytes. It goes from the last slot to the
-// first and puts each before the others, so the free chain is in order.
+// first and puts each before the others, so the free chain is in order. A slot number is
+// below 256, so the cast needs no `try_from`.
 fn free_all(urn: &mut [u8], bytes: usize, slots: usize)
     requires { SlotTable bytes slots urn.old }
     ensures { urn.new ≡ bytes_of (all_free slots bytes) }

@@ -39,7 +39,7 @@ pub fn preview(k: usize, d: usize, urn: &[u8], juror: usize) -> Answer
 }
 
 // Takes out the ballot in this slot, which comes after slot `before` in the ballot chain, and makes the slot the
-// first of the free chain.
+// first of the free chain. A slot number is below 256, so the cast needs no `try_from`.
 fn take_ballot(k: usize, d: usize, urn: &mut [u8], before: usize, slot: usize)
     requires { Present k d urn.old before slot }
     ensures { urn.new ≡ bytes_of (without_ballot (k * d) (urn_slots k d urn.old)
