@@ -3,10 +3,10 @@
 -- Assumes nothing.
 use mathlib.Core.Path.{◌≡◌, ◌∙◌, refl, sym, ap}
 use mathlib.Core.Bool.{Bool, true, false, ◌&&◌, not}
-use Prim.Native.Nat.{ℕ, ◌+◌, ◌<◌, min}
+use Prim.Native.Nat.{ℕ, ◌+◌, ◌≤◌, ◌<◌, min}
 use mathlib.Core.Logic.{⊎_elim}
 use native.Mathlib.Omega.{arith}
-use lib.Dec.{ltb}
+use lib.Dec.{eqb, ltb}
 use borrow.Author.Tests.{lt-ltb, le-ltb}
 use Rattle.basics.proofs.Cases.{below_or_not}
 use Rattle.std.specs.Prelude.{Option}
@@ -29,12 +29,15 @@ known : (kind : ℕ) (v : Option ℕ) (unknown t : Bool) → is_some v ≡ not u
     → ltb kind kind_count ≡ not t
 known kind v unknown t s e u = sym (some_known kind 0 0 0) ∙ ap is_some (sym e) ∙ s ∙ ap not u
 
--- a bound that tests an operand as `own` does, and a test by it
-as_own : (used : Bool) (bound own x : ℕ) (r t : Bool) → ltb x bound ≡ ltb x own → r ≡ good_operand used bound x
-    → r ≡ t → t ≡ good_operand used own x
+-- an operand that is in use, tested by a bound that tests it as `own` does, and one that is not in use
+used : (i count bound own x : ℕ) (t : Bool) → i < count → ltb x bound ≡ ltb x own → ltb x bound ≡ t
+    → t ≡ good_operand (ltb i count) own x
 unfolding good_operand
-as_own true bound own x r t e p q = sym q ∙ p ∙ e
-as_own false bound own x r t e p q = sym q ∙ p
+used i count bound own x t h e r = sym r ∙ e ∙ sym (ap (λ (u : Bool). good_operand u own x) (lt-ltb i count h))
+
+unused : (i count own x : ℕ) → count ≤ i → eqb x 0 ≡ good_operand (ltb i count) own x
+unfolding good_operand
+unused i count own x h = sym (ap (λ (u : Bool). good_operand u own x) (le-ltb i count h))
 
 -- a 32-bit operand is below the saturated sum exactly if it is below the sum
 below_own : (inputs g own x : ℕ) → own ≡ min (inputs + g) 18446744073709551615 → x < 4294967296 → ltb x own ≡ ltb x (inputs + g)
@@ -49,40 +52,67 @@ returns-then-is_none c = let a = c.args in
     parts (a.inputs + a.g) g.kind g.a g.b g.c _ false _ _ _
     (known g.kind _ _ true c.is_none.ensures c.apply.ensures c.if-is_none.true) refl refl refl refl
 
-pub returns-then-not-is_good_operand : goal.returns-then-not-is_good_operand
-returns-then-not-is_good_operand c = let a = c.args in
+pub returns-then-count-eq0 : goal.returns-then-count-eq0
+returns-then-count-eq0 c = let a = c.args in
     let g = a.gate in
-    parts (a.inputs + a.g) g.kind g.a g.b g.c c.operands-count.result true false _ _
+    let n = c.operands-count.result in
+    c.are_zero.ensures
+    ∙ parts (a.inputs + a.g) g.kind g.a g.b g.c n true (eqb g.a 0) (eqb g.b 0) (eqb g.c 0)
     (known g.kind _ _ false c.is_none.ensures c.apply.ensures c.if-is_none.false) c.operands-count.ensures
-    (as_own _ _ _ g.a _ false
-    (below_own a.inputs a.g _ g.a c.saturating_add-own.ensures (omega arith))
-    c.is_good_operand.ensures c.if-not-is_good_operand.true)
-    refl refl
+    (unused 0 n _ g.a (omega arith)) (unused 1 n _ g.b (omega arith)) (unused 2 n _ g.c (omega arith))
 
-pub returns-then-not-is_good_operand-2 : goal.returns-then-not-is_good_operand-2
-returns-then-not-is_good_operand-2 c = let a = c.args in
+pub returns-then-own-gate : goal.returns-then-own-gate
+returns-then-own-gate c = let a = c.args in
     let g = a.gate in
-    parts (a.inputs + a.g) g.kind g.a g.b g.c c.operands-count.result true true false _
+    let n = c.operands-count.result in
+    parts (a.inputs + a.g) g.kind g.a g.b g.c n true false _ _
     (known g.kind _ _ false c.is_none.ensures c.apply.ensures c.if-is_none.false) c.operands-count.ensures
-    (as_own _ _ _ g.a _ true
-    (below_own a.inputs a.g _ g.a c.saturating_add-own.ensures (omega arith))
-    c.is_good_operand.ensures c.if-not-is_good_operand.false)
-    (as_own _ _ _ g.b _ false
-    (below_own a.inputs a.g _ g.b c.saturating_add-own.ensures (omega arith))
-    c.is_good_operand-2.ensures c.if-not-is_good_operand-2.true)
-    refl
+    (used 0 n _ _ g.a false (omega arith) (below_own a.inputs a.g _ g.a c.saturating_add-own.ensures (omega arith))
+    (le-ltb g.a _ (omega arith))) refl refl
+
+pub returns-then-count-eq1 : goal.returns-then-count-eq1
+returns-then-count-eq1 c = let a = c.args in
+    let g = a.gate in
+    let n = c.operands-count.result in
+    c.are_zero-then-count-eq1.ensures
+    ∙ parts (a.inputs + a.g) g.kind g.a g.b g.c n true true (eqb g.b 0) (eqb g.c 0)
+    (known g.kind _ _ false c.is_none.ensures c.apply.ensures c.if-is_none.false) c.operands-count.ensures
+    (used 0 n _ _ g.a true (omega arith) (below_own a.inputs a.g _ g.a c.saturating_add-own.ensures (omega arith))
+    (lt-ltb g.a _ (omega arith)))
+    (unused 1 n _ g.b (omega arith)) (unused 2 n _ g.c (omega arith))
+
+pub returns-then-own-gate-2 : goal.returns-then-own-gate-2
+returns-then-own-gate-2 c = let a = c.args in
+    let g = a.gate in
+    let n = c.operands-count.result in
+    parts (a.inputs + a.g) g.kind g.a g.b g.c n true true false _
+    (known g.kind _ _ false c.is_none.ensures c.apply.ensures c.if-is_none.false) c.operands-count.ensures
+    (used 0 n _ _ g.a true (omega arith) (below_own a.inputs a.g _ g.a c.saturating_add-own.ensures (omega arith))
+    (lt-ltb g.a _ (omega arith)))
+    (used 1 n _ _ g.b false (omega arith) (below_own a.inputs a.g _ g.b c.saturating_add-own.ensures (omega arith))
+    (le-ltb g.b _ (omega arith))) refl
+
+pub returns-then-count-eq2 : goal.returns-then-count-eq2
+returns-then-count-eq2 c = let a = c.args in
+    let g = a.gate in
+    let n = c.operands-count.result in
+    parts (a.inputs + a.g) g.kind g.a g.b g.c n true true true (eqb g.c 0)
+    (known g.kind _ _ false c.is_none.ensures c.apply.ensures c.if-is_none.false) c.operands-count.ensures
+    (used 0 n _ _ g.a true (omega arith) (below_own a.inputs a.g _ g.a c.saturating_add-own.ensures (omega arith))
+    (lt-ltb g.a _ (omega arith)))
+    (used 1 n _ _ g.b true (omega arith) (below_own a.inputs a.g _ g.b c.saturating_add-own.ensures (omega arith))
+    (lt-ltb g.b _ (omega arith)))
+    (unused 2 n _ g.c (omega arith))
 
 pub returns : goal.returns
 returns c = let a = c.args in
     let g = a.gate in
-    parts (a.inputs + a.g) g.kind g.a g.b g.c c.operands-count.result true true true c.is_good_operand-3.result
+    let n = c.operands-count.result in
+    let own = c.saturating_add-own.result in
+    parts (a.inputs + a.g) g.kind g.a g.b g.c n true true true (ltb g.c own)
     (known g.kind _ _ false c.is_none.ensures c.apply.ensures c.if-is_none.false) c.operands-count.ensures
-    (as_own _ _ _ g.a _ true
-    (below_own a.inputs a.g _ g.a c.saturating_add-own.ensures (omega arith))
-    c.is_good_operand.ensures c.if-not-is_good_operand.false)
-    (as_own _ _ _ g.b _ true
-    (below_own a.inputs a.g _ g.b c.saturating_add-own.ensures (omega arith))
-    c.is_good_operand-2.ensures c.if-not-is_good_operand-2.false)
-    (as_own _ _ _ g.c _ c.is_good_operand-3.result
-    (below_own a.inputs a.g _ g.c c.saturating_add-own.ensures (omega arith))
-    c.is_good_operand-3.ensures refl)
+    (used 0 n _ _ g.a true (omega arith) (below_own a.inputs a.g _ g.a c.saturating_add-own.ensures (omega arith))
+    (lt-ltb g.a _ (omega arith)))
+    (used 1 n _ _ g.b true (omega arith) (below_own a.inputs a.g _ g.b c.saturating_add-own.ensures (omega arith))
+    (lt-ltb g.b _ (omega arith)))
+    (used 2 n own _ g.c _ (omega arith) (below_own a.inputs a.g own g.c c.saturating_add-own.ensures (omega arith)) refl)
