@@ -12,7 +12,8 @@ use jury::reason::Refusal;
 use jury::shape::Shape;
 use tally::answer::Answer;
 
-// Tests for reasons 7, 9 and 10, given the list's numbers of inputs and outputs, and its size.
+// Tests for reasons 7, 9 and 10, given the list's numbers of inputs and outputs, and its size. This and the functions
+// below stay apart from those of a single run: reason 8 is for bytes only, and a lane has an equation of its own.
 fn test_buffers(
     inputs: usize,
     outputs: usize,

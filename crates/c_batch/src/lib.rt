@@ -1,4 +1,5 @@
 // Running a list for 64 juries at once, for programs in C and Rust.
+// Each export has a function, and all begin alike: they answer a number, so `?` cannot hand a refusal on.
 #![tactic(auto)]
 
 pub mod run;

@@ -11,7 +11,7 @@ use jury::shape::Shape;
 use tally::answer::Answer;
 
 // The length of a piece of first + second bytes if that many are left, else 0. The sum is computed only if the
-// piece fits, so it does not wrap.
+// piece fits, so it does not wrap. A piece of length 0 is refused by the test of its length.
 fn bytes_fitting(first: usize, second: usize, left: usize) -> usize
     ensures { result ≡ fitting (first + second) left }
 {

@@ -2,7 +2,8 @@
 ghost use Rattle.std.specs.Prelude.{◌≡◌, ◌+◌, ◌*◌, ◌<◌, length};
 ghost use Rattle.gates.specs.Gate.{gate_at};
 
-// A gate: its kind and its three operands. It may be any numbers, as a stranger's list may.
+// A gate: its kind and its three operands. It may be any numbers, as a stranger's list may. Where a wire is looked up,
+// its number is cast: there is no `From<u32>` for `usize`.
 #[derive(Clone, Copy)]
 pub struct Gate {
     pub kind: u32,

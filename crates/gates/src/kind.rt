@@ -18,7 +18,8 @@ pub const XOR: u32 = 6;
 
 pub const CHOICE: u32 = 7;
 
-// How many kinds there are: 0 to 7.
+// How many kinds there are: 0 to 7. They are numbers and no enum, because a lent table may hold any number, which the
+// test of a list then refuses.
 pub const KINDS: u32 = 8;
 
 // A column of the table of kinds: operand counts.

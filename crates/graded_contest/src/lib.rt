@@ -1,4 +1,5 @@
-// Writes the comparison of two keys by full majority judgment into a table.
+// Writes the comparison of two keys by full majority judgment into a table. Wires are passed one by one, as the
+// definitions of `graded_circuit` take them.
 #![tactic(auto)]
 
 pub mod contest;

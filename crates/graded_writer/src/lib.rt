@@ -1,4 +1,5 @@
-// Writes the own list of a graded shape into a table.
+// Writes the own list of a graded shape into a table. Wires are passed one by one, as the definitions of
+// `graded_circuit` take them.
 #![tactic(auto)]
 
 pub mod list;

@@ -16,7 +16,7 @@ use jury::shape::Shape;
 use jury::width::width;
 use ranked_blocks::entries::Ranks;
 
-// The largest number of pairs of candidates: a word's place is kept for each.
+// The largest number of pairs of candidates: a word's place is kept for each, in arrays, since no memory is taken.
 const PAIRS: usize = Shape::MOST_CANDIDATES * Shape::MOST_CANDIDATES;
 
 // The tables of the numbers of ballots and of the links.

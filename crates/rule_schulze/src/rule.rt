@@ -73,7 +73,7 @@ fn strongest_paths(links: PairTable, k: usize) -> PairTable
 {
     let mut paths = links;
     for l in 0..k {
-        // Named first: a result is not laid in a table that is lent to its own call.
+        // Named first: the checker does not follow a result that is stored in what its own call takes.
         let after = detour(paths, k, l);
         paths = after;
     }

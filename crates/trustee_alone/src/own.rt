@@ -1,4 +1,5 @@
-// Tests of one trustee's number and tables.
+// Tests of one trustee's number and tables. The numbers of trustees, of the trustee, the round and the inputs are
+// passed one by one, as the definitions take them.
 ghost use Rattle.std.specs.Prelude.{◌≡◌};
 ghost use Rattle.tally.specs.Answer.{size_in};
 ghost use Rattle.trustees.specs.inner.Sizes.{SmallSizes};

@@ -7,6 +7,7 @@ use urn_chains::find::ChainPosition;
 use urn_chains::{find, sound};
 
 // Of a sound urn: how many ballots it has, whether this juror's is among them, and whether no slot is free.
+// `present` is a field, because the definitions of the outcomes read it.
 #[derive(Clone, Copy)]
 pub struct Facts {
     pub ballots: usize,

@@ -22,7 +22,7 @@ pub struct Link {
     pub next: usize,
 }
 
-// Whether all bytes are 0. All of them are counted: a search that could end early could not be vectorised.
+// Whether all bytes are 0. All of them are looked at: a search that could end early could not be vectorised.
 pub fn is_zero(bytes: &[u8]) -> bool
     ensures { result ≡ all_zero bytes.now }
 {
