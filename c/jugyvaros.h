@@ -43,7 +43,7 @@
  *   - a buffer that is not const overlaps no other buffer of the same call
  *   - during the call no other thread writes to the buffers, nor reads those that are not const
  * The functions hold no state: calls with different buffers may run at the same time. They allocate nothing, and call
- * nothing but C's memcpy, memmove and memset. */
+ * nothing but C's memcpy and memset. */
 #ifndef JUGYVAROS_H
 #define JUGYVAROS_H
 

@@ -1,3 +1,4 @@
 #![tactic(auto)]
 
-// What all floors share: definitions and laws of truth values, sums and tables. There is no program here.
+// What all floors share: definitions and laws of truth values, sums and tables, and a copy of a slice.
+pub mod slice;

@@ -72,7 +72,7 @@ fn close(outputs: usize, wires: &[u64], shown: usize, board: &mut [u64])
         ++ drop (length wires.now - outputs) wires.now }
 {
     let first = wires.len() - outputs;
-    board[shown..].copy_from_slice(&wires[first..]);
+    basics::slice::copy(&wires[first..], &mut board[shown..]);
 }
 
 // Evaluates a whole list for 64 juries: in each lane, the wires and the board of that lane's inputs and tape.
@@ -88,7 +88,7 @@ pub fn run(
     ensures { RunDone inputs.now table.now outputs tape.now wires.new
         board.new }
 {
-    wires[..inputs.len()].copy_from_slice(inputs);
+    basics::slice::copy(inputs, &mut wires[..inputs.len()]);
     let shown = step(
         inputs.len(),
         table,

@@ -30,7 +30,7 @@ pub fn put_answer(reason: usize, place: usize, told: &[usize], answer: &mut [usi
 {
     answer[0] = reason;
     answer[1] = place;
-    answer[2..2 + told.len()].copy_from_slice(told);
+    basics::slice::copy(told, &mut answer[2..2 + told.len()]);
     reason
 }
 

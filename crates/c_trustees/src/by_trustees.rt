@@ -19,7 +19,7 @@ fn told(tallied: Tallied) -> [usize; 10]
     let mut told = [0usize; 10];
     told[0] = tallied.size.gates;
     told[1] = tallied.size.conditional;
-    told[2..].copy_from_slice(&numbers(tallied.closing));
+    basics::slice::copy(&numbers(tallied.closing), &mut told[2..]);
     told
 }
 

@@ -16,7 +16,7 @@ fn load(given: usize, ballots: &[u8], wires: &mut [u8])
         wires.old }
 {
     if given == 0 {
-        wires[..ballots.len()].copy_from_slice(ballots);
+        basics::slice::copy(ballots, &mut wires[..ballots.len()]);
     }
 }
 

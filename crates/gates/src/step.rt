@@ -75,7 +75,7 @@ pub fn close(outputs: usize, wires: &[u8], shown: usize, board: &mut [u8])
     ensures { board.new ≡ take shown board.old ++ outputs_of outputs wires.now }
 {
     let first = wires.len() - outputs;
-    board[shown..].copy_from_slice(&wires[first..]);
+    basics::slice::copy(&wires[first..], &mut board[shown..]);
 }
 
 // Evaluates a list whose inputs are already at the front of the wire table: all gates, then the outputs at the end
@@ -109,6 +109,6 @@ pub fn run(
     ensures { Evaluated inputs.now table.now outputs tape.now wires.new
         board.new }
 {
-    wires[..inputs.len()].copy_from_slice(inputs);
+    basics::slice::copy(inputs, &mut wires[..inputs.len()]);
     finish(inputs.len(), table, outputs, tape, wires, board);
 }

@@ -71,7 +71,7 @@ pub fn start(
     };
     test_own(inputs, shape.candidates, size, t, p, shares, own)?;
     wires.fill(0);
-    wires[..shares.len()].copy_from_slice(shares);
+    basics::slice::copy(shares, &mut wires[..shares.len()]);
     published.fill(0);
     Ok(size)
 }

@@ -33,7 +33,7 @@ fn copy_part(count: usize, from: &[u8], at: usize, to: &mut [u8], into: usize)
     requires { (at + count ≤ length from.now) × (into + count ≤ length to.old) }
     ensures { to.new ≡ sets to.old into (take count (drop at from.now)) }
 {
-    to[into..into + count].copy_from_slice(&from[at..at + count]);
+    basics::slice::copy(&from[at..at + count], &mut to[into..into + count]);
 }
 
 // For each trustee, copies `count` entries from index `at` of its piece of one table to index `into` of its piece

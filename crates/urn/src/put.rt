@@ -11,5 +11,5 @@ pub(crate) fn put_slot(urn: &mut [u8], at: usize, next: u8, juror: u8, ballot: &
     urn[at + 1] = juror;
     let from = at + 2;
     let end = from + ballot.len();
-    urn[from..end].copy_from_slice(ballot);
+    basics::slice::copy(ballot, &mut urn[from..end]);
 }

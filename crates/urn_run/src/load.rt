@@ -19,7 +19,7 @@ pub(crate) fn load(k: usize, d: usize, urn: &[u8], wires: &mut [u8])
         let from = at + 2;
         let end = at + size;
         let to = count * bytes;
-        wires[to..to + bytes].copy_from_slice(&urn[from..end]);
+        basics::slice::copy(&urn[from..end], &mut wires[to..to + bytes]);
         slot = usize::from(urn[at]);
         count += 1;
     }

@@ -9,6 +9,6 @@ unfolding status_of
 returns c =
     record {
       returns = refl;
-      writes = all_put c.args.reason c.args.place c.args.told.now c.args.answer.now c.copy_from_slice.new.self _ (omega arith)
-          c.copy_from_slice.ensures.after (omega arith);
+      writes = all_put c.args.reason c.args.place c.args.told.now c.args.answer.now c.copy.new.to _ (omega arith)
+          c.copy.ensures (omega arith);
     }

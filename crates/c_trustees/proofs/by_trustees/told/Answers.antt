@@ -8,8 +8,8 @@ returns c =
     let g = c.args.tallied.size.gates in
     let m = c.args.tallied.size.conditional in
     let closing = c.args.tallied.closing in
-    let copied = c.copy_from_slice.ensures.after ∙ c.numbers.ensures in
+    let copied = c.copy.ensures ∙ c.numbers.ensures in
     let eight : length closing ≡ 8 = omega (arith, ap length c.numbers.ensures) in
-    all_put g m closing (replicate 10 0) c.copy_from_slice.new.self 8 (omega arith) copied (omega (arith, eight))
+    all_put g m closing (replicate 10 0) c.copy.new.to 8 (omega arith) copied (omega (arith, eight))
     ∙ ap (λ (l : List ℕ). (g ∷ m ∷ closing) ++ l) (drop_of_length-le (replicate 10 0) {i = 2 + length closing} (omega (arith, eight)))
     ∙ append-nil (g ∷ m ∷ closing)

@@ -22,5 +22,5 @@ closed ws board last outputs shown fits size e =
 
 pub returns : goal.returns
 returns c = let a = c.args in
-    closed a.wires.now a.board.now c.copy_from_slice.new.self a.outputs a.shown c.requires.enough c.requires.board_length
-    c.copy_from_slice.ensures.after
+    closed a.wires.now a.board.now c.copy.new.to a.outputs a.shown c.requires.enough c.requires.board_length
+    c.copy.ensures

@@ -112,21 +112,21 @@ returns-in_err-test_own c =
     (left_old o (start_wires (length (gates_of a.table.now)) a.shares.now) a.wires.now r why)
     (left_old o (start_published (conditional_count (gates_of a.table.now)) a.shape.candidates) a.published.now r why))
 
-pub slice_bounds-copy_from_slice-end : goal.slice_bounds-copy_from_slice-end
-slice_bounds-copy_from_slice-end c =
-    let at = goal.at.slice_bounds-copy_from_slice-end c in
+pub slice_bounds-copy-end : goal.slice_bounds-copy-end
+slice_bounds-copy-end c =
+    let at = goal.at.slice_bounds-copy-end c in
     let l = lengths at.In_ok-test_own (none_applies at.In_ok-test_own (own_answer at.After-test_own (facts at.In_ok-size))) in
     omega (arith, l.0, l.1.wires_length, c.fill.ensures.len)
 
-pub slice_bounds-copy_from_slice-end-2 : goal.slice_bounds-copy_from_slice-end-2
-slice_bounds-copy_from_slice-end-2 c =
-    let at = goal.at.slice_bounds-copy_from_slice-end-2 c in
+pub slice_bounds-copy-end-2 : goal.slice_bounds-copy-end-2
+slice_bounds-copy-end-2 c =
+    let at = goal.at.slice_bounds-copy-end-2 c in
     let l = lengths at.In_ok-test_own (none_applies at.In_ok-test_own (own_answer at.After-test_own (facts at.In_ok-size))) in
     sym (length-take-le (length c.args.shares.now) c.fill.new.self (omega (arith, l.0, l.1.wires_length, c.fill.ensures.len)))
 
-pub copy_from_slice-requires : goal.copy_from_slice-requires
-copy_from_slice-requires c =
-    let at = goal.at.copy_from_slice-requires c in
+pub copy-requires : goal.copy-requires
+copy-requires c =
+    let at = goal.at.copy-requires c in
     let l = lengths at.In_ok-test_own (none_applies at.In_ok-test_own (own_answer at.After-test_own (facts at.In_ok-size))) in
     length-take-le (length c.args.shares.now) c.fill.new.self (omega (arith, l.0, l.1.wires_length, c.fill.ensures.len))
 
@@ -140,7 +140,7 @@ returns c =
     let l = lengths at.In_ok-test_own why in
     let o = first_of (start_reasons a.shape a.table.now a.t a.p a.shares.now a.triples.now a.wires.now a.published.now) in
     same_own (outcome_none o (size_of (gates_of a.table.now)) _ why (size_is _ _ a.table.now f.gates_are f.conditional_are))
-    (ap (λ (xs : List ℕ). xs ++ drop (length a.shares.now) c.fill.new.self) c.copy_from_slice.ensures.after
+    (ap (λ (xs : List ℕ). xs ++ drop (length a.shares.now) c.fill.new.self) c.copy.ensures
     ∙ ap (λ (xs : List ℕ). a.shares.now ++ drop (length a.shares.now) xs) (c.fill.ensures.after (λ y e. e))
     ∙ started a.shares.now a.wires.now (ballot_bytes a.shape) (length (gates_of a.table.now)) l.0 l.1.wires_length
     ∙ left_new o (start_wires (length (gates_of a.table.now)) a.shares.now) a.wires.now why)

@@ -23,5 +23,5 @@ returns c =
     let room : a.into + a.count - a.into ≡ a.count = omega arith in
     let taken : a.at + a.count - a.at ≡ a.count = omega arith in
     let part = take a.count (drop a.at a.from.now) in
-    rw room (overwritten a.into a.count a.to.now c.copy_from_slice.new.self part (rw taken at c.copy_from_slice.ensures.after)
+    rw room (overwritten a.into a.count a.to.now c.copy.new.to part (rw taken at c.copy.ensures)
     (simp (length-take, length-drop) (omega arith)) (omega arith))

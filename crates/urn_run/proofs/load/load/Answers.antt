@@ -87,15 +87,15 @@ overflow_add-to c =
     let goes_on : 0 < l.slot = omega (arith, c.loop-slot-test.true) in
     omega (arith, turn_room a.k a.d a.urn.now c.requires.graded c.requires.is_sound _ _ l.wires l.count l.slot l.invariant goes_on, l.invariant.kept)
 
-pub slice_bounds-copy_from_slice-end : goal.slice_bounds-copy_from_slice-end
-slice_bounds-copy_from_slice-end c =
+pub slice_bounds-copy-end-in-loop-slot : goal.slice_bounds-copy-end-in-loop-slot
+slice_bounds-copy-end-in-loop-slot c =
     let a = c.args in
     let l = c.loop-slot in
     let goes_on : 0 < l.slot = omega (arith, c.loop-slot-test.true) in
     turn_room a.k a.d a.urn.now c.requires.graded c.requires.is_sound _ _ l.wires l.count l.slot l.invariant goes_on
 
-pub slice_bounds-copy_from_slice-end-in-loop-slot : goal.slice_bounds-copy_from_slice-end-in-loop-slot
-slice_bounds-copy_from_slice-end-in-loop-slot c =
+pub slice_bounds-copy-end : goal.slice_bounds-copy-end
+slice_bounds-copy-end c =
     let a = c.args in
     let l = c.loop-slot in
     let goes_on : 0 < l.slot = omega (arith, c.loop-slot-test.true) in
@@ -107,7 +107,7 @@ loop-slot-preserved c =
     let l = c.loop-slot in
     let goes_on : 0 < l.slot = omega (arith, c.loop-slot-test.true) in
     turn_on a.k a.d a.urn.now c.requires.graded c.requires.is_sound _ _ l.wires l.count l.slot l.invariant goes_on
-    _ _ c.copy_from_slice.ensures.after c.from-slot-in-loop-slot.ensures
+    _ _ c.copy.ensures c.from-slot-in-loop-slot.ensures
 
 pub returns : goal.returns
 returns c =
