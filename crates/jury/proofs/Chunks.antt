@@ -4,7 +4,7 @@ use mathlib.Core.Path.{◌≡◌, ◌∙◌, sym, ap}
 use mathlib.Core.Logic.{⊎_elim}
 use mathlib.Core.List.{List, ◌++◌}
 use Prim.Native.Nat.{ℕ, ◌+◌, ◌*◌, ◌≤◌, ◌<◌}
-use native.Mathlib.Nat.{suc-mul, zero-mul, mul-le-mul_right}
+use native.Mathlib.Nat.{suc-mul, mul-le-mul_right}
 use native.Mathlib.Numerals.{add-one}
 use native.Mathlib.Omega.{arith}
 use lib.ListN.{length, get_or, take, drop, length-drop, length-append}
@@ -16,9 +16,6 @@ use Rattle.basics.proofs.Cases.{below_or_not}
 pub record ChunksFrom (size n b : ℕ) (xs rest : List ℕ) : Type 0 where
   pub most : b ≤ n
   pub left : rest ≡ drop (b * size) xs
-
-pub chunks_start : (size n : ℕ) (xs rest : List ℕ) → rest ≡ xs → ChunksFrom size n 0 xs rest
-chunks_start size n xs rest e = record { most = omega arith; left = e ∙ ap (λ (m : ℕ). drop m xs) (sym (zero-mul size)) }
 
 module _ {size n b : ℕ} {xs rest : List ℕ} (item after : List ℕ) (whole : length xs ≡ n * size) (some : 0 < size)
     (at : ChunksFrom size n b xs rest) (taken : rest ≡ item ++ after) (full : length item ≡ size) where

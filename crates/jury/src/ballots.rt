@@ -34,8 +34,10 @@ fn test_grades(shape: Shape, ballots: &[u8]) -> Result<(), Refusal>
     requires { GradedBits shape ballots.now }
     ensures { refused_for result ≡ first_of (graded_reasons shape ballots.now) }
 {
-    for (r, row) in ballots.chunks_exact(shape.grades).enumerate() {
-        if row_sum(row) != 1 {
+    // By index: short rows take a quarter longer by `chunks_exact`.
+    for r in 0..shape.ballots * shape.candidates {
+        let at = r * shape.grades;
+        if row_sum(&ballots[at..at + shape.grades]) != 1 {
             return Err(Refusal::BallotRow(r));
         }
     }

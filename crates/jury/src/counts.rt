@@ -16,9 +16,12 @@ pub fn counts(shape: Shape, ballots: &[u8]) -> GradeCounts
     requires { GradedBallots shape ballots.now }
     ensures { Counted shape ballots.now result }
 {
+    // By index, here and below: short rows take half as long again by `chunks_exact`.
     let mut counts = [[0; Shape::MOST_GRADES]; Shape::MOST_CANDIDATES];
-    for ballot in ballots.chunks_exact(shape.candidates * shape.grades) {
-        add_ballot(&mut counts, ballot, shape);
+    let size = shape.candidates * shape.grades;
+    for b in 0..shape.ballots {
+        let at = b * size;
+        add_ballot(&mut counts, &ballots[at..at + size], shape);
     }
     counts
 }
@@ -29,8 +32,9 @@ fn add_ballot(counts: &mut GradeCounts, ballot: &[u8], shape: Shape)
     requires { BallotReady shape counts.old ballot.now }
     ensures { counts.new ≡ plus_ballot shape.candidates shape.grades counts.old ballot.now }
 {
-    for (c, row) in ballot.chunks_exact(shape.grades).enumerate() {
-        add_row(&mut counts[c], row);
+    for c in 0..shape.candidates {
+        let at = c * shape.grades;
+        add_row(&mut counts[c], &ballot[at..at + shape.grades]);
     }
 }
 

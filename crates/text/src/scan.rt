@@ -17,7 +17,12 @@ pub(crate) fn line_count(text: &[u8]) -> usize
     if text.is_empty() {
         return 0;
     }
-    let feeds = text.iter().filter(|c| **c == LINE_FEED).count();
+    let mut feeds: usize = 0;
+    for c in text {
+        if *c == LINE_FEED {
+            feeds += 1;
+        }
+    }
     if text[text.len() - 1] == LINE_FEED {
         feeds
     } else {

@@ -26,7 +26,13 @@ pub struct Link {
 pub fn is_zero(bytes: &[u8]) -> bool
     ensures { result ≡ all_zero bytes.now }
 {
-    bytes.iter().filter(|b| **b != 0).count() == 0
+    let mut zero = true;
+    for byte in bytes {
+        if *byte != 0 {
+            zero = false;
+        }
+    }
+    zero
 }
 
 // Whether a slot of the ballot chain holds a juror's number and a good ballot. Jurors are 1 to 255, so the only

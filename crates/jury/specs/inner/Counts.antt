@@ -22,7 +22,6 @@ pub record RowReady (counts row : List ℕ) : Type 0 where
 pub record BallotReady (s : Shape) (counts : List (List ℕ)) (ballot : List ℕ) : Type 0 where
   pub few_rows : s.candidates ≤ most_candidates
   pub few_columns : s.grades ≤ most_grades
-  pub some_columns : 0 < s.grades
   pub size : length ballot ≡ s.candidates * s.grades
   pub array : EightBySeven counts
 

@@ -1,5 +1,5 @@
--- `gates::list::gate_is_good` meets its contract: it makes the tests of the definition. Where the gate's own wire does
--- not fit, every 32-bit operand is below it and below the largest number that fits.
+-- `gates::list::gate_is_good` meets its contract: it makes the tests of the definition. From 2^32 inputs on, every
+-- 32-bit operand is below the gate's own wire, as it is with 2^32 inputs.
 -- Assumes nothing.
 use mathlib.Core.Path.{◌≡◌, ◌∙◌, refl, sym, ap}
 use mathlib.Core.Bool.{Bool, true, false, ◌&&◌, not}
@@ -39,11 +39,11 @@ unused : (i count own x : ℕ) → count ≤ i → eqb x 0 ≡ good_operand (ltb
 unfolding good_operand
 unused i count own x h = sym (ap (λ (u : Bool). good_operand u own x) (le-ltb i count h))
 
--- a 32-bit operand is below the saturated sum exactly if it is below the sum
-below_own : (inputs g own x : ℕ) → own ≡ min (inputs + g) 18446744073709551615 → x < 4294967296 → ltb x own ≡ ltb x (inputs + g)
-below_own inputs g own x e small = ⊎_elim
-    (λ l. lt-ltb x own (omega (arith, e, l)) ∙ sym (lt-ltb x (inputs + g) l))
-    (λ l. le-ltb x own (omega (arith, e, l)) ∙ sym (le-ltb x (inputs + g) l))
+-- a 32-bit operand is below the sum with at most 2^32 inputs exactly if it is below the sum
+below_own : (inputs g few x : ℕ) → few ≡ min inputs 4294967296 → x < 4294967296 → ltb x (few + g) ≡ ltb x (inputs + g)
+below_own inputs g few x e small = ⊎_elim
+    (λ l. lt-ltb x (few + g) (omega (arith, e, l)) ∙ sym (lt-ltb x (inputs + g) l))
+    (λ l. le-ltb x (few + g) (omega (arith, e, l)) ∙ sym (le-ltb x (inputs + g) l))
     (below_or_not x (inputs + g))
 
 pub returns-then-is_none : goal.returns-then-is_none
@@ -67,7 +67,7 @@ returns-then-own-gate c = let a = c.args in
     let n = c.operands-count.result in
     parts (a.inputs + a.g) g.kind g.a g.b g.c n true false _ _
     (known g.kind _ _ false c.is_none.ensures c.apply.ensures c.if-is_none.false) c.operands-count.ensures
-    (used 0 n _ _ g.a false (omega arith) (below_own a.inputs a.g _ g.a c.saturating_add-own.ensures (omega arith))
+    (used 0 n _ _ g.a false (omega arith) (below_own a.inputs a.g _ g.a c.min.ensures (omega arith))
     (le-ltb g.a _ (omega arith))) refl refl
 
 pub returns-then-count-eq1 : goal.returns-then-count-eq1
@@ -77,7 +77,7 @@ returns-then-count-eq1 c = let a = c.args in
     c.are_zero-then-count-eq1.ensures
     ∙ parts (a.inputs + a.g) g.kind g.a g.b g.c n true true (eqb g.b 0) (eqb g.c 0)
     (known g.kind _ _ false c.is_none.ensures c.apply.ensures c.if-is_none.false) c.operands-count.ensures
-    (used 0 n _ _ g.a true (omega arith) (below_own a.inputs a.g _ g.a c.saturating_add-own.ensures (omega arith))
+    (used 0 n _ _ g.a true (omega arith) (below_own a.inputs a.g _ g.a c.min.ensures (omega arith))
     (lt-ltb g.a _ (omega arith)))
     (unused 1 n _ g.b (omega arith)) (unused 2 n _ g.c (omega arith))
 
@@ -87,9 +87,9 @@ returns-then-own-gate-2 c = let a = c.args in
     let n = c.operands-count.result in
     parts (a.inputs + a.g) g.kind g.a g.b g.c n true true false _
     (known g.kind _ _ false c.is_none.ensures c.apply.ensures c.if-is_none.false) c.operands-count.ensures
-    (used 0 n _ _ g.a true (omega arith) (below_own a.inputs a.g _ g.a c.saturating_add-own.ensures (omega arith))
+    (used 0 n _ _ g.a true (omega arith) (below_own a.inputs a.g _ g.a c.min.ensures (omega arith))
     (lt-ltb g.a _ (omega arith)))
-    (used 1 n _ _ g.b false (omega arith) (below_own a.inputs a.g _ g.b c.saturating_add-own.ensures (omega arith))
+    (used 1 n _ _ g.b false (omega arith) (below_own a.inputs a.g _ g.b c.min.ensures (omega arith))
     (le-ltb g.b _ (omega arith))) refl
 
 pub returns-then-count-eq2 : goal.returns-then-count-eq2
@@ -98,9 +98,9 @@ returns-then-count-eq2 c = let a = c.args in
     let n = c.operands-count.result in
     parts (a.inputs + a.g) g.kind g.a g.b g.c n true true true (eqb g.c 0)
     (known g.kind _ _ false c.is_none.ensures c.apply.ensures c.if-is_none.false) c.operands-count.ensures
-    (used 0 n _ _ g.a true (omega arith) (below_own a.inputs a.g _ g.a c.saturating_add-own.ensures (omega arith))
+    (used 0 n _ _ g.a true (omega arith) (below_own a.inputs a.g _ g.a c.min.ensures (omega arith))
     (lt-ltb g.a _ (omega arith)))
-    (used 1 n _ _ g.b true (omega arith) (below_own a.inputs a.g _ g.b c.saturating_add-own.ensures (omega arith))
+    (used 1 n _ _ g.b true (omega arith) (below_own a.inputs a.g _ g.b c.min.ensures (omega arith))
     (lt-ltb g.b _ (omega arith)))
     (unused 2 n _ g.c (omega arith))
 
@@ -108,11 +108,11 @@ pub returns : goal.returns
 returns c = let a = c.args in
     let g = a.gate in
     let n = c.operands-count.result in
-    let own = c.saturating_add-own.result in
+    let own = c.min.result + a.g in
     parts (a.inputs + a.g) g.kind g.a g.b g.c n true true true (ltb g.c own)
     (known g.kind _ _ false c.is_none.ensures c.apply.ensures c.if-is_none.false) c.operands-count.ensures
-    (used 0 n _ _ g.a true (omega arith) (below_own a.inputs a.g _ g.a c.saturating_add-own.ensures (omega arith))
+    (used 0 n _ _ g.a true (omega arith) (below_own a.inputs a.g _ g.a c.min.ensures (omega arith))
     (lt-ltb g.a _ (omega arith)))
-    (used 1 n _ _ g.b true (omega arith) (below_own a.inputs a.g _ g.b c.saturating_add-own.ensures (omega arith))
+    (used 1 n _ _ g.b true (omega arith) (below_own a.inputs a.g _ g.b c.min.ensures (omega arith))
     (lt-ltb g.b _ (omega arith)))
-    (used 2 n own _ g.c _ (omega arith) (below_own a.inputs a.g own g.c c.saturating_add-own.ensures (omega arith)) refl)
+    (used 2 n own _ g.c _ (omega arith) (below_own a.inputs a.g _ g.c c.min.ensures (omega arith)) refl)

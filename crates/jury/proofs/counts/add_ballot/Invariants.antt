@@ -9,7 +9,6 @@ use Rattle.basics.specs.Lists.{tabulate}
 use Rattle.jury.specs.Shape.{most_candidates}
 use Rattle.jury.specs.inner.Counts.{plus_row}
 use Rattle.basics.proofs.Tabulate.{up_to}
-use Rattle.jury.proofs.Chunks.{ChunksFrom}
 use Rattle.jury.proofs.counts.add_ballot.Given as goal
 
 abbrev pub old : List (List ℕ) → ℕ → List ℕ
@@ -20,6 +19,4 @@ new d counts ballot c = plus_row (get_or counts c []) (take d (drop (c * d) ball
 
 abbrev pub invariant-loop-c : goal.invariant-loop-c
 invariant-loop-c l =
-    (l.c-iterator.iter.size ≡ l.fn.shape.grades)
-    × ChunksFrom l.fn.shape.grades l.fn.shape.candidates l.c-iterator.count l.ballot l.c-iterator.iter.rest.now
-    × (l.counts ≡ tabulate most_candidates (up_to l.c-iterator.count (new l.fn.shape.grades l.fn.counts l.ballot) (old l.fn.counts)))
+    l.counts ≡ tabulate most_candidates (up_to l.c (new l.fn.shape.grades l.fn.counts l.ballot) (old l.fn.counts))
