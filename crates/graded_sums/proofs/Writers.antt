@@ -15,6 +15,7 @@ use Rattle.graded_circuit.specs.declared.plan.Plan.{Plan}
 use Rattle.graded_circuit.specs.Plan.{Planned, bits_at, ballot_stride}
 use Rattle.graded_circuit.specs.RunningSums.{sum_size, row_at, row_stride, rows, sum_levels_from, sum_levels, all_levels}
 use Rattle.graded_circuit.specs.Key.{key_word, key_words}
+use Rattle.graded_circuit.proofs.PlanFacts.{row_below}
 use Rattle.graded_circuit.proofs.CandidateBlocks.{RowsBefore}
 
 less_power : (r : ℕ) → r < 2 ^ r
@@ -110,6 +111,9 @@ module _ (p : Plan) (f : Planned p) where
 
   pub apart_most : ballot_stride p ≤ 56
   apart_most = mul-le-mul {n₁ = p.candidates} {m₁ = p.grades} {n₂ = 8} {m₂ = 7} f.k_most f.d_most
+
+  pub bits_most : (c g : ℕ) → c < p.candidates → g < p.grades → bits_at p c g < 56
+  bits_most c g hc hg = omega (arith, row_below p f c g hc hg, apart_most)
 
   pub row_apart_most : (g : ℕ) → row_stride p g ≤ 56
   unfolding row_stride

@@ -13,6 +13,7 @@ use gate_words::writer::Writer;
 use graded_circuit::plan::Plan;
 
 // The wire of candidate c's bit of grade g in the first ballot.
+#[tactic(auto, using(crate::proofs::Writers::bits_most))]
 pub(crate) fn bits_at(p: Plan, c: u32, g: u32) -> u32
     requires { GradeOf p c g }
     ensures { result ≡ bits_at p c g }
